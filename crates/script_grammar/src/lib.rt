@@ -5,4 +5,6 @@
 //! of the model, how they print, and which lists of tokens are a script.
 #![tactic(auto)]
 
+pub mod node;
 pub mod token;
+pub mod tree;

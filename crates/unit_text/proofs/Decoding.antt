@@ -1,5 +1,6 @@
 -- How far a text is decoded.
-use Rattle.std.proofs.Common.{◌≡◌, ℕ, ◌+◌, ◌≤◌, ◌<◌, List, [], ◌∷◌, ◌++◌, length, take, drop, refl, sym, ◌∙◌, ap, subst, true, map, append_assoc, append-nil, arith, length-append, take-length, inl, inr, ◌⊎◌}
+use Rattle.std.proofs.Common.{◌≡◌, ℕ, ◌+◌, ◌≤◌, ◌<◌, List, [], ◌∷◌, ◌++◌, length, take, drop, refl, sym, ◌∙◌, ap, subst, true, map, append_assoc, append-nil, arith, length-append, take-append-drop, inl, inr, ◌⊎◌}
+use Rattle.std.proofs.lemmas.Bool.{cases_order}
 use Rattle.std.proofs.Math.Seq.{take-length, take-append_seam}
 use Rattle.std.proofs.lemmas.List.{length-take-le}
 use Rattle.std.specs.Char.{len_utf8}
@@ -27,16 +28,17 @@ point_is c at start end begins ends = cc
 pub decoded_more : (text rest more : List ℕ) (at c next : ℕ) (made : List Point) → IsDecoded text rest at made
     → rest ≡ encode_utf8 c ++ more → next ≡ at + length (encode_utf8 c) → IsDecoded text more next (made ++ point_at at c ∷ [])
 decoded_more text rest more at c next made before split moved = record {
-    utf8 = IsUtf8-past_char rest more c before.utf8 split;
-    offset = offset_more;
-    points = append_assoc made (point_at at c ∷ []) (points_from next (chars more))
-        ∙ ap (λ n. made ++ (point_at at c ∷ points_from n (chars more))) width
-        ∙ ap (λ cs. made ++ points_from at cs) (sym (chars_past_char rest more c before.utf8 split))
-        ∙ before.points
-  }
+  utf8 = IsUtf8-past_char rest more c before.utf8 split;
+  offset = offset_more;
+  points = append_assoc made (point_at at c ∷ []) (points_from next (chars more))
+      ∙ ap (λ n. made ++ (point_at at c ∷ points_from n (chars more))) width
+      ∙ ap (λ cs. made ++ points_from at cs) (sym (chars_past_char rest more c before.utf8 split))
+      ∙ before.points;
+}
   where
     width : next ≡ at + len_utf8 c
     width = moved ∙ ap (λ n. at + n) (length-encode c)
+
     offset_more : next + length more ≡ length text
     offset_more = let e : length rest ≡ length (encode_utf8 c) + length more = ap length split ∙ length-append (encode_utf8 c) more in omega (arith, moved, e, before.offset)
 
@@ -77,24 +79,30 @@ spell_longest bs n within front longest valid = subst P (ap (λ m. chars (take m
   where
     P : List ℕ → Type 0
     P cs = SpellLongestFront bs cs
+
     spells : encode_utf8_all (chars (take n bs)) ≡ take n bs
     spells = encodes-chars (take n bs) front
+
     reach : length (encode_utf8_all (chars (take n bs))) ≡ n
     reach = ap length spells ∙ length-take-le n bs within
+
     no_longer : (others rest : List ℕ) → all_scalars others ≡ true → bs ≡ encode_utf8_all others ++ rest
         → length (encode_utf8_all others) ≤ length (encode_utf8_all (chars (take n bs)))
     no_longer others rest scalar split =
         let m = length (encode_utf8_all others) in
         let whole : length bs ≡ m + length rest = ap length split ∙ length-append (encode_utf8_all others) rest in
         let taken : encode_utf8_all others ≡ take m bs = sym (ap (λ xs. take m xs) split ∙ take-append_seam (encode_utf8_all others) rest) in
-        elim le_or_lt m n as (λ _. m ≤ length (encode_utf8_all (chars (take n bs))))
-          [ inl le ↦ omega (arith, le, reach)
-          | inr lt ↦ absurd (longest m lt (omega (arith, whole)) (others, (scalar, taken))) ]
+        elim (cases_order m n) as (λ _. m ≤ length (encode_utf8_all (chars (take n bs)))) [
+          | inl e ↦ omega (arith, e, reach)
+          | inr (inl lt) ↦ omega (arith, lt, reach)
+          | inr (inr lt) ↦ absurd (longest m lt (omega (arith, whole)) (others, (scalar, taken)))
+        ]
+
     made : SpellLongestFront bs (chars (take n bs))
     made = record {
       scalar = scalars-chars (take n bs) front;
       front = (drop n bs, sym (ap (λ xs. xs ++ drop n bs) spells ∙ take-append-drop n bs));
-      longest = no_longer
+      longest = no_longer;
     }
 
 -- of bytes that are UTF-8

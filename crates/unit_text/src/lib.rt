@@ -67,9 +67,16 @@ pub fn decode(alloc: Global, bytes: &[u8]) -> Result<Vec<Point>, DecodeFault>
 {
     match str::from_utf8(bytes) {
         Ok(text) => Ok(points_of(alloc, text)?),
-        Err(fault) => Err(DecodeFault::BadUtf8 {
-            offset: fault.valid_up_to() as u32,
-        }),
+        Err(fault) => Err(bad_utf8(fault.valid_up_to())),
+    }
+}
+
+fn bad_utf8(front: usize) -> DecodeFault
+    requires { front ≤ 16777215 }
+    ensures { result ≡ DecodeFault.BadUtf8 front }
+{
+    DecodeFault::BadUtf8 {
+        offset: front as u32,
     }
 }
 
@@ -104,3 +111,6 @@ pub fn units_of(code: char) -> ([u16; 2], u8)
     let low = offset % 0x400 + 0xDC00;
     ([high as u16, low as u16], 2)
 }
+
+#[cfg(test)]
+mod tests;

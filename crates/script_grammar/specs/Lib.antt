@@ -4,3 +4,7 @@ pub mod Shows
 pub mod Tree
 pub mod TreeLists
 pub mod TreeOf
+pub mod Kinds
+pub mod Pieces
+pub mod Endings
+pub mod Print

@@ -1,6 +1,9 @@
+pub mod Interpretation
 pub mod Lexeme
+pub mod Shows
 pub mod Tree
 pub mod TreeLists
+pub mod TreeOf
 pub mod Kinds
 pub mod Pieces
 pub mod Endings

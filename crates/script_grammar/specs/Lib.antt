@@ -8,3 +8,6 @@ pub mod Kinds
 pub mod Pieces
 pub mod Endings
 pub mod Print
+pub mod Proper
+pub mod Script
+pub mod Fault

@@ -1,5 +1,5 @@
 -- What each variant of an expression, a property, a key and a part of a chain stands for.
-use Rattle.std.proofs.Common.{◌≡◌, ◌∙◌, ℕ, List, Bool, Option, Some, None, map, option_map, unwrap_or, ap, sym}
+use Rattle.std.proofs.Common.{◌≡◌, ◌∙◌, ℕ, List, [], ◌∷◌, Bool, Option, Some, None, map, option_map, unwrap_or, refl, ap, sym}
 use Rattle.std.specs.declared.boxed.Box.{Box}
 use Rattle.std.specs.declared.vec.Vec.{Vec}
 use Rattle.std.specs.declared.alloc.Global.{Global}
@@ -31,6 +31,13 @@ use Rattle.script_grammar.specs.Tree as model
 use Rattle.script_grammar.specs.TreeLists as part
 use Rattle.script_grammar.specs.TreeLists.{exprs_of, maybe_expr_of, items_of, maybe_args_of, operands_of, parts_of, tails_of, props_of, params_of, binds_of, clauses_of, stmts_of, maybe_stmt_of}
 use Rattle.script_grammar.specs.TreeOf.{each_of, each_step, expr_of, expr_step, body_of, body_step, init_of, init_step, key_of, key_step, prop_of, prop_step, stmt_of, stmt_step, tail_of, tail_step, args_of, args_step, bind_of, bind_step, clause_of, clause_step, func_of, func_step, operand_of, operand_step, param_of, param_step, part_of, part_step}
+use Rattle.script_grammar.specs.declared.tree.Each.TheShapes.{former-Expr-Array-1-at-1}
+
+-- the items of an array, of which some are holes
+array_items : (i : Interpretation) (xs : List (Option Expr)) → map (former-Expr-Array-1-at-1.map Expr model.Expr (expr_of i)) xs ≡ map (option_map (expr_of i)) xs
+array_items i [] = refl
+array_items i (None ∷ xs) = ap (λ ys. None ∷ ys) (array_items i xs)
+array_items i (Some x ∷ xs) = ap (λ ys. Some (expr_of i x) ∷ ys) (array_items i xs)
 
 pub expr_of-This : (i : Interpretation) (at : ℕ) → expr_of i (in_expr.This at) ≡ model.This at
 expr_of-This i at = ap (expr_of i) (sym (in_expr.rolls-This at)) ∙ fold-roll-Expr model.Each model.Expr (Option model.Body) model.Init model.Key model.Prop model.Stmt model.Tail part.Args part.Bind part.Clause model.Function part.Operand part.Param part.Part (each_step i) (expr_step i) (body_step i) (init_step i) (key_step i) (prop_step i) (stmt_step i) (tail_step i) (args_step i) (bind_step i) (clause_step i) (func_step i) (operand_step i) (param_step i) (part_step i) (layer.This at)
@@ -57,7 +64,7 @@ pub expr_of-Template : (i : Interpretation) (at : ℕ) (first : ℕ) (parts : Ve
 expr_of-Template i at first parts = ap (expr_of i) (sym (in_expr.rolls-Template at first parts)) ∙ fold-roll-Expr model.Each model.Expr (Option model.Body) model.Init model.Key model.Prop model.Stmt model.Tail part.Args part.Bind part.Clause model.Function part.Operand part.Param part.Part (each_step i) (expr_step i) (body_step i) (init_step i) (key_step i) (prop_step i) (stmt_step i) (tail_step i) (args_step i) (bind_step i) (clause_step i) (func_step i) (operand_step i) (param_step i) (part_step i) (layer.Template at first parts)
 
 pub expr_of-Array : (i : Interpretation) (at : ℕ) (items : Vec (Option Expr) Global) (comma : Bool) → expr_of i (in_expr.Array at items comma) ≡ model.Array at (items_of (map (option_map (expr_of i)) items.items)) comma
-expr_of-Array i at items comma = ap (expr_of i) (sym (in_expr.rolls-Array at items comma)) ∙ fold-roll-Expr model.Each model.Expr (Option model.Body) model.Init model.Key model.Prop model.Stmt model.Tail part.Args part.Bind part.Clause model.Function part.Operand part.Param part.Part (each_step i) (expr_step i) (body_step i) (init_step i) (key_step i) (prop_step i) (stmt_step i) (tail_step i) (args_step i) (bind_step i) (clause_step i) (func_step i) (operand_step i) (param_step i) (part_step i) (layer.Array at items comma)
+expr_of-Array i at items comma = ap (expr_of i) (sym (in_expr.rolls-Array at items comma)) ∙ fold-roll-Expr model.Each model.Expr (Option model.Body) model.Init model.Key model.Prop model.Stmt model.Tail part.Args part.Bind part.Clause model.Function part.Operand part.Param part.Part (each_step i) (expr_step i) (body_step i) (init_step i) (key_step i) (prop_step i) (stmt_step i) (tail_step i) (args_step i) (bind_step i) (clause_step i) (func_step i) (operand_step i) (param_step i) (part_step i) (layer.Array at items comma) ∙ ap (λ rows. model.Array at (items_of rows) comma) (array_items i items.items)
 
 pub expr_of-Object : (i : Interpretation) (at : ℕ) (props : Vec Prop Global) (comma : Bool) → expr_of i (in_expr.Object at props comma) ≡ model.Object at (props_of (map (prop_of i) props.items)) comma
 expr_of-Object i at props comma = ap (expr_of i) (sym (in_expr.rolls-Object at props comma)) ∙ fold-roll-Expr model.Each model.Expr (Option model.Body) model.Init model.Key model.Prop model.Stmt model.Tail part.Args part.Bind part.Clause model.Function part.Operand part.Param part.Part (each_step i) (expr_step i) (body_step i) (init_step i) (key_step i) (prop_step i) (stmt_step i) (tail_step i) (args_step i) (bind_step i) (clause_step i) (func_step i) (operand_step i) (param_step i) (part_step i) (layer.Object at props comma)
@@ -72,7 +79,8 @@ pub expr_of-Chain : (i : Interpretation) (head : Box Expr Global) (tails : Vec T
 expr_of-Chain i head tails = ap (expr_of i) (sym (in_expr.rolls-Chain head tails)) ∙ fold-roll-Expr model.Each model.Expr (Option model.Body) model.Init model.Key model.Prop model.Stmt model.Tail part.Args part.Bind part.Clause model.Function part.Operand part.Param part.Part (each_step i) (expr_step i) (body_step i) (init_step i) (key_step i) (prop_step i) (stmt_step i) (tail_step i) (args_step i) (bind_step i) (clause_step i) (func_step i) (operand_step i) (param_step i) (part_step i) (layer.Chain head tails)
 
 pub expr_of-New : (i : Interpretation) (at : ℕ) (callee : Box Expr Global) (args : Option Args) → expr_of i (in_expr.New at callee args) ≡ model.New at (expr_of i callee.value) (maybe_args_of (option_map (args_of i) args))
-expr_of-New i at callee args = ap (expr_of i) (sym (in_expr.rolls-New at callee args)) ∙ fold-roll-Expr model.Each model.Expr (Option model.Body) model.Init model.Key model.Prop model.Stmt model.Tail part.Args part.Bind part.Clause model.Function part.Operand part.Param part.Part (each_step i) (expr_step i) (body_step i) (init_step i) (key_step i) (prop_step i) (stmt_step i) (tail_step i) (args_step i) (bind_step i) (clause_step i) (func_step i) (operand_step i) (param_step i) (part_step i) (layer.New at callee args)
+expr_of-New i at callee None = ap (expr_of i) (sym (in_expr.rolls-New at callee None)) ∙ fold-roll-Expr model.Each model.Expr (Option model.Body) model.Init model.Key model.Prop model.Stmt model.Tail part.Args part.Bind part.Clause model.Function part.Operand part.Param part.Part (each_step i) (expr_step i) (body_step i) (init_step i) (key_step i) (prop_step i) (stmt_step i) (tail_step i) (args_step i) (bind_step i) (clause_step i) (func_step i) (operand_step i) (param_step i) (part_step i) (layer.New at callee None)
+expr_of-New i at callee (Some a) = ap (expr_of i) (sym (in_expr.rolls-New at callee (Some a))) ∙ fold-roll-Expr model.Each model.Expr (Option model.Body) model.Init model.Key model.Prop model.Stmt model.Tail part.Args part.Bind part.Clause model.Function part.Operand part.Param part.Part (each_step i) (expr_step i) (body_step i) (init_step i) (key_step i) (prop_step i) (stmt_step i) (tail_step i) (args_step i) (bind_step i) (clause_step i) (func_step i) (operand_step i) (param_step i) (part_step i) (layer.New at callee (Some a))
 
 pub expr_of-Unary : (i : Interpretation) (at : ℕ) (op : ℕ) (of : Box Expr Global) (is_word : Bool) → expr_of i (in_expr.Unary at op of is_word) ≡ model.Unary at op (expr_of i of.value) is_word
 expr_of-Unary i at op of is_word = ap (expr_of i) (sym (in_expr.rolls-Unary at op of is_word)) ∙ fold-roll-Expr model.Each model.Expr (Option model.Body) model.Init model.Key model.Prop model.Stmt model.Tail part.Args part.Bind part.Clause model.Function part.Operand part.Param part.Part (each_step i) (expr_step i) (body_step i) (init_step i) (key_step i) (prop_step i) (stmt_step i) (tail_step i) (args_step i) (bind_step i) (clause_step i) (func_step i) (operand_step i) (param_step i) (part_step i) (layer.Unary at op of is_word)

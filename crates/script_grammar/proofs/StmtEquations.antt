@@ -1,5 +1,5 @@
 -- What each variant of a statement and of its parts stands for.
-use Rattle.std.proofs.Common.{◌≡◌, ◌∙◌, ℕ, List, Bool, Option, Some, None, map, option_map, unwrap_or, ap, sym}
+use Rattle.std.proofs.Common.{◌≡◌, ◌∙◌, ℕ, List, [], ◌∷◌, Bool, Option, Some, None, map, option_map, unwrap_or, refl, ap, sym}
 use Rattle.std.specs.declared.boxed.Box.{Box}
 use Rattle.std.specs.declared.vec.Vec.{Vec}
 use Rattle.std.specs.declared.alloc.Global.{Global}
@@ -48,7 +48,8 @@ pub stmt_of-Value : (i : Interpretation) (value : Expr) (semi : Bool) → stmt_o
 stmt_of-Value i value semi = ap (stmt_of i) (sym (in_stmt.rolls-Value value semi)) ∙ fold-roll-Stmt model.Each model.Expr (Option model.Body) model.Init model.Key model.Prop model.Stmt model.Tail part.Args part.Bind part.Clause model.Function part.Operand part.Param part.Part (each_step i) (expr_step i) (body_step i) (init_step i) (key_step i) (prop_step i) (stmt_step i) (tail_step i) (args_step i) (bind_step i) (clause_step i) (func_step i) (operand_step i) (param_step i) (part_step i) (layer.Stmt::Value value semi)
 
 pub stmt_of-If : (i : Interpretation) (test : Expr) (then_part : Box Stmt Global) (else_part : Option (Box Stmt Global)) → stmt_of i (in_stmt.If test then_part else_part) ≡ model.If (expr_of i test) (stmt_of i then_part.value) (maybe_stmt_of (option_map (λ boxed. stmt_of i boxed.value) else_part))
-stmt_of-If i test then_part else_part = ap (stmt_of i) (sym (in_stmt.rolls-If test then_part else_part)) ∙ fold-roll-Stmt model.Each model.Expr (Option model.Body) model.Init model.Key model.Prop model.Stmt model.Tail part.Args part.Bind part.Clause model.Function part.Operand part.Param part.Part (each_step i) (expr_step i) (body_step i) (init_step i) (key_step i) (prop_step i) (stmt_step i) (tail_step i) (args_step i) (bind_step i) (clause_step i) (func_step i) (operand_step i) (param_step i) (part_step i) (layer.If test then_part else_part)
+stmt_of-If i test then_part None = ap (stmt_of i) (sym (in_stmt.rolls-If test then_part None)) ∙ fold-roll-Stmt model.Each model.Expr (Option model.Body) model.Init model.Key model.Prop model.Stmt model.Tail part.Args part.Bind part.Clause model.Function part.Operand part.Param part.Part (each_step i) (expr_step i) (body_step i) (init_step i) (key_step i) (prop_step i) (stmt_step i) (tail_step i) (args_step i) (bind_step i) (clause_step i) (func_step i) (operand_step i) (param_step i) (part_step i) (layer.If test then_part None)
+stmt_of-If i test then_part (Some e) = ap (stmt_of i) (sym (in_stmt.rolls-If test then_part (Some e))) ∙ fold-roll-Stmt model.Each model.Expr (Option model.Body) model.Init model.Key model.Prop model.Stmt model.Tail part.Args part.Bind part.Clause model.Function part.Operand part.Param part.Part (each_step i) (expr_step i) (body_step i) (init_step i) (key_step i) (prop_step i) (stmt_step i) (tail_step i) (args_step i) (bind_step i) (clause_step i) (func_step i) (operand_step i) (param_step i) (part_step i) (layer.If test then_part (Some e))
 
 pub stmt_of-Do : (i : Interpretation) (body : Box Stmt Global) (test : Expr) (semi : Bool) → stmt_of i (in_stmt.Do body test semi) ≡ model.Do (stmt_of i body.value) (expr_of i test) semi
 stmt_of-Do i body test semi = ap (stmt_of i) (sym (in_stmt.rolls-Do body test semi)) ∙ fold-roll-Stmt model.Each model.Expr (Option model.Body) model.Init model.Key model.Prop model.Stmt model.Tail part.Args part.Bind part.Clause model.Function part.Operand part.Param part.Part (each_step i) (expr_step i) (body_step i) (init_step i) (key_step i) (prop_step i) (stmt_step i) (tail_step i) (args_step i) (bind_step i) (clause_step i) (func_step i) (operand_step i) (param_step i) (part_step i) (layer.Do body test semi)
@@ -57,7 +58,10 @@ pub stmt_of-While : (i : Interpretation) (test : Expr) (body : Box Stmt Global) 
 stmt_of-While i test body = ap (stmt_of i) (sym (in_stmt.rolls-While test body)) ∙ fold-roll-Stmt model.Each model.Expr (Option model.Body) model.Init model.Key model.Prop model.Stmt model.Tail part.Args part.Bind part.Clause model.Function part.Operand part.Param part.Part (each_step i) (expr_step i) (body_step i) (init_step i) (key_step i) (prop_step i) (stmt_step i) (tail_step i) (args_step i) (bind_step i) (clause_step i) (func_step i) (operand_step i) (param_step i) (part_step i) (layer.While test body)
 
 pub stmt_of-For : (i : Interpretation) (init : Init) (test : Option Expr) (update : Option Expr) (body : Box Stmt Global) → stmt_of i (in_stmt.For init test update body) ≡ model.For (init_of i init) (maybe_expr_of (option_map (expr_of i) test)) (maybe_expr_of (option_map (expr_of i) update)) (stmt_of i body.value)
-stmt_of-For i init test update body = ap (stmt_of i) (sym (in_stmt.rolls-For init test update body)) ∙ fold-roll-Stmt model.Each model.Expr (Option model.Body) model.Init model.Key model.Prop model.Stmt model.Tail part.Args part.Bind part.Clause model.Function part.Operand part.Param part.Part (each_step i) (expr_step i) (body_step i) (init_step i) (key_step i) (prop_step i) (stmt_step i) (tail_step i) (args_step i) (bind_step i) (clause_step i) (func_step i) (operand_step i) (param_step i) (part_step i) (layer.For init test update body)
+stmt_of-For i init None None body = ap (stmt_of i) (sym (in_stmt.rolls-For init None None body)) ∙ fold-roll-Stmt model.Each model.Expr (Option model.Body) model.Init model.Key model.Prop model.Stmt model.Tail part.Args part.Bind part.Clause model.Function part.Operand part.Param part.Part (each_step i) (expr_step i) (body_step i) (init_step i) (key_step i) (prop_step i) (stmt_step i) (tail_step i) (args_step i) (bind_step i) (clause_step i) (func_step i) (operand_step i) (param_step i) (part_step i) (layer.For init None None body)
+stmt_of-For i init None (Some u) body = ap (stmt_of i) (sym (in_stmt.rolls-For init None (Some u) body)) ∙ fold-roll-Stmt model.Each model.Expr (Option model.Body) model.Init model.Key model.Prop model.Stmt model.Tail part.Args part.Bind part.Clause model.Function part.Operand part.Param part.Part (each_step i) (expr_step i) (body_step i) (init_step i) (key_step i) (prop_step i) (stmt_step i) (tail_step i) (args_step i) (bind_step i) (clause_step i) (func_step i) (operand_step i) (param_step i) (part_step i) (layer.For init None (Some u) body)
+stmt_of-For i init (Some t) None body = ap (stmt_of i) (sym (in_stmt.rolls-For init (Some t) None body)) ∙ fold-roll-Stmt model.Each model.Expr (Option model.Body) model.Init model.Key model.Prop model.Stmt model.Tail part.Args part.Bind part.Clause model.Function part.Operand part.Param part.Part (each_step i) (expr_step i) (body_step i) (init_step i) (key_step i) (prop_step i) (stmt_step i) (tail_step i) (args_step i) (bind_step i) (clause_step i) (func_step i) (operand_step i) (param_step i) (part_step i) (layer.For init (Some t) None body)
+stmt_of-For i init (Some t) (Some u) body = ap (stmt_of i) (sym (in_stmt.rolls-For init (Some t) (Some u) body)) ∙ fold-roll-Stmt model.Each model.Expr (Option model.Body) model.Init model.Key model.Prop model.Stmt model.Tail part.Args part.Bind part.Clause model.Function part.Operand part.Param part.Part (each_step i) (expr_step i) (body_step i) (init_step i) (key_step i) (prop_step i) (stmt_step i) (tail_step i) (args_step i) (bind_step i) (clause_step i) (func_step i) (operand_step i) (param_step i) (part_step i) (layer.For init (Some t) (Some u) body)
 
 pub stmt_of-ForIn : (i : Interpretation) (each : Each) (over : Expr) (body : Box Stmt Global) → stmt_of i (in_stmt.ForIn each over body) ≡ model.ForIn (each_of i each) (expr_of i over) (stmt_of i body.value)
 stmt_of-ForIn i each over body = ap (stmt_of i) (sym (in_stmt.rolls-ForIn each over body)) ∙ fold-roll-Stmt model.Each model.Expr (Option model.Body) model.Init model.Key model.Prop model.Stmt model.Tail part.Args part.Bind part.Clause model.Function part.Operand part.Param part.Part (each_step i) (expr_step i) (body_step i) (init_step i) (key_step i) (prop_step i) (stmt_step i) (tail_step i) (args_step i) (bind_step i) (clause_step i) (func_step i) (operand_step i) (param_step i) (part_step i) (layer.ForIn each over body)
@@ -69,7 +73,8 @@ pub stmt_of-Break : (i : Interpretation) (at : ℕ) (label : Option Ident) (semi
 stmt_of-Break i at label semi = ap (stmt_of i) (sym (in_stmt.rolls-Break at label semi)) ∙ fold-roll-Stmt model.Each model.Expr (Option model.Body) model.Init model.Key model.Prop model.Stmt model.Tail part.Args part.Bind part.Clause model.Function part.Operand part.Param part.Part (each_step i) (expr_step i) (body_step i) (init_step i) (key_step i) (prop_step i) (stmt_step i) (tail_step i) (args_step i) (bind_step i) (clause_step i) (func_step i) (operand_step i) (param_step i) (part_step i) (layer.Break at label semi)
 
 pub stmt_of-Return : (i : Interpretation) (value : Option Expr) (semi : Bool) → stmt_of i (in_stmt.Return value semi) ≡ model.Return (maybe_expr_of (option_map (expr_of i) value)) semi
-stmt_of-Return i value semi = ap (stmt_of i) (sym (in_stmt.rolls-Return value semi)) ∙ fold-roll-Stmt model.Each model.Expr (Option model.Body) model.Init model.Key model.Prop model.Stmt model.Tail part.Args part.Bind part.Clause model.Function part.Operand part.Param part.Part (each_step i) (expr_step i) (body_step i) (init_step i) (key_step i) (prop_step i) (stmt_step i) (tail_step i) (args_step i) (bind_step i) (clause_step i) (func_step i) (operand_step i) (param_step i) (part_step i) (layer.Return value semi)
+stmt_of-Return i None semi = ap (stmt_of i) (sym (in_stmt.rolls-Return None semi)) ∙ fold-roll-Stmt model.Each model.Expr (Option model.Body) model.Init model.Key model.Prop model.Stmt model.Tail part.Args part.Bind part.Clause model.Function part.Operand part.Param part.Part (each_step i) (expr_step i) (body_step i) (init_step i) (key_step i) (prop_step i) (stmt_step i) (tail_step i) (args_step i) (bind_step i) (clause_step i) (func_step i) (operand_step i) (param_step i) (part_step i) (layer.Return None semi)
+stmt_of-Return i (Some v) semi = ap (stmt_of i) (sym (in_stmt.rolls-Return (Some v) semi)) ∙ fold-roll-Stmt model.Each model.Expr (Option model.Body) model.Init model.Key model.Prop model.Stmt model.Tail part.Args part.Bind part.Clause model.Function part.Operand part.Param part.Part (each_step i) (expr_step i) (body_step i) (init_step i) (key_step i) (prop_step i) (stmt_step i) (tail_step i) (args_step i) (bind_step i) (clause_step i) (func_step i) (operand_step i) (param_step i) (part_step i) (layer.Return (Some v) semi)
 
 pub stmt_of-Throw : (i : Interpretation) (value : Expr) (semi : Bool) → stmt_of i (in_stmt.Throw value semi) ≡ model.Throw (expr_of i value) semi
 stmt_of-Throw i value semi = ap (stmt_of i) (sym (in_stmt.rolls-Throw value semi)) ∙ fold-roll-Stmt model.Each model.Expr (Option model.Body) model.Init model.Key model.Prop model.Stmt model.Tail part.Args part.Bind part.Clause model.Function part.Operand part.Param part.Part (each_step i) (expr_step i) (body_step i) (init_step i) (key_step i) (prop_step i) (stmt_step i) (tail_step i) (args_step i) (bind_step i) (clause_step i) (func_step i) (operand_step i) (param_step i) (part_step i) (layer.Throw value semi)

@@ -1,0 +1,3 @@
+pub mod ExprEquations
+pub mod StmtEquations
+pub mod PartEquations

@@ -100,13 +100,22 @@ fn points_of(alloc: Global, text: &str) -> Result<Vec<Point>, AllocError>
 /// The UTF-16 units of a code point, in the first places, and how many they are: 1 or 2
 /// (ECMA-262, 12th edition, clause 11.1.1).
 pub fn units_of(code: char) -> ([u16; 2], u8)
-    ensures { take result.1 result.0 ≡ code_units code }
+    ensures value { take result.1 result.0 ≡ code_units code }
+    ensures count { result.1 ≤ 2 }
 {
-    let number = code as u32;
-    if number <= 0xFFFF {
-        return ([number as u16, 0], 1);
+    units_of_value(code as u32)
+}
+
+/// The same, of a number of at most 10FFFF, which may be that of a surrogate.
+pub fn units_of_value(code: u32) -> ([u16; 2], u8)
+    requires { code ≤ 0x10_FFFF }
+    ensures value { take result.1 result.0 ≡ code_units code }
+    ensures count { result.1 ≤ 2 }
+{
+    if code <= 0xFFFF {
+        return ([code as u16, 0], 1);
     }
-    let offset = number - 0x1_0000;
+    let offset = code - 0x1_0000;
     let high = offset / 0x400 + 0xD800;
     let low = offset % 0x400 + 0xDC00;
     ([high as u16, low as u16], 2)

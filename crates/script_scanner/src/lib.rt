@@ -1,0 +1,6 @@
+//! The scanner.
+#![tactic(auto)]
+
+mod braces;
+
+pub use braces::Brace;

@@ -1,0 +1,3 @@
+pub mod Views
+pub mod MergedView
+pub mod LinkView

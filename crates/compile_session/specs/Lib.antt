@@ -1,0 +1,5 @@
+pub mod ReservedWords
+pub mod BuiltTokens
+pub mod Atoms
+pub mod Built
+pub mod ReadBuilt

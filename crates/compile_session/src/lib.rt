@@ -1,0 +1,10 @@
+//! One command of the program, from its words to the bytes that the sink takes.
+#![tactic(auto)]
+
+mod reserved;
+mod scanner;
+
+pub use outside::{
+    FileShelf, FirmShelf, FirmSink, Gate, MapShelf, OpenGate, OutSink, Sheet, Shelf, ShelfRefusal,
+    Sink, SinkRefusal, Tally, VecSink,
+};

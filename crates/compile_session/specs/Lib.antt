@@ -3,3 +3,4 @@ pub mod BuiltTokens
 pub mod Atoms
 pub mod Built
 pub mod ReadBuilt
+pub mod Statements

@@ -1,6 +1,7 @@
 //! One command of the program, from its words to the bytes that the sink takes.
 #![tactic(auto)]
 
+mod parser;
 mod reserved;
 mod scanner;
 

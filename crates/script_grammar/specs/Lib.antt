@@ -1,0 +1,3 @@
+pub mod Lexeme
+pub mod Tree
+pub mod TreeLists

@@ -3,7 +3,7 @@ use Rattle.std.specs.Prelude.{ℕ, zero, suc, List, [], ◌∷◌, ◌++◌, len
 use Rattle.script_grammar.specs.declared.token.Kind.{Kind}
 use Rattle.script_grammar.specs.declared.token.Kind.TheVariants as kind
 use Rattle.script_grammar.specs.declared.token.FuncForm.{FuncForm}
-use Rattle.script_grammar.specs.Lexeme.{Lexeme, Role, Other}
+use Rattle.script_grammar.specs.Lexeme.{Lexeme, no_role}
 
 -- A function body that was passed over, to be read later: of which form its function is, how much room for depth is
 -- left in it, whether no parameter has an initializer or a rest mark, and the lexemes from its brace on.
@@ -25,7 +25,7 @@ Parser A = List Lexeme → Reply A
 
 -- a lexeme that ends all
 abbrev pub end_lexeme : Lexeme
-end_lexeme = record { kind = kind.End; text = []; number = 0; role = Other; start = 0; «end» = 0; after_line = false }
+end_lexeme = record { kind = kind.End; text = []; number = 0; role = no_role; start = 0; end = 0; after_line = false }
 
 -- the first lexeme, or one that ends all
 abbrev pub head_of : List Lexeme → Lexeme

@@ -1,1 +1,4 @@
 pub mod Local
+pub mod Friendly
+pub mod Sound
+pub mod SoundNext

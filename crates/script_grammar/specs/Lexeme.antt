@@ -1,5 +1,5 @@
 -- What a token is in the model: its kind, and its text in place of a number.
-use Rattle.std.specs.Prelude.{ℕ, List, [], ◌∷◌, Bool, true, false, nat_eq, if◌then◌else◌, slice_index_or}
+use Rattle.std.specs.Prelude.{ℕ, List, [], ◌∷◌, Bool, true, false, nat_eq, ◌≡◌, if◌then◌else◌, slice_index_or}
 use Rattle.script_grammar.specs.declared.token.Token.{Token}
 use Rattle.script_grammar.specs.declared.token.Kind.{Kind}
 use Rattle.script_grammar.specs.declared.token.Kind.TheVariants as kind

@@ -37,7 +37,7 @@ mutual
     Update : (at op : ℕ) (prefix : Bool) (of : Expr) → Expr
     -- one level of binary operators
     Binary : (first : Expr) (rest : Operands) → Expr
-    Cond : (test yes no : Expr) → Expr
+    Cond : (test then_value else_value : Expr) → Expr
     Assign : (op : ℕ) (target value : Expr) → Expr
     Comma : (items : Exprs) → Expr
 
@@ -134,7 +134,7 @@ mutual
     Debugger : (semi : Bool) → Stmt
     Binding : Decl → Binds → (semi : Bool) → Stmt
     Value : Expr → (semi : Bool) → Stmt
-    If : (test : Expr) (yes : Stmt) (no : MaybeStmt) → Stmt
+    If : (test : Expr) (then_stmt : Stmt) (else_stmt : MaybeStmt) → Stmt
     Do : (body : Stmt) (test : Expr) (semi : Bool) → Stmt
     While : (test : Expr) (body : Stmt) → Stmt
     For : Init → (test update : MaybeExpr) (body : Stmt) → Stmt

@@ -1,0 +1,5 @@
+pub mod Local
+pub mod Tests
+pub mod Friendly
+pub mod Sound
+pub mod SoundNext

@@ -1,3 +1,5 @@
 pub mod Views
 pub mod MergedView
 pub mod LinkView
+pub mod Links
+pub mod ChainFalls

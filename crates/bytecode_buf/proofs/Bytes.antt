@@ -1,5 +1,5 @@
 -- Lemmas on bytes of numbers and on writes.
-use Rattle.std.proofs.Common.{◌≡◌, ℕ, zero, suc, ◌+◌, ◌-◌, ◌*◌, ◌/◌, ◌%◌, ◌^◌, ◌<◌, ◌≤◌, List, [], ◌∷◌, ◌++◌, length, get_or, take, drop, set, refl, sym, ◌∙◌, ap, subst, arith, length-set, drop-cons, pow-suc, add-one, ap₂, lit<, take_at, drop_at, append_assoc}
+use Rattle.std.proofs.Common.{◌≡◌, ℕ, zero, suc, ◌+◌, ◌-◌, ◌*◌, ◌/◌, ◌%◌, ◌^◌, ◌<◌, ◌≤◌, List, [], ◌∷◌, ◌++◌, length, get_or, take, drop, set, refl, sym, ◌∙◌, ap, subst, arith, length-set, drop-cons, pow-suc, add-one, ap₂, lit<, take_at, drop_at, append_assoc, length-append, length-drop, length-take-le}
 use Rattle.std.proofs.Math.Nat.{pow-le-pow_right}
 use Rattle.std.proofs.Math.Seq.{sets, sets-eq, drop-length, take-append-add, drop-append-add}
 use Rattle.bytecode_buf.specs.Bytes.{le_bytes, le_value, written}
@@ -103,10 +103,9 @@ take-le_bytes width n rest = take_at (le_bytes width n) rest width (length-le_by
 pub drop-le_bytes : (width n : ℕ) (rest : List ℕ) → drop width (le_bytes width n ++ rest) ≡ rest
 drop-le_bytes width n rest = drop_at (le_bytes width n) rest width (length-le_bytes width n)
 
--- what stands from a byte on, when bytes behind it are overwritten
-pub drop-written : (before bytes behind : List ℕ) (byte at : ℕ) → length before ≡ at → drop at (written (at + 1) bytes (before ++ byte ∷ behind)) ≡ byte ∷ (bytes ++ drop (length bytes) behind)
-drop-written before bytes behind byte at is =
-    ap (drop at) whole ∙ drop_at before (byte ∷ (bytes ++ drop (length bytes) behind)) at is
+-- bytes that are overwritten behind a byte
+pub written-seam : (before bytes behind : List ℕ) (byte at : ℕ) → length before ≡ at → written (at + 1) bytes (before ++ byte ∷ behind) ≡ before ++ byte ∷ (bytes ++ drop (length bytes) behind)
+written-seam before bytes behind byte at is = ap₂ (λ (x : List ℕ) (y : List ℕ). x ++ bytes ++ y) front back ∙ (append_assoc (before ++ byte ∷ []) bytes (drop (length bytes) behind) ∙ append_assoc before (byte ∷ []) (bytes ++ drop (length bytes) behind))
   where
     front : take (at + 1) (before ++ byte ∷ behind) ≡ before ++ byte ∷ []
     front = subst (λ (k : ℕ). take (k + 1) (before ++ byte ∷ behind) ≡ before ++ byte ∷ []) is (take-append-add before (byte ∷ behind) 1)
@@ -117,5 +116,15 @@ drop-written before bytes behind byte at is =
     back : drop ((at + 1) + length bytes) (before ++ byte ∷ behind) ≡ drop (length bytes) behind
     back = ap (λ (k : ℕ). drop k (before ++ byte ∷ behind)) place ∙ drop-append-add before (byte ∷ behind) (suc (length bytes))
 
-    whole : written (at + 1) bytes (before ++ byte ∷ behind) ≡ before ++ byte ∷ (bytes ++ drop (length bytes) behind)
-    whole = ap₂ (λ (x : List ℕ) (y : List ℕ). x ++ bytes ++ y) front back ∙ (append_assoc (before ++ byte ∷ []) bytes (drop (length bytes) behind) ∙ append_assoc before (byte ∷ []) (bytes ++ drop (length bytes) behind))
+-- what stands from a byte on, when bytes behind it are overwritten
+pub drop-written : (before bytes behind : List ℕ) (byte at : ℕ) → length before ≡ at → drop at (written (at + 1) bytes (before ++ byte ∷ behind)) ≡ byte ∷ (bytes ++ drop (length bytes) behind)
+drop-written before bytes behind byte at is = ap (drop at) (written-seam before bytes behind byte at is) ∙ drop_at before (byte ∷ (bytes ++ drop (length bytes) behind)) at is
+
+-- a write leaves the length
+pub length-written : (at : ℕ) (bytes old : List ℕ) → at + length bytes ≤ length old → length (written at bytes old) ≡ length old
+length-written at bytes old room =
+    let front : length (take at old) ≡ at = length-take-le at old (omega arith) in
+    omega (arith, length-append (take at old ++ bytes) (drop (at + length bytes) old), length-append (take at old) bytes, front, length-drop (at + length bytes) old)
+
+pub length-patched : (at d : ℕ) (old : List ℕ) → at + 9 ≤ length old → length (written (at + 1) (le_bytes 8 d) old) ≡ length old
+length-patched at d old room = length-written (at + 1) (le_bytes 8 d) old (omega arith)

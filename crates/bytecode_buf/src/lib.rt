@@ -14,7 +14,9 @@ mod buffer;
 mod instruction;
 mod little_endian;
 mod opcode;
+mod waits;
 
 pub use buffer::CodeBuf;
 pub use instruction::{Instr, decode_at, renumber};
 pub use opcode::{Count, OPS, Op, Row, Shape};
+pub use waits::{Aim, Wait, jump_to, land, target, turn};

@@ -20,7 +20,7 @@ pub mod scopes;
 pub mod stencils;
 pub mod texts;
 
-pub use chains::{Link, LinkName};
+pub use chains::{Chain, Link, LinkName};
 pub use functions::{Extent, FuncKind};
 pub use records::{ClosedName, LazyRecord};
 pub use scopes::{BindKind, Binding, Place, ScopeData, ScopeKind, Slot};

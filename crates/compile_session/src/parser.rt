@@ -76,7 +76,7 @@ fn part_of(token: Token) -> Part
 }
 
 /// The operand with which the tokens begin, and the tokens behind it.
-fn operand(tokens: &[Token]) -> Option<(Operand, &[Token])>
+fn next_operand(tokens: &[Token]) -> Option<(Operand, &[Token])>
     requires { AtomsFit tokens.now }
     ensures read { (texts : List (List ℕ)) → ReadsOperand texts tokens.now result }
     ensures shorter { IfSome result (λ r. length r.1.now < length tokens.now) }
@@ -90,4 +90,84 @@ fn operand(tokens: &[Token]) -> Option<(Operand, &[Token])>
         Part::End => None,
         Part::Other => None,
     }
+}
+
+/// Reads further operands and the semicolon of a sum: the tokens behind it.
+fn read_rest<'a>(
+    rest: &mut Vec<Operand>,
+    tokens: &'a [Token],
+) -> Result<Option<&'a [Token]>, AllocError>
+    requires atoms { AtomsFit tokens.now }
+    requires empty { rest.old.items ≡ [] }
+    ensures read { IfOk result (λ r. (texts : List (List ℕ)) → ReadsRest texts tokens.now rest.new.items r) }
+    ensures shorter { IfOk result (λ r. IfSome r (λ behind. length behind.now < length tokens.now)) }
+    ensures atoms { IfOk result (λ r. IfSome r (λ behind. AtomsFit behind.now)) }
+{
+    let mut left = tokens;
+    while let Some((token, behind)) = left.split_first() {
+        match part_of(*token) {
+            Part::Semicolon => return Ok(Some(behind)),
+            Part::Plus => match next_operand(behind) {
+                None => return Ok(None),
+                Some((operand, further)) => {
+                    rest.push(operand)?;
+                    left = further;
+                }
+            },
+            Part::Operand(_) => return Ok(None),
+            Part::End => return Ok(None),
+            Part::Other => return Ok(None),
+        }
+    }
+    Ok(None)
+}
+
+/// Reads a sum behind its first operand: the statement, and the tokens behind it.
+fn read_sum(
+    alloc: Global,
+    first: Operand,
+    tokens: &[Token],
+) -> Result<Option<(Statement, &[Token])>, AllocError>
+    requires { AtomsFit tokens.now }
+    ensures read { IfOk result (λ r. (texts : List (List ℕ)) → ReadsSum texts first tokens.now r) }
+    ensures shorter { IfOk result (λ r. IfSome r (λ s. length s.1.now < length tokens.now)) }
+    ensures atoms { IfOk result (λ r. IfSome r (λ s. AtomsFit s.1.now)) }
+{
+    let mut rest = Vec::new(alloc);
+    match read_rest(&mut rest, tokens)? {
+        None => Ok(None),
+        Some(behind) => Ok(Some((Statement::Sum { first, rest }, behind))),
+    }
+}
+
+/// Appends the statements of the tokens, where these are a script of the built form.
+fn parse_into(
+    alloc: Global,
+    tokens: &[Token],
+    statements: &mut Vec<Statement>,
+) -> Result<bool, AllocError>
+    requires atoms { AtomsFit tokens.now }
+    requires empty { statements.old.items ≡ [] }
+    ensures { IfOk result (λ read. (texts : List (List ℕ)) → IsRead texts tokens.now read statements.new.items) }
+{
+    let mut left = tokens;
+    while let Some((token, behind)) = left.split_first() {
+        match part_of(*token) {
+            Part::Semicolon => {
+                statements.push(Statement::Empty)?;
+                left = behind;
+            }
+            Part::Operand(first) => match read_sum(alloc, first, behind)? {
+                None => return Ok(false),
+                Some((statement, further)) => {
+                    statements.push(statement)?;
+                    left = further;
+                }
+            },
+            Part::End => return Ok(behind.is_empty()),
+            Part::Plus => return Ok(false),
+            Part::Other => return Ok(false),
+        }
+    }
+    Ok(false)
 }

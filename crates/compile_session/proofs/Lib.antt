@@ -1,2 +1,4 @@
 pub mod ScanLemmas
 pub mod ParseLemmas
+pub mod ScriptLemmas
+pub mod EmitLemmas

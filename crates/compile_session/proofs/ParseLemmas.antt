@@ -78,23 +78,20 @@ ReadsSum-some tokens first rest behind r is reads texts =
     ∙ option_map-twice (rest_of texts rest.items) (finished (expr_of texts first)) (more_stmts (stmt_of texts (statement.Sum first rest))) (λ ss. refl) (read_stmts (seen texts behind.now))
 
 -- one step of reading, by the part that the first token is
-pub read_stmts-by : read.Part → List Lexeme → Option Stmts
+abbrev pub read_stmts-by : read.Part → List Lexeme → Option Stmts
 read_stmts-by p ts = elim p [ read.operand e ↦ option_map (finished e) (read_rest ts) | read.plus ↦ None | read.semicolon ↦ option_map (more_stmts tree.Empty) (read_stmts ts) | read.end ↦ at_end ts | read.other ↦ None ]
 
-pub read_rest-by : read.Part → List Lexeme → Option Rest
+abbrev pub read_rest-by : read.Part → List Lexeme → Option Rest
 read_rest-by p ts = elim p [ read.operand e ↦ None | read.plus ↦ read_operand ts | read.semicolon ↦ option_map ended (read_stmts ts) | read.end ↦ None | read.other ↦ None ]
 
 pub read_stmts-part : (texts : List (List ℕ)) (left behind : List Token) (t : Token) (p : read.Part) → left ≡ t ∷ behind → part_of (seen_as texts t) ≡ p → read_stmts (seen texts left) ≡ read_stmts-by p (seen texts behind)
-unfolding read_stmts-by
 read_stmts-part texts left behind t p is is_part = ap (λ (ts : List Token). read_stmts (seen texts ts)) is ∙ ap (λ (q : read.Part). read_stmts-by q (seen texts behind)) is_part
 
 pub read_rest-part : (texts : List (List ℕ)) (left behind : List Token) (t : Token) (p : read.Part) → left ≡ t ∷ behind → part_of (seen_as texts t) ≡ p → read_rest (seen texts left) ≡ read_rest-by p (seen texts behind)
-unfolding read_rest-by
 read_rest-part texts left behind t p is is_part = ap (λ (ts : List Token). read_rest (seen texts ts)) is ∙ ap (λ (q : read.Part). read_rest-by q (seen texts behind)) is_part
 
 -- the loop over operands goes on behind a `+` and an operand
 pub IsReadingRest-more : (tokens left behind : List Token) (os os_now : List Operand) (t : Token) (o : Operand) (further : List Token) → IsReadingRest tokens os left → left ≡ t ∷ behind → ((texts : List (List ℕ)) → part_of (seen_as texts t) ≡ read.plus) → ((texts : List (List ℕ)) → read_operand (seen texts behind) ≡ option_map (added (expr_of texts o)) (read_rest (seen texts further))) → AtomsFit further → length further < length behind → os_now ≡ os ++ o ∷ [] → IsReadingRest tokens os_now further
-unfolding read_rest-by
 IsReadingRest-more tokens left behind os os_now t o further reading is is_plus reads fit shorter is_now = record {
   goes = goes;
   fit = fit;
@@ -110,7 +107,6 @@ IsReadingRest-more tokens left behind os os_now t o further reading is is_plus r
 
 -- the loop over statements goes on behind an empty statement
 pub IsReadingStmts-empty : (tokens left behind : List Token) (ss ss_now : List Statement) (t : Token) → IsReadingStmts tokens ss left → left ≡ t ∷ behind → ((texts : List (List ℕ)) → part_of (seen_as texts t) ≡ read.semicolon) → ss_now ≡ ss ++ statement.Empty ∷ [] → IsReadingStmts tokens ss_now behind
-unfolding read_stmts-by
 IsReadingStmts-empty tokens left behind ss ss_now t reading is is_semicolon is_now = record {
   goes = goes;
   fit = fits.1
@@ -127,7 +123,6 @@ IsReadingStmts-empty tokens left behind ss ss_now t reading is is_semicolon is_n
 
 -- the loop over statements goes on behind a sum
 pub IsReadingStmts-sum : (tokens left behind : List Token) (ss ss_now : List Statement) (t : Token) (first : Operand) (s : Statement) (further : List Token) → IsReadingStmts tokens ss left → left ≡ t ∷ behind → ((texts : List (List ℕ)) → part_of (seen_as texts t) ≡ read.operand (expr_of texts first)) → ((texts : List (List ℕ)) → option_map (finished (expr_of texts first)) (read_rest (seen texts behind)) ≡ option_map (more_stmts (stmt_of texts s)) (read_stmts (seen texts further))) → AtomsFit further → ss_now ≡ ss ++ s ∷ [] → IsReadingStmts tokens ss_now further
-unfolding read_stmts-by
 IsReadingStmts-sum tokens left behind ss ss_now t first s further reading is is_operand reads fit is_now = record {
   goes = goes;
   fit = fit
@@ -142,7 +137,6 @@ IsReadingStmts-sum tokens left behind ss ss_now t first s further reading is is_
 
 -- a sum that was not read
 pub IsReadingStmts-none : (tokens left behind : List Token) (ss : List Statement) (t : Token) (first : Operand) (r : Option (Statement × Bor (List Token))) → IsReadingStmts tokens ss left → left ≡ t ∷ behind → ((texts : List (List ℕ)) → part_of (seen_as texts t) ≡ read.operand (expr_of texts first)) → ((texts : List (List ℕ)) → ReadsSum texts first behind r) → r ≡ None → (texts : List (List ℕ)) → read_stmts (seen texts tokens) ≡ None
-unfolding read_stmts-by
 IsReadingStmts-none tokens left behind ss t first r reading is is_operand reads none texts =
     let P : Option (Statement × Bor (List Token)) → Type 0 = λ x. ReadsSum texts first behind x in
     let no_rest = subst P none (reads texts) in

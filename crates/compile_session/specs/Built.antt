@@ -8,6 +8,7 @@ use Rattle.script_grammar.specs.declared.token.mark.TheConstants as mark
 use Rattle.script_grammar.specs.Lexeme.{Lexeme}
 use Rattle.script_grammar.specs.Tree.{Named, Expr, Operands, no_operands, more_operands, Stmt, Stmts, no_stmts, more_stmts}
 use Rattle.script_grammar.specs.Tree as tree
+use Rattle.script_grammar.specs.Script.{IsScript}
 
 -- a name or a number
 abbrev pub IsBuiltOperand : Expr → Type 0
@@ -34,3 +35,12 @@ IsBuiltStmt _ = ⊥
 abbrev pub AreBuiltStmts : Stmts → Type 0
 AreBuiltStmts no_stmts = Unit {0}
 AreBuiltStmts (more_stmts s ss) = IsBuiltStmt s × AreBuiltStmts ss
+
+-- Tokens, the last of them End, are a script of the built form with this tree.
+pub record IsBuiltScript (tokens : List Lexeme) (items : Stmts) : Type 0 where
+  pub words : List Lexeme
+  pub last : Lexeme
+  pub split : tokens ≡ words ++ last ∷ []
+  pub ends : last.kind ≡ kind.End
+  pub script : IsScript words last items
+  pub built : AreBuiltStmts items

@@ -4,3 +4,6 @@ pub mod Atoms
 pub mod Built
 pub mod ReadBuilt
 pub mod Statements
+pub mod Words
+pub mod Code
+pub mod Emission

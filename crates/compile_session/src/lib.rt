@@ -1,9 +1,11 @@
 //! One command of the program, from its words to the bytes that the sink takes.
 #![tactic(auto)]
 
+mod emitter;
 mod parser;
 mod reserved;
 mod scanner;
+mod words;
 
 pub use outside::{
     FileShelf, FirmShelf, FirmSink, Gate, MapShelf, OpenGate, OutSink, Sheet, Shelf, ShelfRefusal,

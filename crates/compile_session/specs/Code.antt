@@ -26,7 +26,7 @@ abbrev mutual
 
   pub operands_code : Operands → List Command
   operands_code no_operands = []
-  operands_code (more_operands op is_word value rest) = expr_code value ++ (plain op.Add ∷ operands_code rest)
+  operands_code (more_operands operator is_word value rest) = expr_code value ++ (plain op.Add ∷ operands_code rest)
 
 abbrev pub stmt_code : Stmt → List Command
 stmt_code (tree.Value e semi) = expr_code e ++ plain op.SetRval ∷ []

@@ -7,3 +7,5 @@ pub mod Statements
 pub mod Words
 pub mod Code
 pub mod Emission
+pub mod OpNames
+pub mod Listing

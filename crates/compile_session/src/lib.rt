@@ -2,7 +2,9 @@
 #![tactic(auto)]
 
 mod emitter;
+mod op_names;
 mod parser;
+mod printer;
 mod reserved;
 mod scanner;
 mod words;

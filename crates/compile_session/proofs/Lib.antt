@@ -2,3 +2,6 @@ pub mod ScanLemmas
 pub mod ParseLemmas
 pub mod ScriptLemmas
 pub mod EmitLemmas
+pub mod ListLemmas
+pub mod FileLemmas
+pub mod RunLemmas

@@ -9,3 +9,5 @@ pub mod Code
 pub mod Emission
 pub mod OpNames
 pub mod Listing
+pub mod Verdict
+pub mod Answers

@@ -1,7 +1,10 @@
 -- The text of a code, this project's own choice: a line for each instruction.
-use Rattle.std.specs.Prelude.{ℕ, ◌+◌, ◌-◌, ◌*◌, ◌/◌, ◌%◌, Bool, true, false, not, ◌&&◌, nat_eq, nat_le, List, [], ◌∷◌, ◌++◌, length, map, replicate, codes, flat_map, if◌then◌else◌}
+use Rattle.std.specs.Prelude.{◌≡◌, ℕ, ◌+◌, ◌-◌, ◌*◌, ◌/◌, ◌%◌, Bool, true, false, not, ◌&&◌, nat_eq, nat_le, List, [], ◌∷◌, ◌++◌, length, map, replicate, codes, flat_map, if◌then◌else◌}
 use Rattle.std.specs.Fmt.{decimal}
-use Rattle.bytecode_buf.specs.Command.{Operand, Nothing, Number, Text, Aliased, Distance, Target, Command, Listed}
+use Rattle.bytecode_buf.specs.declared.instruction.Instr.{Instr}
+use Rattle.bytecode_buf.specs.Width.{is_jump}
+use Rattle.bytecode_buf.specs.Layout.{Numbered, AllFit, layout}
+use Rattle.bytecode_buf.specs.Command.{Operand, Nothing, Number, Text, Aliased, Distance, Target, Command, Listed, command_at, command_of, listed_from}
 use Rattle.compile_session.specs.OpNames.{name_of}
 
 -- a number in at least five digits
@@ -41,3 +44,16 @@ line l = (((((32 ∷ 32 ∷ []) ++ padded l.at) ++ 32 ∷ []) ++ name_of l.comma
 
 abbrev pub listing : List Listed → List ℕ
 listing ls = flat_map line ls
+
+-- an instruction as it is listed at an offset
+abbrev pub listed_as : List (List ℕ) → ℕ → Instr → Listed
+listed_as texts at instr = record { at = at; command = command_at at (command_of texts (record { op = instr.op; a = instr.a; b = instr.b })) }
+
+-- none of the instructions is a jump
+abbrev pub ArePlain : List Numbered → Type 0
+ArePlain [] = Unit {0}
+ArePlain (i ∷ is) = (is_jump i.op ≡ false) × ArePlain is
+
+-- the lines of a code that is laid out from instructions without jumps are appended
+abbrev pub AppendsListing : List (List ℕ) → List ℕ → List ℕ → List ℕ → Type 0
+AppendsListing texts code before now = (is : List Numbered) → AllFit is → ArePlain is → code ≡ layout is → now ≡ before ++ listing (listed_from texts 0 is)

@@ -141,7 +141,7 @@ fn read_sum(
 }
 
 /// Appends the statements of the tokens, where these are a script of the built form.
-fn parse_into(
+pub(crate) fn parse_into(
     alloc: Global,
     tokens: &[Token],
     statements: &mut Vec<Statement>,

@@ -3,7 +3,7 @@ use Rattle.std.proofs.Common.{◌≡◌, ℕ, zero, suc, ◌+◌, ◌-◌, ◌<�
 use Rattle.std.proofs.lemmas.Bool.{cases_order}
 use Rattle.std.proofs.lemmas.Option.{slice_get-get_or, get_or_from_slice_get}
 use Rattle.atom_table.specs.declared.atoms.Atom.{Atom}
-use Rattle.atom_table.specs.DeskView.{DeskView}
+use Rattle.atom_table.specs.DeskView.{TableName, DeskView}
 use Rattle.atom_table.specs.Views.{SeesText, StillSees, OneAtomEach}
 use Rattle.atom_table.specs.Words.{named, home_of, Has, Coherent, Passed, gained}
 use Rattle.atom_table.proofs.Pigeons.{pigeons}
@@ -76,3 +76,8 @@ one_atom desk coherent a b s t sees other =
       (λ e. sym one ∙ both.0 (ap (λ (atom : Atom). atom.place) e) ∙ two),
       (λ e. let places : a.place ≡ b.place = both.1 (one ∙ e ∙ sym two) in λ i. record { place = places i }),
     )
+
+-- what a desk has seen, a desk that has seen as much has seen too
+pub sees_still : (was now : DeskView) (atom : Atom) (text : List ℕ) → now.table ≡ was.table → StillSees was now → SeesText was atom text → SeesText now atom text
+sees_still was now atom text table still sees =
+    (sees.0, still (atom.place, sees.0 + 1) sees.1, subst (λ (t : TableName). slice_get t.texts sees.0 ≡ Some text) (sym table) sees.2)

@@ -3,6 +3,8 @@
 
 pub mod atoms;
 mod rule;
+#[cfg(test)]
+mod tests;
 pub mod text_list;
 
 pub use atoms::{Atom, AtomTable, Desk};

@@ -70,8 +70,9 @@ impl TextList {
         (word - 1) as u32
     }
 
-    // Where the search for this text begins.
-    pub(crate) fn home(&self, text: &Text) -> u32
+    /// The place where the search for this text begins: its hash, by as many homes as twice the texts
+    /// and one.
+    pub fn home(&self, text: &Text) -> u32
         ensures { result ≡ home_of self.now text.now }
     {
         let homes = 2 * u64::from(self.count()) + 1;

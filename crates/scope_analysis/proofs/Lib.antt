@@ -1,0 +1,2 @@
+pub mod RowTrees
+pub mod ScopeRows

@@ -1,6 +1,7 @@
 -- Which brackets of a list of tokens match. ECMA-262 has this in its productions alone; as a relation of its own it is
 -- this project's own choice.
-use Rattle.std.specs.Prelude.{ℕ, suc, List, [], ◌∷◌, Bool, true, false, nat_eq, if◌then◌else◌, Option, Some, None, ◌≡◌, ◌<◌, ◌⊎◌, length, take, drop, slice_get, slice_index_or, option_and_then}
+use Rattle.std.specs.Prelude.{ℕ, suc, map, List, [], ◌∷◌, Bool, true, false, nat_eq, if◌then◌else◌, Option, Some, None, ◌≡◌, ◌<◌, ◌⊎◌, length, take, drop, slice_get, slice_index_or, option_and_then}
+use Rattle.script_grammar.specs.declared.token.Token.{Token}
 use Rattle.script_grammar.specs.declared.token.Kind.{Kind}
 use Rattle.script_grammar.specs.declared.token.Kind.TheVariants as kind
 use Rattle.script_grammar.specs.declared.token.mark.TheConstants as mark
@@ -8,6 +9,9 @@ use Rattle.script_grammar.specs.declared.brackets.Bracket.{Bracket}
 use Rattle.script_grammar.specs.declared.brackets.Bracket.TheVariants.{Paren, Square, Brace, Template}
 use Rattle.script_grammar.specs.declared.brackets.BracketPart.{BracketPart}
 use Rattle.script_grammar.specs.declared.brackets.BracketPart.TheVariants.{Opening, Closing, Middle, Other}
+
+abbrev pub kinds_of : List Token → List Kind
+kinds_of = map (λ t. t.kind)
 
 -- what a token does to brackets; a TemplateMiddle closes what a TemplateHead or another TemplateMiddle opened, and opens again
 abbrev pub part_of_mark : ℕ → BracketPart

@@ -5,3 +5,4 @@ pub mod Balance
 mod Partners
 mod Walking
 mod Taking
+mod PrintRows

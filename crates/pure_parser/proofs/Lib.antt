@@ -3,3 +3,6 @@ pub mod Tests
 pub mod Friendly
 pub mod Sound
 pub mod SoundNext
+pub mod Rows
+mod CornerRows
+mod DepthRows

@@ -1,5 +1,8 @@
 pub mod Local
 pub mod Tests
 pub mod Friendly
+pub mod Fitting
 pub mod Sound
 pub mod SoundNext
+pub mod Complete
+pub mod Refuse

@@ -1,0 +1,158 @@
+-- Lexemes that stand at places.
+use Rattle.std.proofs.Common.{◌≡◌, ℕ, zero, suc, List, [], ◌∷◌, ◌++◌, length, refl, sym, ap, ◌∙◌, subst, append_assoc, Bool, true, false, Option, Some, None, nat_eq, if◌then◌else◌, arith, length-append}
+use Rattle.std.proofs.lemmas.Bool.{eq-eqb, ne_eqb}
+use Rattle.script_grammar.specs.declared.token.Kind.{Kind}
+use Rattle.script_grammar.specs.declared.token.Kind.TheVariants as kind
+use Rattle.script_grammar.specs.Lexeme.{Lexeme, Role, no_role}
+use Rattle.script_grammar.specs.Kinds.{is_any_word}
+use Rattle.script_grammar.specs.Tree.{Named}
+use Rattle.script_grammar.specs.Pieces.{Piece, At, Gap, Slot, Ending, Wanted, Exactly, AnyWord, Is, Fits, IsWanted, may_omit, slot, mark_piece, word_piece, glued_mark, placed, closing_mark, number_piece, str_piece, text_piece, template_piece, name_piece, glued_name, any_word, role_piece, glue, ending_at, until, comma_piece, semi_piece}
+use Rattle.pure_parser.specs.Parser.{head_of, last_end}
+use Rattle.pure_parser.proofs.Friendly.{first_of, Friendly, friendly_omits}
+use Rattle.pure_parser.proofs.Tests.{false_true}
+
+pub first_append : (v e : List Lexeme) (n : Lexeme) → first_of (v ++ e) n ≡ first_of v (first_of e n)
+first_append [] e n = refl
+first_append (t ∷ v) e n = refl
+
+pub head_first : (v us : List Lexeme) → head_of (v ++ us) ≡ first_of v (head_of us)
+head_first [] us = refl
+head_first (t ∷ v) us = refl
+
+-- A friendly lexeme may stand behind in place of another.
+pub fits_friendly : (ps : List Piece) (w : List Lexeme) (x y : Lexeme) → Fits ps w x → Friendly y → Fits ps w y
+fits_friendly [] [] x y h f = tt
+fits_friendly [] (t ∷ w) x y h f = absurd h
+fits_friendly (At s ∷ ps) [] x y h f = absurd h
+fits_friendly (At s ∷ ps) (t ∷ w) x y h f = (h.0, fits_friendly ps w x y h.1 f)
+fits_friendly (Gap e ∷ ps) [] x y h f = (friendly_omits e y f, fits_friendly ps [] x y h.1 f)
+fits_friendly (Gap e ∷ ps) (t ∷ w) x y h f = (h.0, fits_friendly ps (t ∷ w) x y h.1 f)
+
+pub fits_append : (a b : List Piece) (u v : List Lexeme) (n : Lexeme) → Fits a u (first_of v n) → Fits b v n → Fits (a ++ b) (u ++ v) n
+fits_append [] b [] v n h k = k
+fits_append [] b (t ∷ u) v n h k = absurd h
+fits_append (At s ∷ a) b [] v n h k = absurd h
+fits_append (At s ∷ a) b (t ∷ u) v n h k = (h.0, fits_append a b u v n h.1 k)
+fits_append (Gap e ∷ a) b [] [] n h k = (h.0, fits_append a b [] [] n h.1 k)
+fits_append (Gap e ∷ a) b [] (t ∷ v) n h k = (h.0, fits_append a b [] (t ∷ v) n h.1 k)
+fits_append (Gap e ∷ a) b (t ∷ u) v n h k = (h.0, fits_append a b (t ∷ u) v n h.1 k)
+
+-- lexemes that stand at the places of two lists are those of the one and then those of the other
+pub record Parted (a b : List Piece) (w : List Lexeme) (n : Lexeme) : Type 0 where
+  pub front : List Lexeme
+  pub back : List Lexeme
+  pub split : w ≡ front ++ back
+  pub first : Fits a front (first_of back n)
+  pub second : Fits b back n
+
+gap_fits : (e : Ending) (a : List Piece) (u v w : List Lexeme) (n : Lexeme) → w ≡ u ++ v → may_omit e (first_of w n) ≡ true → Fits a u (first_of v n) → Fits (Gap e ∷ a) u (first_of v n)
+gap_fits e a [] v w n s h k = (ap (λ x. may_omit e (first_of x n)) (sym s) ∙ h, k)
+gap_fits e a (t ∷ u) v w n s h k = (ap (λ x. may_omit e (first_of x n)) (sym s) ∙ h, k)
+
+pub fits_part : (a b : List Piece) (w : List Lexeme) (n : Lexeme) → Fits (a ++ b) w n → Parted a b w n
+fits_part [] b w n h = record { front = []; back = w; split = refl; first = tt; second = h }
+fits_part (At s ∷ a) b [] n h = absurd h
+fits_part (At s ∷ a) b (t ∷ w) n h =
+    let p = fits_part a b w n h.1 in
+    record { front = t ∷ p.front; back = p.back; split = ap (λ x. t ∷ x) p.split; first = (h.0, p.first); second = p.second }
+fits_part (Gap e ∷ a) b [] n h =
+    let p = fits_part a b [] n h.1 in
+    record { front = p.front; back = p.back; split = p.split; first = gap_fits e a p.front p.back [] n p.split h.0 p.first; second = p.second }
+fits_part (Gap e ∷ a) b (t ∷ w) n h =
+    let p = fits_part a b (t ∷ w) n h.1 in
+    record { front = p.front; back = p.back; split = p.split; first = gap_fits e a p.front p.back (t ∷ w) n p.split h.0 p.first; second = p.second }
+
+-- leaves: a lexeme at a place of its kind
+
+pub is_slot : (k : Kind) (d : ℕ) (t : Lexeme) → t.kind ≡ k → Is (slot k d) t
+is_slot k d t e = record { kind = e; content = tt; at = tt; ends = tt; line = λ l. absurd (false_true l) }
+
+pub fits_kind : (k : Kind) (d : ℕ) (t : Lexeme) (n : Lexeme) → t.kind ≡ k → Fits (At (slot k d) ∷ []) (t ∷ []) n
+fits_kind k d t n e = (is_slot k d t e, tt)
+
+pub fits_placed : (k : Kind) (d : ℕ) (t : Lexeme) (n : Lexeme) → t.kind ≡ k → Fits (placed k t.start d ∷ []) (t ∷ []) n
+fits_placed k d t n e = (record { kind = e; content = tt; at = refl; ends = tt; line = λ l. absurd (false_true l) }, tt)
+
+pub fits_closing : (m d : ℕ) (t : Lexeme) (n : Lexeme) → t.kind ≡ kind.Mark m → Fits (closing_mark m t.end d ∷ []) (t ∷ []) n
+fits_closing m d t n e = (record { kind = e; content = tt; at = tt; ends = (refl, tt); line = λ l. absurd (false_true l) }, tt)
+
+pub fits_number : (d : ℕ) (t : Lexeme) (n : Lexeme) → t.kind ≡ kind.Number → Fits (number_piece t.start t.number d ∷ []) (t ∷ []) n
+fits_number d t n e = (record { kind = e; content = refl; at = refl; ends = tt; line = λ l. absurd (false_true l) }, tt)
+
+pub fits_str : (d : ℕ) (t : Lexeme) (n : Lexeme) → t.kind ≡ kind.Str → Fits (str_piece t.start t.end t.text d ∷ []) (t ∷ []) n
+fits_str d t n e = (record { kind = e; content = refl; at = refl; ends = (refl, tt); line = λ l. absurd (false_true l) }, tt)
+
+pub fits_text : (k : Kind) (d : ℕ) (t : Lexeme) (n : Lexeme) → t.kind ≡ k → Fits (text_piece k t.text t.start d ∷ []) (t ∷ []) n
+fits_text k d t n e = (record { kind = e; content = refl; at = refl; ends = tt; line = λ l. absurd (false_true l) }, tt)
+
+pub fits_template : (k : Kind) (d : ℕ) (t : Lexeme) (n : Lexeme) → t.kind ≡ k → Fits (template_piece k t.text d ∷ []) (t ∷ []) n
+fits_template k d t n e = (record { kind = e; content = refl; at = tt; ends = tt; line = λ l. absurd (false_true l) }, tt)
+
+pub fits_glued : (m d : ℕ) (t : Lexeme) (n : Lexeme) → t.kind ≡ kind.Mark m → t.after_line ≡ false → Fits (glued_mark m d ∷ []) (t ∷ []) n
+fits_glued m d t n e l = (record { kind = e; content = tt; at = tt; ends = tt; line = λ _. l }, tt)
+
+pub fits_glued_name : (d : ℕ) (t : Lexeme) (n : Lexeme) → t.kind ≡ kind.Name → t.after_line ≡ false → Fits (glued_name (record { text = t.text; at = t.start }) d ∷ []) (t ∷ []) n
+fits_glued_name d t n e l = (record { kind = e; content = refl; at = refl; ends = tt; line = λ _. l }, tt)
+
+pub fits_any_word : (d : ℕ) (t : Lexeme) (n : Lexeme) → is_any_word t.kind ≡ true → Fits (any_word (Some t.start) t.text d ∷ []) (t ∷ []) n
+fits_any_word d t n e = (record { kind = e; content = refl; at = refl; ends = tt; line = λ l. absurd (false_true l) }, tt)
+
+pub fits_some_word : (d : ℕ) (t : Lexeme) (n : Lexeme) → is_any_word t.kind ≡ true → Fits (any_word None t.text d ∷ []) (t ∷ []) n
+fits_some_word d t n e = (record { kind = e; content = refl; at = tt; ends = tt; line = λ l. absurd (false_true l) }, tt)
+
+pub fits_role : (r : Role) (d : ℕ) (t : Lexeme) (n : Lexeme) → t.kind ≡ kind.Name → t.role ≡ r → Fits (role_piece r d ∷ []) (t ∷ []) n
+fits_role r d t n e h = (record { kind = e; content = h; at = tt; ends = tt; line = λ l. absurd (false_true l) }, tt)
+
+-- no line end stands before the first of these
+pub fits_glue : (ps : List Piece) (t : Lexeme) (w : List Lexeme) (n : Lexeme) → t.after_line ≡ false → Fits ps (t ∷ w) n → Fits (glue ps) (t ∷ w) n
+fits_glue [] t w n e h = absurd h
+fits_glue (At s ∷ ps) t w n e h = (record { kind = h.0.kind; content = h.0.content; at = h.0.at; ends = h.0.ends; line = λ _. e }, h.1)
+fits_glue (Gap g ∷ ps) t w n e h = h
+
+-- the end of the last lexeme
+
+last_here : (a b e f : ℕ) → a ≡ b → (if nat_eq a b then e else f) ≡ e
+last_here a b e f h = rw (eq-eqb a b h) refl
+
+last_there : (a b e f : ℕ) → (a ≡ b → ⊥) → (if nat_eq a b then e else f) ≡ f
+last_there a b e f h = rw (ne_eqb a b h) refl
+
+pub last_of_one : (t : Lexeme) (us : List Lexeme) → last_end (t ∷ us) us ≡ t.end
+last_of_one t us = last_here (length us) (length us) t.end (last_end us us) refl
+
+pub last_end_append : (t : Lexeme) (w us : List Lexeme) → last_end ((t ∷ w) ++ us) us ≡ last_end (t ∷ w) []
+last_end_append t [] us = last_of_one t us ∙ sym (last_of_one t [])
+last_end_append t (u ∷ w) us =
+    last_there (length ((u ∷ w) ++ us)) (length us) t.end (last_end ((u ∷ w) ++ us) us) (λ e. absurd (omega (arith, e, length-append (u ∷ w) us)))
+    ∙ last_end_append u w us
+    ∙ sym (last_there (length (u ∷ w)) 0 t.end (last_end (u ∷ w) []) (λ e. absurd (omega (arith, e))))
+
+-- the last of these lexemes, if there is one, ends at this offset
+abbrev pub EndsBy : List Lexeme → ℕ → Type 0
+EndsBy [] e = Unit {0}
+EndsBy (t ∷ []) e = t.end ≡ e
+EndsBy (t ∷ u ∷ w) e = EndsBy (u ∷ w) e
+
+pub ends_by_last : (w : List Lexeme) → EndsBy w (last_end w [])
+ends_by_last [] = tt
+ends_by_last (t ∷ []) = sym (last_of_one t [])
+ends_by_last (t ∷ u ∷ w) = subst (λ e. EndsBy (u ∷ w) e) (sym (last_there (length (u ∷ w)) 0 t.end (last_end (u ∷ w) []) (λ e. absurd (omega (arith, e))))) (ends_by_last (u ∷ w))
+
+ends_rest : (t : Lexeme) (w : List Lexeme) (e : ℕ) → EndsBy (t ∷ w) e → EndsBy w e
+ends_rest t [] e h = tt
+ends_rest t (u ∷ w) e h = h
+
+fits_ending : (s : Slot) (t : Lexeme) (w : List Lexeme) (n : Lexeme) (e : ℕ) → EndsBy (t ∷ w) e → Fits (At s ∷ []) (t ∷ w) n → Fits (ending_at e (At s) ∷ []) (t ∷ w) n
+fits_ending s t [] n e h f = (record { kind = f.0.kind; content = f.0.content; at = f.0.at; ends = (h, f.0.ends); line = f.0.line }, tt)
+fits_ending s t (u ∷ w) n e h f = absurd f.1
+
+-- the last of these places ends at this offset
+pub fits_until : (ps : List Piece) (w : List Lexeme) (n : Lexeme) (e : ℕ) → EndsBy w e → Fits ps w n → Fits (until e ps) w n
+fits_until [] w n e h f = f
+fits_until (At s ∷ []) [] n e h f = absurd f
+fits_until (At s ∷ []) (t ∷ w) n e h f = fits_ending s t w n e h f
+fits_until (Gap g ∷ []) w n e h f = f
+fits_until (At s ∷ p ∷ ps) [] n e h f = absurd f
+fits_until (At s ∷ p ∷ ps) (t ∷ w) n e h f = (f.0, fits_until (p ∷ ps) w n e (ends_rest t w e h) f.1)
+fits_until (Gap g ∷ p ∷ ps) [] n e h f = (f.0, fits_until (p ∷ ps) [] n e h f.1)
+fits_until (Gap g ∷ p ∷ ps) (t ∷ w) n e h f = (f.0, fits_until (p ∷ ps) (t ∷ w) n e h f.1)

@@ -1,5 +1,5 @@
 -- Tests of what a token is.
-use Rattle.std.specs.Prelude.{ℕ, zero, suc, Bool, true, false, nat_eq, nat_le, not, ◌||◌, ◌&&◌, if◌then◌else◌}
+use Rattle.std.specs.Prelude.{ℕ, Bool, true, false, nat_eq, nat_le, not, ◌||◌, ◌&&◌, if◌then◌else◌}
 use Rattle.script_grammar.specs.declared.token.Kind.{Kind}
 use Rattle.script_grammar.specs.declared.token.Kind.TheVariants as kind
 use Rattle.script_grammar.specs.declared.token.mark.TheConstants as mark
@@ -8,7 +8,7 @@ use Rattle.script_grammar.specs.declared.token.FuncForm.{FuncForm}
 use Rattle.script_grammar.specs.declared.token.FuncForm.TheVariants as form
 use Rattle.script_grammar.specs.declared.token.Decl.{Decl}
 use Rattle.script_grammar.specs.declared.token.Decl.TheVariants as decl
-use Rattle.script_grammar.specs.Lexeme.{Lexeme, Role, get_role, set_role, no_role}
+use Rattle.script_grammar.specs.Lexeme.{Role, get_role, set_role}
 
 abbrev pub is_mark : ℕ → Kind → Bool
 is_mark i (kind.Mark j) = nat_eq j i

@@ -87,4 +87,5 @@ lexeme_of get_atom set_atom texts t = record {
   role = role_at get_atom set_atom t.kind t.value;
   start = t.start;
   end = t.end;
-  after_line = t.after_line }
+  after_line = t.after_line;
+}

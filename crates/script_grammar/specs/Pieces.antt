@@ -1,9 +1,8 @@
 -- What a tree is written with: places for tokens, and semicolons that are not written.
-use Rattle.std.specs.Prelude.{ℕ, zero, suc, List, [], ◌∷◌, ◌++◌, Bool, true, false, not, ◌&&◌, ◌||◌, ◌≡◌, IsTrue, Option, Some, None}
+use Rattle.std.specs.Prelude.{ℕ, List, [], ◌∷◌, ◌++◌, Bool, true, false, not, ◌&&◌, ◌||◌, ◌≡◌, Option, Some, None, if◌then◌else◌, nat_eq, length, replicate}
 use Rattle.script_grammar.specs.declared.token.Kind.{Kind}
 use Rattle.script_grammar.specs.declared.token.Kind.TheVariants as kind
 use Rattle.script_grammar.specs.declared.token.mark.TheConstants as mark
-use Rattle.script_grammar.specs.declared.token.word.TheConstants as word
 use Rattle.script_grammar.specs.Lexeme.{Lexeme, Role}
 use Rattle.script_grammar.specs.Kinds.{is_mark, is_any_word, is_end, is_whole, is_head, is_binary, is_assign_mark}
 use Rattle.script_grammar.specs.Tree.{Named}
@@ -46,10 +45,16 @@ pub data Ending : Type 0 where
   -- the parenthesis of a do-while
   DoWhile : Ending
 
--- a token's place, or a semicolon that is not written
+-- How the braced bodies of functions are looked at: as statements, or as any tokens whose brackets match.
+pub data Bodies : Type 0 where
+  whole : Bodies
+  passed : Bodies
+
+-- a token's place, a semicolon that is not written, or any tokens whose brackets match
 pub data Piece : Type 0 where
   At : Slot → Piece
   Gap : Ending → Piece
+  Pass : Piece
 
 -- tokens that continue an expression whose last part is a postfix operator
 abbrev pub continues_postfix : Kind → Bool
@@ -101,6 +106,58 @@ pub record Is (s : Slot) (t : Lexeme) : Type 0 where
   pub ends : AllAre s.ends t.end
   pub line : s.glued ≡ true → t.after_line ≡ false
 
+-- Tokens whose brackets match, by the brackets that are open.
+
+pub data Opener : Type 0 where
+  paren : Opener
+  bracket : Opener
+  brace : Opener
+  template : Opener
+
+abbrev pub closes : Opener → Opener → Bool
+closes paren paren = true
+closes bracket bracket = true
+closes brace brace = true
+closes template template = true
+closes _ _ = false
+
+-- what is open behind a token that closes this bracket
+abbrev pub closed : Opener → List Opener → Option (List Opener)
+closed o [] = None
+closed o (p ∷ ps) = if closes o p then Some ps else None
+
+-- a TemplateMiddle closes and opens again
+abbrev pub reopened : List Opener → Option (List Opener) → Option (List Opener)
+reopened open_now None = None
+reopened open_now (Some ps) = Some open_now
+
+abbrev pub mark_opens : ℕ → List Opener → Option (List Opener)
+mark_opens i ps =
+    if nat_eq i mark.OPEN_PAREN then Some (paren ∷ ps) else
+    if nat_eq i mark.CLOSE_PAREN then closed paren ps else
+    if nat_eq i mark.OPEN_BRACKET then Some (bracket ∷ ps) else
+    if nat_eq i mark.CLOSE_BRACKET then closed bracket ps else
+    if nat_eq i mark.OPEN_BRACE then Some (brace ∷ ps) else
+    if nat_eq i mark.CLOSE_BRACE then closed brace ps else Some ps
+
+-- the brackets that are open behind a token, or none where it closes what is not open, or is no token of a text
+abbrev pub open_behind : Kind → List Opener → Option (List Opener)
+open_behind (kind.Mark i) ps = mark_opens i ps
+open_behind kind.TemplateHead ps = Some (template ∷ ps)
+open_behind kind.TemplateMiddle ps = reopened ps (closed template ps)
+open_behind kind.TemplateTail ps = closed template ps
+open_behind kind.Bad ps = None
+open_behind kind.End ps = None
+open_behind _ ps = Some ps
+
+-- the brackets that are open behind these tokens
+abbrev pub open_at_end : List Opener → List Lexeme → Option (List Opener)
+open_at_end ps [] = Some ps
+open_at_end ps (t ∷ ts) = elim (open_behind t.kind ps) [ None ↦ None | Some qs ↦ open_at_end qs ts ]
+
+abbrev pub IsBalanced : List Lexeme → Type 0
+IsBalanced ts = open_at_end [] ts ≡ Some []
+
 -- Tokens that stand at these places, in front of a token that follows them.
 abbrev pub Fits : List Piece → List Lexeme → Lexeme → Type 0
 Fits [] [] n = Unit {0}
@@ -109,12 +166,17 @@ Fits (At s ∷ ps) [] n = ⊥
 Fits (At s ∷ ps) (t ∷ ts) n = Is s t × Fits ps ts n
 Fits (Gap e ∷ ps) [] n = (may_omit e n ≡ true) × Fits ps [] n
 Fits (Gap e ∷ ps) (t ∷ ts) n = (may_omit e t ≡ true) × Fits ps (t ∷ ts) n
+Fits (Pass ∷ ps) ts n = (u : List Lexeme) × (v : List Lexeme) × (ts ≡ u ++ v) × IsBalanced u × Fits ps v n
 
--- the depth of each token
-abbrev pub depths : List Piece → List ℕ
-depths [] = []
-depths (At s ∷ ps) = s.depth ∷ depths ps
-depths (Gap e ∷ ps) = depths ps
+-- The depth of each token of these; one that is passed over has none.
+abbrev pub depths : (ps : List Piece) (ts : List Lexeme) (n : Lexeme) → Fits ps ts n → List ℕ
+depths [] [] n f = []
+depths [] (t ∷ ts) n f = []
+depths (At s ∷ ps) [] n f = []
+depths (At s ∷ ps) (t ∷ ts) n f = s.depth ∷ depths ps ts n f.1
+depths (Gap e ∷ ps) [] n f = depths ps [] n f.1
+depths (Gap e ∷ ps) (t ∷ ts) n f = depths ps (t ∷ ts) n f.1
+depths (Pass ∷ ps) ts n f = replicate (length f.0) 0 ++ depths ps f.1 n f.4
 
 -- Pieces that a tree is put together from; the last number of each is the depth.
 
@@ -170,11 +232,13 @@ abbrev pub glue : List Piece → List Piece
 glue [] = []
 glue (At s ∷ ps) = At (record s { glued = true }) ∷ ps
 glue (Gap e ∷ ps) = Gap e ∷ ps
+glue (Pass ∷ ps) = Pass ∷ ps
 
 -- a piece that ends at this offset too
 abbrev pub ending_at : ℕ → Piece → Piece
 ending_at n (At s) = At (record s { ends = n ∷ s.ends })
 ending_at n (Gap e) = Gap e
+ending_at n Pass = Pass
 
 -- the last of these ends at this offset
 abbrev pub until : ℕ → List Piece → List Piece
@@ -201,3 +265,4 @@ abbrev pub begins_with : (Kind → Bool) → List Piece → Bool
 begins_with f [] = false
 begins_with f (At s ∷ ps) = is_wanted f s.kind
 begins_with f (Gap e ∷ ps) = false
+begins_with f (Pass ∷ ps) = false

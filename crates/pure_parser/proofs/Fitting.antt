@@ -6,7 +6,7 @@ use Rattle.script_grammar.specs.declared.token.Kind.TheVariants as kind
 use Rattle.script_grammar.specs.Lexeme.{Lexeme, Role, no_role}
 use Rattle.script_grammar.specs.Kinds.{is_any_word}
 use Rattle.script_grammar.specs.Tree.{Named}
-use Rattle.script_grammar.specs.Pieces.{Piece, At, Gap, Slot, Ending, Wanted, Exactly, AnyWord, Is, Fits, IsWanted, may_omit, slot, mark_piece, word_piece, glued_mark, placed, closing_mark, number_piece, str_piece, text_piece, template_piece, name_piece, glued_name, any_word, role_piece, glue, ending_at, until, comma_piece, semi_piece}
+use Rattle.script_grammar.specs.Pieces.{Piece, At, Gap, Pass, Slot, Ending, Wanted, Exactly, AnyWord, Is, Fits, IsWanted, may_omit, slot, mark_piece, word_piece, glued_mark, placed, closing_mark, number_piece, str_piece, text_piece, template_piece, name_piece, glued_name, any_word, role_piece, glue, ending_at, until, comma_piece, semi_piece}
 use Rattle.pure_parser.specs.Parser.{head_of, last_end}
 use Rattle.pure_parser.proofs.Friendly.{first_of, Friendly, friendly_omits}
 use Rattle.pure_parser.proofs.Tests.{false_true}
@@ -27,6 +27,7 @@ fits_friendly (At s ∷ ps) [] x y h f = absurd h
 fits_friendly (At s ∷ ps) (t ∷ w) x y h f = (h.0, fits_friendly ps w x y h.1 f)
 fits_friendly (Gap e ∷ ps) [] x y h f = (friendly_omits e y f, fits_friendly ps [] x y h.1 f)
 fits_friendly (Gap e ∷ ps) (t ∷ w) x y h f = (h.0, fits_friendly ps (t ∷ w) x y h.1 f)
+fits_friendly (Pass ∷ ps) w x y h f = (h.0, h.1, h.2, h.3, fits_friendly ps h.1 x y h.4 f)
 
 pub fits_append : (a b : List Piece) (u v : List Lexeme) (n : Lexeme) → Fits a u (first_of v n) → Fits b v n → Fits (a ++ b) (u ++ v) n
 fits_append [] b [] v n h k = k
@@ -36,6 +37,7 @@ fits_append (At s ∷ a) b (t ∷ u) v n h k = (h.0, fits_append a b u v n h.1 k
 fits_append (Gap e ∷ a) b [] [] n h k = (h.0, fits_append a b [] [] n h.1 k)
 fits_append (Gap e ∷ a) b [] (t ∷ v) n h k = (h.0, fits_append a b [] (t ∷ v) n h.1 k)
 fits_append (Gap e ∷ a) b (t ∷ u) v n h k = (h.0, fits_append a b (t ∷ u) v n h.1 k)
+fits_append (Pass ∷ a) b u v n h k = (h.0, h.1 ++ v, ap (λ x. x ++ v) h.2 ∙ append_assoc h.0 h.1 v, h.3, fits_append a b h.1 v n h.4 k)
 
 -- lexemes that stand at the places of two lists are those of the one and then those of the other
 pub record Parted (a b : List Piece) (w : List Lexeme) (n : Lexeme) : Type 0 where
@@ -61,6 +63,9 @@ fits_part (Gap e ∷ a) b [] n h =
 fits_part (Gap e ∷ a) b (t ∷ w) n h =
     let p = fits_part a b (t ∷ w) n h.1 in
     record { front = p.front; back = p.back; split = p.split; first = gap_fits e a p.front p.back (t ∷ w) n p.split h.0 p.first; second = p.second }
+fits_part (Pass ∷ a) b w n h =
+    let p = fits_part a b h.1 n h.4 in
+    record { front = h.0 ++ p.front; back = p.back; split = h.2 ∙ ap (λ x. h.0 ++ x) p.split ∙ sym (append_assoc h.0 p.front p.back); first = (h.0, p.front, refl, h.3, p.first); second = p.second }
 
 -- leaves: a lexeme at a place of its kind
 
@@ -108,6 +113,7 @@ pub fits_glue : (ps : List Piece) (t : Lexeme) (w : List Lexeme) (n : Lexeme) �
 fits_glue [] t w n e h = absurd h
 fits_glue (At s ∷ ps) t w n e h = (record { kind = h.0.kind; content = h.0.content; at = h.0.at; ends = h.0.ends; line = λ _. e }, h.1)
 fits_glue (Gap g ∷ ps) t w n e h = h
+fits_glue (Pass ∷ ps) t w n e h = h
 
 -- the end of the last lexeme
 
@@ -142,6 +148,10 @@ ends_rest : (t : Lexeme) (w : List Lexeme) (e : ℕ) → EndsBy (t ∷ w) e → 
 ends_rest t [] e h = tt
 ends_rest t (u ∷ w) e h = h
 
+ends_suffix : (u v : List Lexeme) (e : ℕ) → EndsBy (u ++ v) e → EndsBy v e
+ends_suffix [] v e h = h
+ends_suffix (t ∷ u) v e h = ends_suffix u v e (ends_rest t (u ++ v) e h)
+
 fits_ending : (s : Slot) (t : Lexeme) (w : List Lexeme) (n : Lexeme) (e : ℕ) → EndsBy (t ∷ w) e → Fits (At s ∷ []) (t ∷ w) n → Fits (ending_at e (At s) ∷ []) (t ∷ w) n
 fits_ending s t [] n e h f = (record { kind = f.0.kind; content = f.0.content; at = f.0.at; ends = (h, f.0.ends); line = f.0.line }, tt)
 fits_ending s t (u ∷ w) n e h f = absurd f.1
@@ -152,6 +162,8 @@ fits_until [] w n e h f = f
 fits_until (At s ∷ []) [] n e h f = absurd f
 fits_until (At s ∷ []) (t ∷ w) n e h f = fits_ending s t w n e h f
 fits_until (Gap g ∷ []) w n e h f = f
+fits_until (Pass ∷ []) w n e h f = f
+fits_until (Pass ∷ p ∷ ps) w n e h f = (f.0, f.1, f.2, f.3, fits_until (p ∷ ps) f.1 n e (ends_suffix f.0 f.1 e (subst (λ x. EndsBy x e) f.2 h)) f.4)
 fits_until (At s ∷ p ∷ ps) [] n e h f = absurd f
 fits_until (At s ∷ p ∷ ps) (t ∷ w) n e h f = (f.0, fits_until (p ∷ ps) w n e (ends_rest t w e h) f.1)
 fits_until (Gap g ∷ p ∷ ps) [] n e h f = (f.0, fits_until (p ∷ ps) [] n e h f.1)

@@ -4,5 +4,6 @@ pub mod Friendly
 pub mod Fitting
 pub mod Sound
 pub mod SoundNext
+pub mod Stands
 pub mod Complete
 pub mod Refuse

@@ -7,8 +7,9 @@ use Rattle.script_grammar.specs.declared.token.Kind.{Kind}
 use Rattle.script_grammar.specs.declared.token.Kind.TheVariants as kind
 use Rattle.script_grammar.specs.declared.token.FuncForm.{FuncForm}
 use Rattle.script_grammar.specs.Lexeme.{Lexeme}
-use Rattle.pure_parser.specs.Parser.{Recorded, Reply, Read, Bad, Deep, Parser, head_of, rest_of, put_before, noted, after, ret, bad, deep, bind, peek, step, when, note, no_room, Turn, Again, Stop, turned, turns, loop, Many, stopped, begun, led}
+use Rattle.pure_parser.specs.Parser.{Recorded, Reply, Read, Bad, Deep, Parser, head_of, rest_of, put_before, noted, after, ret, bad, deep, bind, peek, step, when, note, no_room, last_end, with_end, Turn, Again, Stop, turned, turns, loop, Many, stopped, begun, led}
 use Rattle.pure_parser.proofs.Friendly.{Friendly, Spot, AtFront, Inside}
+use Rattle.pure_parser.proofs.Fitting.{last_end_append}
 
 -- what a part at this spot has read is not nothing, where it stands at the front
 abbrev pub Reads : Spot → List Lexeme → Type 0
@@ -150,6 +151,19 @@ sound_done R w a h = sound_ret (subst (λ x. R x a) (sym (append-nil w)) h)
 -- what is read is made into another value
 pub sound_made : {A B : Type 0} {p : Spot} {Q : List Lexeme → A → Type 0} {R : List Lexeme → B → Type 0} {m : Parser A} (g : A → B) → Sound p Q m → ((w : List Lexeme) (a : A) → Q w a → R w (g a)) → Sound p R (bind m (λ a. ret (g a)))
 sound_made {R = R} g s h = sound_bind s (λ w a q. sound_done R w (g a) (h w a q))
+
+-- what is read is made into another value, with the end of its last lexeme
+end_outcome : {A B : Type 0} (p : Spot) (Q : List Lexeme → A → Type 0) (R : List Lexeme → B → Type 0) (g : A → ℕ → B) → ((w : List Lexeme) (a : A) → Q w a → R w (g a (last_end w []))) → ((w : List Lexeme) (a : A) → Q w a → w ≡ [] → ⊥) → (ts : List Lexeme) (r : Reply A) → Outcome p Q ts r → Outcome p R ts (after r (λ a us. Read (g a (last_end ts us)) [] us))
+end_outcome p Q R g h k ts (Read a rs us) o = outcome_noted p R ts rs (Read (g a (last_end ts us)) [] us) (record { front = o.front; split = o.split; some = o.some; is = subst (λ e. R o.front (g a e)) (sym (ap (λ x. last_end x us) o.split ∙ end_known o.front us (k o.front a o.is))) (h o.front a o.is) })
+  where
+    end_known : (w us : List Lexeme) → (w ≡ [] → ⊥) → last_end (w ++ us) us ≡ last_end w []
+    end_known [] us z = absurd (z refl)
+    end_known (t ∷ w) us z = last_end_append t w us
+end_outcome p Q R g h k ts (Bad rs us) o = record { front = o.front; split = o.split; end = o.end; of = g o.of (last_end (o.front ++ o.end) []); starts = o.starts; is = h (o.front ++ o.end) o.of o.is }
+end_outcome p Q R g h k ts (Deep rs us) o = record { front = o.front; split = o.split; token = o.token; behind = o.behind; first = o.first; end = o.end; of = g o.of (last_end (o.front ++ o.token ∷ o.end) []); is = h (o.front ++ o.token ∷ o.end) o.of o.is }
+
+pub sound_with_end : {A B : Type 0} {p : Spot} {Q : List Lexeme → A → Type 0} {R : List Lexeme → B → Type 0} {m : Parser A} (g : A → ℕ → B) → Sound p Q m → ((w : List Lexeme) (a : A) → Q w a → w ≡ [] → ⊥) → ((w : List Lexeme) (a : A) → Q w a → R w (g a (last_end w []))) → Sound p R (with_end g m)
+sound_with_end {p = p} {Q = Q} {R = R} {m = m} g s k h = record { at = λ ts. end_outcome p Q R g h k ts (m ts) (s.at ts) }
 
 pub sound_bad : {A : Type 0} {p : Spot} {R : List Lexeme → A → Type 0} → Some p R → Sound p R (bad {A = A})
 sound_bad s = record { at = λ ts. record { front = []; split = refl; end = s.end; of = s.of; starts = s.starts; is = s.is } }

@@ -70,48 +70,48 @@ fits_part (Pass ∷ a) b w n h =
 -- leaves: a lexeme at a place of its kind
 
 pub is_slot : (k : Kind) (d : ℕ) (t : Lexeme) → t.kind ≡ k → Is (slot k d) t
-is_slot k d t e = record { kind = e; content = tt; at = tt; ends = tt; line = λ l. absurd (false_true l) }
+is_slot k d t e = record { kind = e; content = tt; starts = tt; ends = tt; line = λ l. absurd (false_true l) }
 
 pub fits_kind : (k : Kind) (d : ℕ) (t : Lexeme) (n : Lexeme) → t.kind ≡ k → Fits (At (slot k d) ∷ []) (t ∷ []) n
 fits_kind k d t n e = (is_slot k d t e, tt)
 
 pub fits_placed : (k : Kind) (d : ℕ) (t : Lexeme) (n : Lexeme) → t.kind ≡ k → Fits (placed k t.start d ∷ []) (t ∷ []) n
-fits_placed k d t n e = (record { kind = e; content = tt; at = refl; ends = tt; line = λ l. absurd (false_true l) }, tt)
+fits_placed k d t n e = (record { kind = e; content = tt; starts = (refl, tt); ends = tt; line = λ l. absurd (false_true l) }, tt)
 
 pub fits_closing : (m d : ℕ) (t : Lexeme) (n : Lexeme) → t.kind ≡ kind.Mark m → Fits (closing_mark m t.end d ∷ []) (t ∷ []) n
-fits_closing m d t n e = (record { kind = e; content = tt; at = tt; ends = (refl, tt); line = λ l. absurd (false_true l) }, tt)
+fits_closing m d t n e = (record { kind = e; content = tt; starts = tt; ends = (refl, tt); line = λ l. absurd (false_true l) }, tt)
 
 pub fits_number : (d : ℕ) (t : Lexeme) (n : Lexeme) → t.kind ≡ kind.Number → Fits (number_piece t.start t.number d ∷ []) (t ∷ []) n
-fits_number d t n e = (record { kind = e; content = refl; at = refl; ends = tt; line = λ l. absurd (false_true l) }, tt)
+fits_number d t n e = (record { kind = e; content = refl; starts = (refl, tt); ends = tt; line = λ l. absurd (false_true l) }, tt)
 
 pub fits_str : (d : ℕ) (t : Lexeme) (n : Lexeme) → t.kind ≡ kind.Str → Fits (str_piece t.start t.end t.text d ∷ []) (t ∷ []) n
-fits_str d t n e = (record { kind = e; content = refl; at = refl; ends = (refl, tt); line = λ l. absurd (false_true l) }, tt)
+fits_str d t n e = (record { kind = e; content = refl; starts = (refl, tt); ends = (refl, tt); line = λ l. absurd (false_true l) }, tt)
 
 pub fits_text : (k : Kind) (d : ℕ) (t : Lexeme) (n : Lexeme) → t.kind ≡ k → Fits (text_piece k t.text t.start d ∷ []) (t ∷ []) n
-fits_text k d t n e = (record { kind = e; content = refl; at = refl; ends = tt; line = λ l. absurd (false_true l) }, tt)
+fits_text k d t n e = (record { kind = e; content = refl; starts = (refl, tt); ends = tt; line = λ l. absurd (false_true l) }, tt)
 
 pub fits_template : (k : Kind) (d : ℕ) (t : Lexeme) (n : Lexeme) → t.kind ≡ k → Fits (template_piece k t.text d ∷ []) (t ∷ []) n
-fits_template k d t n e = (record { kind = e; content = refl; at = tt; ends = tt; line = λ l. absurd (false_true l) }, tt)
+fits_template k d t n e = (record { kind = e; content = refl; starts = tt; ends = tt; line = λ l. absurd (false_true l) }, tt)
 
 pub fits_glued : (m d : ℕ) (t : Lexeme) (n : Lexeme) → t.kind ≡ kind.Mark m → t.after_line ≡ false → Fits (glued_mark m d ∷ []) (t ∷ []) n
-fits_glued m d t n e l = (record { kind = e; content = tt; at = tt; ends = tt; line = λ _. l }, tt)
+fits_glued m d t n e l = (record { kind = e; content = tt; starts = tt; ends = tt; line = λ _. l }, tt)
 
 pub fits_glued_name : (d : ℕ) (t : Lexeme) (n : Lexeme) → t.kind ≡ kind.Name → t.after_line ≡ false → Fits (glued_name (record { text = t.text; at = t.start }) d ∷ []) (t ∷ []) n
-fits_glued_name d t n e l = (record { kind = e; content = refl; at = refl; ends = tt; line = λ _. l }, tt)
+fits_glued_name d t n e l = (record { kind = e; content = refl; starts = (refl, tt); ends = tt; line = λ _. l }, tt)
 
-pub fits_any_word : (d : ℕ) (t : Lexeme) (n : Lexeme) → is_any_word t.kind ≡ true → Fits (any_word (Some t.start) t.text d ∷ []) (t ∷ []) n
-fits_any_word d t n e = (record { kind = e; content = refl; at = refl; ends = tt; line = λ l. absurd (false_true l) }, tt)
+pub fits_any_word : (d : ℕ) (t : Lexeme) (n : Lexeme) → is_any_word t.kind ≡ true → Fits (any_word (t.start ∷ []) t.text d ∷ []) (t ∷ []) n
+fits_any_word d t n e = (record { kind = e; content = refl; starts = (refl, tt); ends = tt; line = λ l. absurd (false_true l) }, tt)
 
-pub fits_some_word : (d : ℕ) (t : Lexeme) (n : Lexeme) → is_any_word t.kind ≡ true → Fits (any_word None t.text d ∷ []) (t ∷ []) n
-fits_some_word d t n e = (record { kind = e; content = refl; at = tt; ends = tt; line = λ l. absurd (false_true l) }, tt)
+pub fits_some_word : (d : ℕ) (t : Lexeme) (n : Lexeme) → is_any_word t.kind ≡ true → Fits (any_word [] t.text d ∷ []) (t ∷ []) n
+fits_some_word d t n e = (record { kind = e; content = refl; starts = tt; ends = tt; line = λ l. absurd (false_true l) }, tt)
 
 pub fits_role : (r : Role) (d : ℕ) (t : Lexeme) (n : Lexeme) → t.kind ≡ kind.Name → t.role ≡ r → Fits (role_piece r d ∷ []) (t ∷ []) n
-fits_role r d t n e h = (record { kind = e; content = h; at = tt; ends = tt; line = λ l. absurd (false_true l) }, tt)
+fits_role r d t n e h = (record { kind = e; content = h; starts = tt; ends = tt; line = λ l. absurd (false_true l) }, tt)
 
 -- no line end stands before the first of these
 pub fits_glue : (ps : List Piece) (t : Lexeme) (w : List Lexeme) (n : Lexeme) → t.after_line ≡ false → Fits ps (t ∷ w) n → Fits (glue ps) (t ∷ w) n
 fits_glue [] t w n e h = absurd h
-fits_glue (At s ∷ ps) t w n e h = (record { kind = h.0.kind; content = h.0.content; at = h.0.at; ends = h.0.ends; line = λ _. e }, h.1)
+fits_glue (At s ∷ ps) t w n e h = (record { kind = h.0.kind; content = h.0.content; starts = h.0.starts; ends = h.0.ends; line = λ _. e }, h.1)
 fits_glue (Gap g ∷ ps) t w n e h = h
 fits_glue (Pass ∷ ps) t w n e h = h
 
@@ -153,7 +153,7 @@ ends_suffix [] v e h = h
 ends_suffix (t ∷ u) v e h = ends_suffix u v e (ends_rest t (u ++ v) e h)
 
 fits_ending : (s : Slot) (t : Lexeme) (w : List Lexeme) (n : Lexeme) (e : ℕ) → EndsBy (t ∷ w) e → Fits (At s ∷ []) (t ∷ w) n → Fits (ending_at e (At s) ∷ []) (t ∷ w) n
-fits_ending s t [] n e h f = (record { kind = f.0.kind; content = f.0.content; at = f.0.at; ends = (h, f.0.ends); line = f.0.line }, tt)
+fits_ending s t [] n e h f = (record { kind = f.0.kind; content = f.0.content; starts = f.0.starts; ends = (h, f.0.ends); line = f.0.line }, tt)
 fits_ending s t (u ∷ w) n e h f = absurd f.1
 
 -- the last of these places ends at this offset

@@ -7,3 +7,4 @@ pub mod SoundNext
 pub mod Stands
 pub mod Complete
 pub mod Refuse
+pub mod Agrees

@@ -92,7 +92,8 @@ after_same f l q r s (kept e) = subst (λ x. Same q (after r f) (after x f)) (sy
 pub local_bind : {A B : Type 0} {m : Parser A} {f : A → Parser B} → Local m → ((a : A) → Local (f a)) → Local (bind m f)
 local_bind {m = m} {f = f} lm lf = record {
   shorter = λ ts. omega (arith, after_shorter f lf (m ts), lm.shorter ts);
-  same = λ ts q. after_same f lf q (m ts) (m (ts ++ q)) (lm.same ts q) }
+  same = λ ts q. after_same f lf q (m ts) (m (ts ++ q)) (lm.same ts q);
+}
 
 peek_same : {A : Type 0} (f : Lexeme → Parser A) → ((t : Lexeme) → Local (f t)) → (ts q : List Lexeme) → Same q (peek f ts) (peek f (ts ++ q))
 peek_same f l [] q = out (omega (arith, (l (head_of [])).shorter [])) ((l (head_of q)).shorter q)
@@ -192,7 +193,8 @@ pub local_loop : {A B : Type 0} {turn : Parser (Turn A B)} → Local turn → Ga
 unfolding loop
 local_loop {turn = turn} l gains = record {
   shorter = λ ts. (local_turns turn l (suc (length ts))).shorter ts;
-  same = λ ts q. subst (λ r. Same q r (turns turn (suc (length (ts ++ q))) (ts ++ q))) (enough turn gains (suc (length (ts ++ q))) (suc (length ts)) ts (omega (arith, length-append ts q)) (omega arith)) ((local_turns turn l (suc (length (ts ++ q)))).same ts q) }
+  same = λ ts q. subst (λ r. Same q r (turns turn (suc (length (ts ++ q))) (ts ++ q))) (enough turn gains (suc (length (ts ++ q))) (suc (length ts)) ts (omega (arith, length-append ts q)) (omega arith)) ((local_turns turn l (suc (length (ts ++ q)))).same ts q);
+}
 
 pub local_led : {A B : Type 0} {turn : Parser (Turn A B)} → Local turn → Gains turn → (a : A) → Local (led turn a)
 local_led l gains a = local_bind (local_loop l gains) (λ m. local_ret (begun a m))

@@ -225,7 +225,6 @@ module _ {A B : Type 0} (Q : List Lexeme → Turn A B → Type 0) (R : List Lexe
     (stop : (w : List Lexeme) (b : B) → Q w (Stop b) → R w (stopped b))
     (go : (w v : List Lexeme) (a : A) (m : Many A B) → Q w (Again a) → R v m → R (w ++ v) (begun a m))
     (some : Some Inside R) where
-
   turned_sound : (f : Parser (Many A B)) → Sound Inside R f → (w : List Lexeme) (t : Turn A B) → Q w t → Sound Inside (Behind w R) (turned f t)
   turned_sound f l w (Again a) q = sound_bind l (λ v m r. sound_ret (subst (λ x. R x (begun a m)) (sym (ap (λ y. w ++ y) (append-nil v))) (go w v a m q r)))
   turned_sound f l w (Stop b) q = sound_ret (subst (λ x. R x (stopped b)) (sym (append-nil w)) (stop w b q))

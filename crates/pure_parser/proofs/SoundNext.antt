@@ -175,14 +175,16 @@ module _ {A B : Type 0} (p : Spot) (Q : List Lexeme → A → Lexeme → Type 0)
   joined w a ts us e q (Read b rs vs) o = record {
     front = w ++ o.front;
     split = e ∙ ap (λ x. w ++ x) o.split ∙ sym (append_assoc w o.front vs);
-    is = λ n h. o.is n h (q (first_of o.front n) (follows_part us o.front vs n o.split h)) }
+    is = λ n h. o.is n h (q (first_of o.front n) (follows_part us o.front vs n o.split h));
+  }
   joined w a ts us e q (Bad rs vs) o = record {
     front = w ++ o.front;
     split = e ∙ ap (λ x. w ++ x) o.split ∙ sym (append_assoc w o.front vs);
     end = o.end;
     of = o.of;
     starts = starts_behind p w o.front o.end o.starts;
-    is = λ n f. subst (λ x. R x o.of n) (sym (append_assoc w o.front o.end)) (o.is n f (q (first_of (o.front ++ o.end) n) (follows_end us o.front vs o.end n o.split o.starts f))) }
+    is = λ n f. subst (λ x. R x o.of n) (sym (append_assoc w o.front o.end)) (o.is n f (q (first_of (o.front ++ o.end) n) (follows_end us o.front vs o.end n o.split o.starts f)));
+  }
   joined w a ts us e q (Deep rs vs) o = record {
     front = w ++ o.front;
     split = e ∙ ap (λ x. w ++ x) o.split ∙ sym (append_assoc w o.front vs);
@@ -191,7 +193,8 @@ module _ {A B : Type 0} (p : Spot) (Q : List Lexeme → A → Lexeme → Type 0)
     first = o.first;
     end = o.end;
     of = o.of;
-    is = λ n f. subst (λ x. R x o.of n) (sym (append_assoc w o.front (o.token ∷ o.end))) (o.is n f (q (first_of (o.front ++ o.token ∷ o.end) n) (follows_sunk us o.front vs o.token o.behind o.end n o.split o.first))) }
+    is = λ n f. subst (λ x. R x o.of n) (sym (append_assoc w o.front (o.token ∷ o.end))) (o.is n f (q (first_of (o.front ++ o.token ∷ o.end) n) (follows_sunk us o.front vs o.token o.behind o.end n o.split o.first)));
+  }
 
   -- what stands behind nothing that is left
   pub record Rest (w : List Lexeme) : Type 0 where
@@ -242,14 +245,16 @@ module _ {A B : Type 0} (p : Spot) (E : List Lexeme → A → Type 0) (R : List 
   past w ts us h e (Read b rs vs) o = record {
     front = w ++ o.front;
     split = e ∙ ap (λ x. w ++ x) o.split ∙ sym (append_assoc w o.front vs);
-    is = o.is }
+    is = o.is;
+  }
   past w ts us h e (Bad rs vs) o = record {
     front = w ++ o.front;
     split = e ∙ ap (λ x. w ++ x) o.split ∙ sym (append_assoc w o.front vs);
     end = o.end;
     of = o.of;
     starts = next_starts p w o.front o.end h;
-    is = λ n f. subst (λ x. R x o.of n) (sym (append_assoc w o.front o.end)) (o.is n f) }
+    is = λ n f. subst (λ x. R x o.of n) (sym (append_assoc w o.front o.end)) (o.is n f);
+  }
   past w ts us h e (Deep rs vs) o = record {
     front = w ++ o.front;
     split = e ∙ ap (λ x. w ++ x) o.split ∙ sym (append_assoc w o.front vs);
@@ -258,7 +263,8 @@ module _ {A B : Type 0} (p : Spot) (E : List Lexeme → A → Type 0) (R : List 
     first = o.first;
     end = o.end;
     of = o.of;
-    is = λ n f. subst (λ x. R x o.of n) (sym (append_assoc w o.front (o.token ∷ o.end))) (o.is n f) }
+    is = λ n f. subst (λ x. R x o.of n) (sym (append_assoc w o.front (o.token ∷ o.end))) (o.is n f);
+  }
 
   pub record Tail (w : List Lexeme) : Type 0 where
     pub end : List Lexeme
@@ -363,7 +369,6 @@ module _ {A B : Type 0} (Q : List Lexeme → Turn A B → Lexeme → Type 0) (R 
     (stop : (w : List Lexeme) (b : B) (n : Lexeme) → Q w (Stop b) n → R w (stopped b) n)
     (go : (w v : List Lexeme) (a : A) (m : Many A B) (n : Lexeme) → Q w (Again a) (first_of v n) → R v m n → R (w ++ v) (begun a m) n)
     (some : Some AtFront R) where
-
   turned_next : (f : Parser (Many A B)) → SoundNext AtFront R f → (w : List Lexeme) (t : Turn A B) → SoundNext AtFront (Joined Q w t R) (turned f t)
   turned_next f l w (Again a) = next_made (begun a) l (λ v m n r q. go w v a m n q r)
   turned_next f l w (Stop b) = next_ret (λ n q. subst (λ x. R x (stopped b) n) (sym (append-nil w)) (stop w b n q))

@@ -1,1 +1,3 @@
 pub mod Parser
+pub mod Exprs
+pub mod Stmts

@@ -6,9 +6,9 @@ use Rattle.script_grammar.specs.declared.token.Kind.{Kind}
 use Rattle.script_grammar.specs.declared.token.FuncForm.{FuncForm}
 use Rattle.script_grammar.specs.Lexeme.{Lexeme}
 use Rattle.script_grammar.specs.Pieces.{Piece, At, Gap, Pass, Slot}
-use Rattle.pure_parser.specs.Parser.{Recorded, Reply, Read, Bad, Deep, Parser, head_of, rest_of, put_before, noted, after, ret, bad, deep, bind, peek, step, when, note, no_room, last_end, with_end, Turn, Again, Stop, turned, turns, loop, Many, stopped, begun, led}
+use Rattle.pure_parser.specs.Parser.{Recorded, Reply, Read, Bad, Deep, Parser, head_of, rest_of, put_before, noted, after, ret, bad, deep, bind, peek, step, when, note, no_room, Turn, Again, Stop, turned, turns, loop, Many, stopped, begun, led}
 use Rattle.pure_parser.proofs.Friendly.{first_of}
-use Rattle.pure_parser.proofs.Fitting.{head_first, last_end_append}
+use Rattle.pure_parser.proofs.Fitting.{head_first}
 use Rattle.pure_parser.proofs.Stands.{Marked, lexemes, Stands, Split, stands_split, lexemes_append, AreShallow}
 
 -- a reply without the bodies that were passed over
@@ -142,13 +142,6 @@ module _ (limit : ℕ) where
       bare_after (m (lexemes u ++ rest)) f
       ∙ ap (λ x. after x (λ a. barely (f a))) e
       ∙ p.by }
-
-  pub parses_with_end : {A B : Type 0} {m : Parser A} (g : A → ℕ → B) (x : Marked) {w : List Marked} {rest : List Lexeme} {a : A} → Parses limit m (x ∷ w) rest a → Parses limit (with_end g m) (x ∷ w) rest (g a (last_end (lexemes (x ∷ w)) []))
-  parses_with_end {m = m} g x {w = w} {rest = rest} {a = a} p = record { by =
-      bare_after (m (lexemes (x ∷ w) ++ rest)) (λ a us. Read (g a (last_end (lexemes (x ∷ w) ++ rest) us)) [] us)
-      ∙ ap (λ y. after y (λ a us. Read (g a (last_end (lexemes (x ∷ w) ++ rest) us)) [] us)) p.by
-      ∙ after_cut limit (x ∷ w) rest (Read a [] rest) (λ a us. Read (g a (last_end (lexemes (x ∷ w) ++ rest) us)) [] us)
-      ∙ ap (λ y. cut limit (x ∷ w) rest (Read (g a y) [] rest)) (last_end_append x.lexeme (lexemes w) rest) }
 
   -- a loop over the items of a list, and how it stops
   module _ {A B : Type 0} (K : A → Type 0) (pr : A → List Piece) (Follow : Lexeme → Type 0) (turn : Parser (Turn A B))

@@ -1,13 +1,13 @@
 -- Lexemes that stand at places.
-use Rattle.std.proofs.Common.{◌≡◌, ℕ, zero, suc, List, [], ◌∷◌, ◌++◌, length, refl, sym, ap, ◌∙◌, subst, append_assoc, Bool, true, false, Option, Some, None, nat_eq, if◌then◌else◌, arith, length-append}
-use Rattle.std.proofs.lemmas.Bool.{eq-eqb, ne_eqb}
+use Rattle.std.proofs.Common.{◌≡◌, ℕ, zero, suc, List, [], ◌∷◌, ◌++◌, length, refl, sym, ap, ◌∙◌, subst, append_assoc, Bool, true, false, Option, Some, None}
 use Rattle.script_grammar.specs.declared.token.Kind.{Kind}
 use Rattle.script_grammar.specs.declared.token.Kind.TheVariants as kind
 use Rattle.script_grammar.specs.Lexeme.{Lexeme, Role, no_role}
 use Rattle.script_grammar.specs.Kinds.{is_any_word}
 use Rattle.script_grammar.specs.Tree.{Named}
 use Rattle.script_grammar.specs.Pieces.{Piece, At, Gap, Pass, Slot, Ending, Wanted, Exactly, AnyWord, Is, Fits, IsWanted, may_omit, slot, mark_piece, word_piece, glued_mark, placed, closing_mark, number_piece, str_piece, text_piece, template_piece, name_piece, glued_name, any_word, role_piece, glue, ending_at, until, comma_piece, semi_piece}
-use Rattle.pure_parser.specs.Parser.{head_of, last_end}
+use Rattle.pure_parser.specs.Parser.{head_of}
+use Rattle.pure_parser.specs.Exprs.{last_end}
 use Rattle.pure_parser.proofs.Friendly.{first_of, Friendly, friendly_omits}
 use Rattle.pure_parser.proofs.Tests.{false_true}
 
@@ -115,34 +115,19 @@ fits_glue (At s ∷ ps) t w n e h = (record { kind = h.0.kind; content = h.0.con
 fits_glue (Gap g ∷ ps) t w n e h = h
 fits_glue (Pass ∷ ps) t w n e h = h
 
--- the end of the last lexeme
-
-last_here : (a b e f : ℕ) → a ≡ b → (if nat_eq a b then e else f) ≡ e
-last_here a b e f h = rw (eq-eqb a b h) refl
-
-last_there : (a b e f : ℕ) → (a ≡ b → ⊥) → (if nat_eq a b then e else f) ≡ f
-last_there a b e f h = rw (ne_eqb a b h) refl
-
-pub last_of_one : (t : Lexeme) (us : List Lexeme) → last_end (t ∷ us) us ≡ t.end
-last_of_one t us = last_here (length us) (length us) t.end (last_end us us) refl
-
-pub last_end_append : (t : Lexeme) (w us : List Lexeme) → last_end ((t ∷ w) ++ us) us ≡ last_end (t ∷ w) []
-last_end_append t [] us = last_of_one t us ∙ sym (last_of_one t [])
-last_end_append t (u ∷ w) us =
-    last_there (length ((u ∷ w) ++ us)) (length us) t.end (last_end ((u ∷ w) ++ us) us) (λ e. absurd (omega (arith, e, length-append (u ∷ w) us)))
-    ∙ last_end_append u w us
-    ∙ sym (last_there (length (u ∷ w)) 0 t.end (last_end (u ∷ w) []) (λ e. absurd (omega (arith, e))))
-
 -- the last of these lexemes, if there is one, ends at this offset
 abbrev pub EndsBy : List Lexeme → ℕ → Type 0
 EndsBy [] e = Unit {0}
 EndsBy (t ∷ []) e = t.end ≡ e
 EndsBy (t ∷ u ∷ w) e = EndsBy (u ∷ w) e
 
-pub ends_by_last : (w : List Lexeme) → EndsBy w (last_end w [])
-ends_by_last [] = tt
-ends_by_last (t ∷ []) = sym (last_of_one t [])
-ends_by_last (t ∷ u ∷ w) = subst (λ e. EndsBy (u ∷ w) e) (sym (last_there (length (u ∷ w)) 0 t.end (last_end (u ∷ w) []) (λ e. absurd (omega (arith, e))))) (ends_by_last (u ∷ w))
+pub ends_by_last : (t : Lexeme) (w : List Lexeme) (m : ℕ) → EndsBy (t ∷ w) (last_end m (t ∷ w))
+ends_by_last t [] m = refl
+ends_by_last t (u ∷ w) m = ends_by_last u w t.end
+
+pub ends_by : (w : List Lexeme) (m : ℕ) → EndsBy w (last_end m w)
+ends_by [] m = tt
+ends_by (t ∷ w) m = ends_by_last t w m
 
 ends_rest : (t : Lexeme) (w : List Lexeme) (e : ℕ) → EndsBy (t ∷ w) e → EndsBy w e
 ends_rest t [] e h = tt

@@ -1,10 +1,9 @@
 -- A parser looks at no lexeme behind the place where it stops.
-use Rattle.std.proofs.Common.{◌≡◌, ℕ, zero, suc, ◌+◌, ◌≤◌, ◌<◌, List, [], ◌∷◌, ◌++◌, length, refl, sym, ap, ◌∙◌, subst, arith, length-append, Bool, true, false, nat_eq}
-use Rattle.std.proofs.lemmas.Bool.{eq-eqb, ne_eqb, eqb-true, eqb-false}
+use Rattle.std.proofs.Common.{◌≡◌, ℕ, zero, suc, ◌+◌, ◌≤◌, ◌<◌, List, [], ◌∷◌, ◌++◌, length, refl, sym, ap, ◌∙◌, subst, arith, length-append, Bool, true, false}
 use Rattle.script_grammar.specs.declared.token.Kind.{Kind}
 use Rattle.script_grammar.specs.declared.token.FuncForm.{FuncForm}
 use Rattle.script_grammar.specs.Lexeme.{Lexeme}
-use Rattle.pure_parser.specs.Parser.{Recorded, Reply, Read, Bad, Deep, Parser, head_of, rest_of, put_before, noted, after, ret, bad, deep, bind, peek, step, when, note, no_room, last_end, with_end, Turn, Again, Stop, turned, turns, loop, Many, stopped, begun, led}
+use Rattle.pure_parser.specs.Parser.{Recorded, Reply, Read, Bad, Deep, Parser, head_of, rest_of, put_before, noted, after, ret, bad, deep, bind, peek, step, when, note, no_room, Turn, Again, Stop, turned, turns, loop, Many, stopped, begun, led}
 
 -- the lexemes that a reply leaves
 abbrev pub left : {A : Type 0} → Reply A → List Lexeme
@@ -122,39 +121,6 @@ step_same f l (t ∷ ts) q = l.same ts q
 
 pub local_step : {A : Type 0} {f : Parser A} → Local f → Local (step f)
 local_step {f = f} l = record { shorter = λ ts. omega (arith, l.shorter (rest_of ts), rest_shorter ts); same = step_same f l }
-
--- the end of the last lexeme that was read
-
-last_end_short : (q : List Lexeme) (us : List Lexeme) → length q ≤ length us → last_end q us ≡ 0
-last_end_short [] us h = refl
-last_end_short (t ∷ q) us h = rw (ne_eqb (length q) (length us) (λ e. absurd (omega (arith, e, h)))) (last_end_short q us (omega arith))
-
-last_end_by : (t : Lexeme) (ts us q : List Lexeme) → last_end (ts ++ q) (us ++ q) ≡ last_end ts us → (b : Bool) → nat_eq (length ts) (length us) ≡ b → last_end (t ∷ (ts ++ q)) (us ++ q) ≡ last_end (t ∷ ts) us
-last_end_by t ts us q h true e = rw (e, eq-eqb (length (ts ++ q)) (length (us ++ q)) (omega (arith, eqb-true (length ts) (length us) e, length-append ts q, length-append us q))) refl
-last_end_by t ts us q h false e = rw (e, ne_eqb (length (ts ++ q)) (length (us ++ q)) (λ k. eqb-false (length ts) (length us) e (omega (arith, k, length-append ts q, length-append us q)))) h
-
-last_end_grown : (ts us q : List Lexeme) → last_end (ts ++ q) (us ++ q) ≡ last_end ts us
-last_end_grown [] us q = last_end_short q (us ++ q) (omega (arith, length-append us q))
-last_end_grown (t ∷ ts) us q = last_end_by t ts us q (last_end_grown ts us q) (nat_eq (length ts) (length us)) refl
-
-end_shorter : {A B : Type 0} (g : A → ℕ → B) (ts : List Lexeme) (r : Reply A) → length (left (after r (λ a us. Read (g a (last_end ts us)) [] us))) ≡ length (left r)
-end_shorter g ts (Read a rs us) = ap length (left_noted rs (Read (g a (last_end ts us)) [] us))
-end_shorter g ts (Bad rs us) = refl
-end_shorter g ts (Deep rs us) = refl
-
-end_kept : {A B : Type 0} (g : A → ℕ → B) (ts q : List Lexeme) (r : Reply A) → after (grown q r) (λ a us. Read (g a (last_end (ts ++ q) us)) [] us) ≡ grown q (after r (λ a us. Read (g a (last_end ts us)) [] us))
-end_kept g ts q (Read a rs us) = ap (λ e. noted (grown_records q rs) (Read (g a e) [] (us ++ q))) (last_end_grown ts us q) ∙ grown_noted q rs (Read (g a (last_end ts us)) [] us)
-end_kept g ts q (Bad rs us) = refl
-end_kept g ts q (Deep rs us) = refl
-
-end_same : {A B : Type 0} (g : A → ℕ → B) (ts q : List Lexeme) (r s : Reply A) → Same q r s → Same q (after r (λ a us. Read (g a (last_end ts us)) [] us)) (after s (λ a us. Read (g a (last_end (ts ++ q) us)) [] us))
-end_same g ts q r s (out e h) = out (end_shorter g ts r ∙ e) (omega (arith, h, end_shorter g (ts ++ q) s))
-end_same g ts q r s (kept e) = kept (ap (λ x. after x (λ a us. Read (g a (last_end (ts ++ q) us)) [] us)) e ∙ end_kept g ts q r)
-
-pub local_with_end : {A B : Type 0} (g : A → ℕ → B) {m : Parser A} → Local m → Local (with_end g m)
-local_with_end g {m = m} l = record {
-  shorter = λ ts. omega (arith, l.shorter ts, end_shorter g ts (m ts));
-  same = λ ts q. end_same g ts q (m ts) (m (ts ++ q)) (l.same ts q) }
 
 -- loops
 

@@ -117,7 +117,7 @@ starts_end AtFront [] e v h k = λ n f. subst Friendly (sym (first_append e v n)
 
 -- conversions
 
-outcome_next : {A : Type 0} (p : Spot) (E : List Lexeme → A → Type 0) (ts : List Lexeme) (r : Reply A) → plain.Outcome p E ts r → Outcome p (Plain E) ts r
+outcome_next : {A : Type 0} (p : Spot) (E : List Lexeme → A → Type 0) (ts : List Lexeme) (r : Reply A) → plain.Outcome p E E ts r → Outcome p (Plain E) ts r
 outcome_next p E ts (Read a rs us) o = record { front = o.front; split = o.split; is = λ n f. o.is }
 outcome_next p E ts (Bad rs us) o = record { front = o.front; split = o.split; end = o.end; of = o.of; starts = starts_next p o.front o.end o.starts; is = λ n f. o.is }
   where
@@ -125,14 +125,14 @@ outcome_next p E ts (Bad rs us) o = record { front = o.front; split = o.split; e
     starts_next Inside w e h = tt
     starts_next AtFront (t ∷ w) e h = tt
     starts_next AtFront [] [] h = absurd h
-    starts_next AtFront [] (t ∷ e) h = λ n f. h
+    starts_next AtFront [] (t ∷ e) h = λ n f. h.friendly
 outcome_next p E ts (Deep rs us) o = record { front = o.front; split = o.split; token = o.token; behind = o.behind; first = o.first; end = o.end; of = o.of; is = λ n f. o.is }
 
 -- what does not depend on the lexeme behind it, among what does
 pub next_of : {A : Type 0} {p : Spot} {E : List Lexeme → A → Type 0} {f : Parser A} → Sound p E f → SoundNext p (Plain E) f
 next_of {p = p} {E = E} {f = f} s = record { at = λ ts. outcome_next p E ts (f ts) (s.at ts) }
 
-outcome_plain : {A : Type 0} (E : List Lexeme → A → Type 0) (ts : List Lexeme) (r : Reply A) → Outcome Inside (Plain E) ts r → plain.Outcome Inside E ts r
+outcome_plain : {A : Type 0} (E : List Lexeme → A → Type 0) (ts : List Lexeme) (r : Reply A) → Outcome Inside (Plain E) ts r → plain.Outcome Inside E E ts r
 outcome_plain E ts (Read a rs us) o = record { front = o.front; split = o.split; some = tt; is = o.is (head_of us) (stands refl) }
 outcome_plain E ts (Bad rs us) o = record { front = o.front; split = o.split; end = o.end; of = o.of; starts = tt; is = o.is end_lexeme end_friendly }
 outcome_plain E ts (Deep rs us) o = record { front = o.front; split = o.split; token = o.token; behind = o.behind; first = o.first; end = o.end; of = o.of; is = o.is end_lexeme end_friendly }
@@ -280,10 +280,10 @@ module _ {A B : Type 0} (p : Spot) (E : List Lexeme → A → Type 0) (R : List 
   starts_past Inside w e v h = tt
   starts_past AtFront (t ∷ w) e v h = tt
   starts_past AtFront [] [] v h = absurd h
-  starts_past AtFront [] (t ∷ e) v h = λ n f. h
+  starts_past AtFront [] (t ∷ e) v h = λ n f. h.friendly
 
   module _ (f : A → Parser B) (g : (w : List Lexeme) (a : A) → E w a → SoundNext Inside (Past w R) (f a)) where
-    past_after : (ts : List Lexeme) (r : Reply A) → plain.Outcome p E ts r → Outcome p R ts (after r f)
+    past_after : (ts : List Lexeme) (r : Reply A) → plain.Outcome p E E ts r → Outcome p R ts (after r f)
     past_after ts (Read a rs us) o = outcome_noted p R ts rs (f a us) (past o.front ts us o.some o.split (f a us) ((g o.front a o.is).at us))
     past_after ts (Bad rs us) o =
         let s = tail_of (o.front ++ o.end) (f o.of []) ((g (o.front ++ o.end) o.of o.is).at []) in

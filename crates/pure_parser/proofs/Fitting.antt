@@ -1,14 +1,14 @@
 -- Lexemes that stand at places.
-use Rattle.std.proofs.Common.{◌≡◌, ℕ, zero, suc, List, [], ◌∷◌, ◌++◌, length, refl, sym, ap, ◌∙◌, subst, append_assoc, Bool, true, false, Option, Some, None}
+use Rattle.std.proofs.Common.{◌≡◌, ℕ, zero, suc, List, [], ◌∷◌, ◌++◌, length, refl, sym, ap, ◌∙◌, subst, append_assoc, append-nil, Bool, true, false, Option, Some, None}
 use Rattle.script_grammar.specs.declared.token.Kind.{Kind}
 use Rattle.script_grammar.specs.declared.token.Kind.TheVariants as kind
 use Rattle.script_grammar.specs.Lexeme.{Lexeme, Role, no_role}
 use Rattle.script_grammar.specs.Kinds.{is_any_word}
 use Rattle.script_grammar.specs.Tree.{Named}
-use Rattle.script_grammar.specs.Pieces.{Piece, At, Gap, Pass, Slot, Ending, Wanted, Exactly, AnyWord, Is, Fits, IsWanted, may_omit, slot, mark_piece, word_piece, glued_mark, placed, closing_mark, number_piece, str_piece, text_piece, template_piece, name_piece, glued_name, any_word, role_piece, glue, ending_at, until, comma_piece, semi_piece}
+use Rattle.script_grammar.specs.Pieces.{Piece, At, Gap, Pass, Slot, Ending, Wanted, Exactly, AnyWord, Is, Fits, IsWanted, may_omit, slot, mark_piece, word_piece, glued_mark, placed, closing_mark, number_piece, str_piece, text_piece, template_piece, name_piece, glued_name, any_word, role_piece, glue, from, ending_at, until, comma_piece, semi_piece}
 use Rattle.pure_parser.specs.Parser.{head_of}
-use Rattle.pure_parser.specs.Exprs.{last_end}
-use Rattle.pure_parser.proofs.Friendly.{first_of, Friendly, friendly_omits}
+use Rattle.pure_parser.specs.Exprs.{last_end, named}
+use Rattle.pure_parser.proofs.Friendly.{first_of, Friendly, friendly_omits, Starter}
 use Rattle.pure_parser.proofs.Tests.{false_true}
 
 pub first_append : (v e : List Lexeme) (n : Lexeme) → first_of (v ++ e) n ≡ first_of v (first_of e n)
@@ -153,3 +153,51 @@ fits_until (At s ∷ p ∷ ps) [] n e h f = absurd f
 fits_until (At s ∷ p ∷ ps) (t ∷ w) n e h f = (f.0, fits_until (p ∷ ps) w n e (ends_rest t w e h) f.1)
 fits_until (Gap g ∷ p ∷ ps) [] n e h f = (f.0, fits_until (p ∷ ps) [] n e h f.1)
 fits_until (Gap g ∷ p ∷ ps) (t ∷ w) n e h f = (f.0, fits_until (p ∷ ps) (t ∷ w) n e h f.1)
+
+-- the first of these places starts at this offset
+pub fits_from : (ps : List Piece) (t : Lexeme) (w : List Lexeme) (n : Lexeme) (a : ℕ) → t.start ≡ a → Fits ps (t ∷ w) n → Fits (from a ps) (t ∷ w) n
+fits_from [] t w n a e h = absurd h
+fits_from (At s ∷ ps) t w n a e h = (record { kind = h.0.kind; content = h.0.content; starts = (e, h.0.starts); ends = h.0.ends; line = h.0.line }, h.1)
+fits_from (Gap g ∷ ps) t w n a e h = h
+fits_from (Pass ∷ ps) t w n a e h = h
+
+-- lexemes that stand at these places whatever follows them
+pub record FitsAll (ps : List Piece) (w : List Lexeme) : Type 0 where
+  pub before : (n : Lexeme) → Fits ps w n
+
+pub all_none : FitsAll [] []
+all_none = record { before = λ n. tt }
+
+pub all_append : {a b : List Piece} {u v : List Lexeme} → FitsAll a u → FitsAll b v → FitsAll (a ++ b) (u ++ v)
+all_append {a = a} {b = b} {u = u} {v = v} h k = record { before = λ n. fits_append a b u v n (h.before (first_of v n)) (k.before n) }
+
+pub all_mark : (i d : ℕ) (t : Lexeme) → t.kind ≡ kind.Mark i → FitsAll (mark_piece i d ∷ []) (t ∷ [])
+all_mark i d t e = record { before = λ n. fits_kind (kind.Mark i) d t n e }
+
+pub all_word : (i d : ℕ) (t : Lexeme) → t.kind ≡ kind.Word i → FitsAll (word_piece i d ∷ []) (t ∷ [])
+all_word i d t e = record { before = λ n. fits_kind (kind.Word i) d t n e }
+
+pub all_kind : (k : Kind) (d : ℕ) (t : Lexeme) → t.kind ≡ k → FitsAll (At (slot k d) ∷ []) (t ∷ [])
+all_kind k d t e = record { before = λ n. fits_kind k d t n e }
+
+pub all_placed : (k : Kind) (d : ℕ) (t : Lexeme) → t.kind ≡ k → FitsAll (placed k t.start d ∷ []) (t ∷ [])
+all_placed k d t e = record { before = λ n. fits_placed k d t n e }
+
+pub all_name : (d : ℕ) (t : Lexeme) → t.kind ≡ kind.Name → FitsAll (name_piece (named t) d ∷ []) (t ∷ [])
+all_name d t e = record { before = λ n. fits_text kind.Name d t n e }
+
+pub all_none_left : {ps : List Piece} {u v : List Lexeme} → FitsAll ps u → v ≡ [] → FitsAll ps (u ++ v)
+all_none_left {ps = ps} {u = u} h e = subst (λ x. FitsAll ps (u ++ x)) (sym e) (subst (λ x. FitsAll ps x) (sym (append-nil u)) h)
+
+pub all_same : {ps qs : List Piece} {u : List Lexeme} → ps ≡ qs → FitsAll ps u → FitsAll qs u
+all_same {u = u} e h = subst (λ x. FitsAll x u) e h
+
+-- a lexeme of a kind, and the number 0 on a line of its own
+abbrev pub lexeme_of_kind : Kind → Lexeme
+lexeme_of_kind k = record { kind = k; text = []; number = 0; role = no_role; start = 0; end = 0; after_line = false }
+
+abbrev pub zero_lexeme : Lexeme
+zero_lexeme = record { kind = kind.Number; text = []; number = 0; role = no_role; start = 0; end = 0; after_line = true }
+
+pub zero_starts : Starter zero_lexeme
+zero_starts = record { friendly = record { omits = refl }; number = refl }

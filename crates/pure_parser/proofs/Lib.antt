@@ -8,3 +8,5 @@ pub mod Stands
 pub mod Complete
 pub mod Refuse
 pub mod Agrees
+pub mod SoundParts
+pub mod SoundLists

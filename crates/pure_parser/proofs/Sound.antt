@@ -63,21 +63,21 @@ abbrev pub Sound : {A : Type 0} → Spot → (List Lexeme → A → Type 0) → 
 Sound p R f = Leads p R R f
 
 -- some lexemes that are read
-pub record Some {A : Type 0} (p : Spot) (R : List Lexeme → A → Type 0) : Type 0 where
+pub record Mended {A : Type 0} (p : Spot) (R : List Lexeme → A → Type 0) : Type 0 where
   pub end : List Lexeme
   pub of : A
   pub starts : Starts p [] end
   pub is : R end of
 
-outcome_some : {A : Type 0} (R S : List Lexeme → A → Type 0) → ((w : List Lexeme) (a : A) → R w a → S w a) → (ts : List Lexeme) (r : Reply A) → Outcome Inside R S ts r → Some Inside S
+outcome_some : {A : Type 0} (R S : List Lexeme → A → Type 0) → ((w : List Lexeme) (a : A) → R w a → S w a) → (ts : List Lexeme) (r : Reply A) → Outcome Inside R S ts r → Mended Inside S
 outcome_some R S f ts (Read a rs us) o = record { end = o.front; of = a; starts = tt; is = f o.front a o.is }
 outcome_some R S f ts (Bad rs us) o = record { end = o.front ++ o.end; of = o.of; starts = tt; is = o.is }
 outcome_some R S f ts (Deep rs us) o = record { end = o.front ++ o.token ∷ o.end; of = o.of; starts = tt; is = o.is }
 
-pub leads_some : {A : Type 0} {R S : List Lexeme → A → Type 0} {f : Parser A} → ((w : List Lexeme) (a : A) → R w a → S w a) → Leads Inside R S f → Some Inside S
+pub leads_some : {A : Type 0} {R S : List Lexeme → A → Type 0} {f : Parser A} → ((w : List Lexeme) (a : A) → R w a → S w a) → Leads Inside R S f → Mended Inside S
 leads_some {R = R} {S = S} {f = f} h s = outcome_some R S h [] (f []) (s.at [])
 
-pub sound_some : {A : Type 0} {R : List Lexeme → A → Type 0} {f : Parser A} → Sound Inside R f → Some Inside R
+pub sound_some : {A : Type 0} {R : List Lexeme → A → Type 0} {f : Parser A} → Sound Inside R f → Mended Inside R
 sound_some s = leads_some (λ w a h. h) s
 
 outcome_map : {A : Type 0} (p : Spot) (R S R2 S2 : List Lexeme → A → Type 0) → ((w : List Lexeme) (a : A) → R w a → R2 w a) → ((w : List Lexeme) (a : A) → S w a → S2 w a) → (ts : List Lexeme) (r : Reply A) → Outcome p R S ts r → Outcome p R2 S2 ts r
@@ -136,7 +136,7 @@ outcome_behind p R S w ts us h e (Read a rs vs) o = record { front = w ++ o.fron
 outcome_behind p R S w ts us h e (Bad rs vs) o = record { front = w ++ o.front; split = e ∙ ap (λ x. w ++ x) o.split ∙ sym (append_assoc w o.front vs); end = o.end; of = o.of; starts = reads_start p w o.front o.end h; is = subst (λ x. S x o.of) (sym (append_assoc w o.front o.end)) o.is }
 outcome_behind p R S w ts us h e (Deep rs vs) o = record { front = w ++ o.front; split = e ∙ ap (λ x. w ++ x) o.split ∙ sym (append_assoc w o.front vs); token = o.token; behind = o.behind; first = o.first; end = o.end; of = o.of; is = subst (λ x. S x o.of) (sym (append_assoc w o.front (o.token ∷ o.end))) o.is }
 
-outcome_after : {A B : Type 0} (p : Spot) (Q E : List Lexeme → A → Type 0) (R S : List Lexeme → B → Type 0) (f : A → Parser B) → ((w : List Lexeme) (a : A) → Q w a → Leads Inside (Behind w R) (Behind w S) (f a)) → ((w : List Lexeme) (a : A) → E w a → Some Inside (Behind w S)) → (ts : List Lexeme) (r : Reply A) → Outcome p Q E ts r → Outcome p R S ts (after r f)
+outcome_after : {A B : Type 0} (p : Spot) (Q E : List Lexeme → A → Type 0) (R S : List Lexeme → B → Type 0) (f : A → Parser B) → ((w : List Lexeme) (a : A) → Q w a → Leads Inside (Behind w R) (Behind w S) (f a)) → ((w : List Lexeme) (a : A) → E w a → Mended Inside (Behind w S)) → (ts : List Lexeme) (r : Reply A) → Outcome p Q E ts r → Outcome p R S ts (after r f)
 outcome_after p Q E R S f g k ts (Read a rs us) o = outcome_noted p R S ts rs (f a us) (outcome_behind p R S o.front ts us o.some o.split (f a us) ((g o.front a o.is).at us))
 outcome_after p Q E R S f g k ts (Bad rs us) o =
     let s = k (o.front ++ o.end) o.of o.is in
@@ -146,7 +146,7 @@ outcome_after p Q E R S f g k ts (Deep rs us) o =
     record { front = o.front; split = o.split; token = o.token; behind = o.behind; first = o.first; end = o.end ++ s.end; of = s.of; is = subst (λ x. S x s.of) (append_assoc o.front (o.token ∷ o.end) s.end) s.is }
 
 -- a fault of the first part is completed, and what that is by the second
-pub leads_bind : {A B : Type 0} {p : Spot} {Q E : List Lexeme → A → Type 0} {R S : List Lexeme → B → Type 0} {m : Parser A} {f : A → Parser B} → Leads p Q E m → ((w : List Lexeme) (a : A) → Q w a → Leads Inside (Behind w R) (Behind w S) (f a)) → ((w : List Lexeme) (a : A) → E w a → Some Inside (Behind w S)) → Leads p R S (bind m f)
+pub leads_bind : {A B : Type 0} {p : Spot} {Q E : List Lexeme → A → Type 0} {R S : List Lexeme → B → Type 0} {m : Parser A} {f : A → Parser B} → Leads p Q E m → ((w : List Lexeme) (a : A) → Q w a → Leads Inside (Behind w R) (Behind w S) (f a)) → ((w : List Lexeme) (a : A) → E w a → Mended Inside (Behind w S)) → Leads p R S (bind m f)
 leads_bind {p = p} {Q = Q} {E = E} {R = R} {S = S} {m = m} {f = f} s g k = record { at = λ ts. outcome_after p Q E R S f g k ts (m ts) (s.at ts) }
 
 pub sound_bind : {A B : Type 0} {p : Spot} {Q : List Lexeme → A → Type 0} {R : List Lexeme → B → Type 0} {m : Parser A} {f : A → Parser B} → Sound p Q m → ((w : List Lexeme) (a : A) → Q w a → Sound Inside (Behind w R) (f a)) → Sound p R (bind m f)
@@ -161,7 +161,7 @@ sound_done R w a h = sound_ret (subst (λ x. R x a) (sym (append-nil w)) h)
 pub leads_done : {A : Type 0} (R S : List Lexeme → A → Type 0) (w : List Lexeme) (a : A) → R w a → Leads Inside (Behind w R) (Behind w S) (ret a)
 leads_done R S w a h = sound_ret (subst (λ x. R x a) (sym (append-nil w)) h)
 
-pub some_done : {A : Type 0} (S : List Lexeme → A → Type 0) (w : List Lexeme) (a : A) → S w a → Some Inside (Behind w S)
+pub some_done : {A : Type 0} (S : List Lexeme → A → Type 0) (w : List Lexeme) (a : A) → S w a → Mended Inside (Behind w S)
 some_done S w a h = record { end = []; of = a; starts = tt; is = subst (λ x. S x a) (sym (append-nil w)) h }
 
 -- what is read is made into another value
@@ -171,7 +171,7 @@ sound_made {R = R} g s h = sound_bind s (λ w a q. sound_done R w (g a) (h w a q
 pub leads_made : {A B : Type 0} {p : Spot} {Q E : List Lexeme → A → Type 0} {R S : List Lexeme → B → Type 0} {m : Parser A} (g : A → B) → Leads p Q E m → ((w : List Lexeme) (a : A) → Q w a → R w (g a)) → ((w : List Lexeme) (a : A) → E w a → S w (g a)) → Leads p R S (bind m (λ a. ret (g a)))
 leads_made {R = R} {S = S} g s h k = leads_bind s (λ w a q. leads_done R S w (g a) (h w a q)) (λ w a e. some_done S w (g a) (k w a e))
 
-pub sound_bad : {A : Type 0} {p : Spot} {R S : List Lexeme → A → Type 0} → Some p S → Leads p R S (bad {A = A})
+pub sound_bad : {A : Type 0} {p : Spot} {R S : List Lexeme → A → Type 0} → Mended p S → Leads p R S (bad {A = A})
 sound_bad s = record { at = λ ts. record { front = []; split = refl; end = s.end; of = s.of; starts = s.starts; is = s.is } }
 
 pub sound_note : (form : FuncForm) (room : ℕ) (simple : Bool) → Sound Inside (λ w u. w ≡ []) (note form room simple)
@@ -205,6 +205,66 @@ sound_peek_at p R S f s e (t ∷ ts) = (s t).first ts
 pub sound_peek : {A : Type 0} {p : Spot} {R S : List Lexeme → A → Type 0} {f : Lexeme → Parser A} → ((t : Lexeme) → LeadsAt p R S t (f t)) → Leads p R S (f (head_of [])) → Leads p R S (peek f)
 sound_peek {p = p} {R = R} {S = S} {f = f} s e = record { at = sound_peek_at p R S f s e }
 
+-- the same, where what is done depends on the lexeme
+pub sound_look : {A : Type 0} {p : Spot} {R S : List Lexeme → A → Type 0} {f : Lexeme → Parser A} → ((t : Lexeme) → LeadsAt p R S t (f t)) → Outcome p R S [] (f (head_of []) []) → Leads p R S (peek f)
+sound_look {p = p} {R = R} {S = S} {f = f} s e = record { at = look_at }
+  where
+    look_at : (ts : List Lexeme) → Outcome p R S ts (peek f ts)
+    look_at [] = e
+    look_at (t ∷ ts) = (s t).first ts
+
+-- the first part at lexemes that begin with this one
+pub at_bind : {A B : Type 0} {p : Spot} {Q E : List Lexeme → A → Type 0} {R S : List Lexeme → B → Type 0} {t : Lexeme} {m : Parser A} {f : A → Parser B} → LeadsAt p Q E t m → ((w : List Lexeme) (a : A) → Q w a → Leads Inside (Behind w R) (Behind w S) (f a)) → ((w : List Lexeme) (a : A) → E w a → Mended Inside (Behind w S)) → LeadsAt p R S t (bind m f)
+at_bind {p = p} {Q = Q} {E = E} {R = R} {S = S} {t = t} {m = m} {f = f} s g k = record { first = λ ts. outcome_after p Q E R S f g k (t ∷ ts) (m (t ∷ ts)) (s.first ts) }
+
+-- which lexeme is the first of what was read
+abbrev pub BeginsAt : Lexeme → List Lexeme → Type 0
+BeginsAt t [] = ⊥
+BeginsAt t (u ∷ w) = u ≡ t
+
+-- or of what an end completes: a number, where none was read
+pub data Begun (t : Lexeme) (w : List Lexeme) : Type 0 where
+  here : BeginsAt t w → Begun t w
+  started : (u : Lexeme) (v : List Lexeme) → w ≡ u ∷ v → Starter u → Begun t w
+
+first_outcome : {A : Type 0} (R S : List Lexeme → A → Type 0) (t : Lexeme) (ts : List Lexeme) (r : Reply A) → Outcome AtFront R S (t ∷ ts) r → Outcome AtFront (λ w a. R w a × BeginsAt t w) (λ w a. S w a × Begun t w) (t ∷ ts) r
+first_outcome R S t ts (Read a rs us) o = record { front = o.front; split = o.split; some = o.some; is = (o.is, first_read o.front us o.some o.split) }
+  where
+    first_read : (w us : List Lexeme) → Reads AtFront w → t ∷ ts ≡ w ++ us → BeginsAt t w
+    first_read [] us h e = absurd h
+    first_read (u ∷ w) us h e = cc
+first_outcome R S t ts (Bad rs us) o = record { front = o.front; split = o.split; end = o.end; of = o.of; starts = o.starts; is = (o.is, first_bad o.front o.end us o.starts o.split) }
+  where
+    first_bad : (w e us : List Lexeme) → Starts AtFront w e → t ∷ ts ≡ w ++ us → Begun t (w ++ e)
+    first_bad [] [] us h k = absurd h
+    first_bad [] (u ∷ e) us h k = started u e refl h
+    first_bad (u ∷ w) e us h k = here (cc)
+first_outcome R S t ts (Deep rs us) o = record { front = o.front; split = o.split; token = o.token; behind = o.behind; first = o.first; end = o.end; of = o.of; is = (o.is, first_deep o.front us o.token o.behind o.end o.first o.split) }
+  where
+    first_deep : (w us : List Lexeme) (x : Lexeme) (bs e : List Lexeme) → us ≡ x ∷ bs → t ∷ ts ≡ w ++ us → Begun t (w ++ x ∷ e)
+    first_deep [] us x bs e h k = here (cc)
+    first_deep (u ∷ w) us x bs e h k = here (cc)
+
+pub sound_first : {A : Type 0} {R S : List Lexeme → A → Type 0} {f : Parser A} (t : Lexeme) → Leads AtFront R S f → LeadsAt AtFront (λ w a. R w a × BeginsAt t w) (λ w a. S w a × Begun t w) t f
+sound_first {R = R} {S = S} {f = f} t s = record { first = λ ts. first_outcome R S t ts (f (t ∷ ts)) (s.at (t ∷ ts)) }
+
+-- what stands at the front reads nothing where nothing is left
+end_outcome : {A B : Type 0} (Q E : List Lexeme → A → Type 0) (R S : List Lexeme → B → Type 0) (f : A → Parser B) → ((w : List Lexeme) (a : A) → E w a → Mended Inside (Behind w S)) → (r : Reply A) → Outcome AtFront Q E [] r → Outcome AtFront R S [] (after r f)
+end_outcome Q E R S f k (Read a rs us) o = absurd (none o.front us o.some o.split)
+  where
+    none : (w us : List Lexeme) → Reads AtFront w → [] ≡ w ++ us → ⊥
+    none [] us h e = absurd h
+    none (u ∷ w) us h e = cc
+end_outcome Q E R S f k (Bad rs us) o =
+    let s = k (o.front ++ o.end) o.of o.is in
+    record { front = o.front; split = o.split; end = o.end ++ s.end; of = s.of; starts = starts_append AtFront o.front o.end s.end o.starts; is = subst (λ x. S x s.of) (append_assoc o.front o.end s.end) s.is }
+end_outcome Q E R S f k (Deep rs us) o =
+    let s = k (o.front ++ o.token ∷ o.end) o.of o.is in
+    record { front = o.front; split = o.split; token = o.token; behind = o.behind; first = o.first; end = o.end ++ s.end; of = s.of; is = subst (λ x. S x s.of) (append_assoc o.front (o.token ∷ o.end) s.end) s.is }
+
+pub end_bind : {A B : Type 0} {Q E : List Lexeme → A → Type 0} (R S : List Lexeme → B → Type 0) {m : Parser A} (f : A → Parser B) → Leads AtFront Q E m → ((w : List Lexeme) (a : A) → E w a → Mended Inside (Behind w S)) → Outcome AtFront R S [] (bind m f [])
+end_bind {Q = Q} {E = E} R S {m = m} f s k = end_outcome Q E R S f k (m []) (s.at [])
+
 at_bool : {A : Type 0} (p : Spot) (R S : List Lexeme → A → Type 0) (t : Lexeme) (f g : Parser A) (b c : Bool) → c ≡ b → (b ≡ true → LeadsAt p R S t f) → (b ≡ false → LeadsAt p R S t g) → LeadsAt p R S t (when c f g)
 at_bool p R S t f g true c e h k = subst (λ x. LeadsAt p R S t (when x f g)) (sym e) (h refl)
 at_bool p R S t f g false c e h k = subst (λ x. LeadsAt p R S t (when x f g)) (sym e) (k refl)
@@ -220,12 +280,12 @@ pub sound_when : {A : Type 0} {p : Spot} {R S : List Lexeme → A → Type 0} {f
 sound_when {p = p} {R = R} {S = S} {f = f} {g = g} b h k = sound_bool p R S f g b b refl h k
 
 -- without room: what begins so is completed by some end
-no_room_first : {A : Type 0} (p : Spot) (R S : List Lexeme → A → Type 0) (begins : Kind → Bool) → begins kind.End ≡ false → Some p S → ((t : Lexeme) → begins t.kind ≡ true → Some Inside (Behind (t ∷ []) S)) → (ts : List Lexeme) (b : Bool) → begins (head_of ts).kind ≡ b → Outcome p R S ts (when {A = A} b deep bad ts)
+no_room_first : {A : Type 0} (p : Spot) (R S : List Lexeme → A → Type 0) (begins : Kind → Bool) → begins kind.End ≡ false → Mended p S → ((t : Lexeme) → begins t.kind ≡ true → Mended Inside (Behind (t ∷ []) S)) → (ts : List Lexeme) (b : Bool) → begins (head_of ts).kind ≡ b → Outcome p R S ts (when {A = A} b deep bad ts)
 no_room_first p R S begins z s h ts false e = (sound_bad {R = R} s).at ts
 no_room_first p R S begins z s h [] true e = absurd (cc)
 no_room_first p R S begins z s h (t ∷ ts) true e = let k = h t e in (at_deep {p = p} {R = R} {S = S} t k.end k.of k.is).first ts
 
-pub sound_no_room : {A : Type 0} {p : Spot} {R S : List Lexeme → A → Type 0} (begins : Kind → Bool) → begins kind.End ≡ false → Some p S → ((t : Lexeme) → begins t.kind ≡ true → Some Inside (Behind (t ∷ []) S)) → Leads p R S (no_room {A = A} begins)
+pub sound_no_room : {A : Type 0} {p : Spot} {R S : List Lexeme → A → Type 0} (begins : Kind → Bool) → begins kind.End ≡ false → Mended p S → ((t : Lexeme) → begins t.kind ≡ true → Mended Inside (Behind (t ∷ []) S)) → Leads p R S (no_room {A = A} begins)
 sound_no_room {p = p} {R = R} {S = S} begins z s h = record { at = λ ts. no_room_first p R S begins z s h ts (begins (head_of ts).kind) refl }
 
 -- a loop: what one turn reads, and what all read; and what the ends make of the faults of a turn and of all
@@ -234,8 +294,8 @@ module _ {A B : Type 0} (Q E : List Lexeme → Turn A B → Type 0) (R S : List 
     (stop : (w : List Lexeme) (b : B) → Q w (Stop b) → R w (stopped b))
     (go : (w v : List Lexeme) (a : A) (m : Many A B) → Q w (Again a) → R v m → R (w ++ v) (begun a m))
     (go_end : (w v : List Lexeme) (a : A) (m : Many A B) → Q w (Again a) → S v m → S (w ++ v) (begun a m))
-    (fault : (w : List Lexeme) (t : Turn A B) → E w t → Some Inside (Behind w S))
-    (some : Some Inside S) where
+    (fault : (w : List Lexeme) (t : Turn A B) → E w t → Mended Inside (Behind w S))
+    (some : Mended Inside S) where
 
   turned_leads : (f : Parser (Many A B)) → Leads Inside R S f → (w : List Lexeme) (t : Turn A B) → Q w t → Leads Inside (Behind w R) (Behind w S) (turned f t)
   turned_leads f l w (Again a) q = leads_made (begun a) l (λ v m r. go w v a m q r) (λ v m r. go_end w v a m q r)
@@ -254,9 +314,9 @@ module _ {A B : Type 0} (Q : List Lexeme → Turn A B → Type 0) (R : List Lexe
     (s : Sound Inside Q turn)
     (stop : (w : List Lexeme) (b : B) → Q w (Stop b) → R w (stopped b))
     (go : (w v : List Lexeme) (a : A) (m : Many A B) → Q w (Again a) → R v m → R (w ++ v) (begun a m))
-    (some : Some Inside R) where
+    (some : Mended Inside R) where
 
-  fault_some : (w : List Lexeme) (t : Turn A B) → Q w t → Some Inside (Behind w R)
+  fault_some : (w : List Lexeme) (t : Turn A B) → Q w t → Mended Inside (Behind w R)
   fault_some w (Again a) q = record { end = some.end; of = begun a some.of; starts = tt; is = go w some.end a some.of q some.is }
   fault_some w (Stop b) q = some_done R w (stopped b) (stop w b q)
 

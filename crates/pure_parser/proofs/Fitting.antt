@@ -186,6 +186,33 @@ all_placed k d t e = record { before = λ n. fits_placed k d t n e }
 pub all_name : (d : ℕ) (t : Lexeme) → t.kind ≡ kind.Name → FitsAll (name_piece (named t) d ∷ []) (t ∷ [])
 all_name d t e = record { before = λ n. fits_text kind.Name d t n e }
 
+pub all_text : (k : Kind) (d : ℕ) (t : Lexeme) → t.kind ≡ k → FitsAll (text_piece k t.text t.start d ∷ []) (t ∷ [])
+all_text k d t e = record { before = λ n. fits_text k d t n e }
+
+pub all_template : (k : Kind) (d : ℕ) (t : Lexeme) → t.kind ≡ k → FitsAll (template_piece k t.text d ∷ []) (t ∷ [])
+all_template k d t e = record { before = λ n. fits_template k d t n e }
+
+pub all_closing : (i d : ℕ) (t : Lexeme) → t.kind ≡ kind.Mark i → FitsAll (closing_mark i t.end d ∷ []) (t ∷ [])
+all_closing i d t e = record { before = λ n. fits_closing i d t n e }
+
+pub all_number : (d : ℕ) (t : Lexeme) → t.kind ≡ kind.Number → FitsAll (number_piece t.start t.number d ∷ []) (t ∷ [])
+all_number d t e = record { before = λ n. fits_number d t n e }
+
+pub all_str : (d : ℕ) (t : Lexeme) → t.kind ≡ kind.Str → FitsAll (str_piece t.start t.end t.text d ∷ []) (t ∷ [])
+all_str d t e = record { before = λ n. fits_str d t n e }
+
+pub all_glued : (i d : ℕ) (t : Lexeme) → t.kind ≡ kind.Mark i → t.after_line ≡ false → FitsAll (glued_mark i d ∷ []) (t ∷ [])
+all_glued i d t e l = record { before = λ n. fits_glued i d t n e l }
+
+pub all_any_word : (d : ℕ) (t : Lexeme) → is_any_word t.kind ≡ true → FitsAll (any_word (t.start ∷ []) t.text d ∷ []) (t ∷ [])
+all_any_word d t e = record { before = λ n. fits_any_word d t n e }
+
+pub all_some_word : (d : ℕ) (t : Lexeme) → is_any_word t.kind ≡ true → FitsAll (any_word [] t.text d ∷ []) (t ∷ [])
+all_some_word d t e = record { before = λ n. fits_some_word d t n e }
+
+pub all_role : (r : Role) (d : ℕ) (t : Lexeme) → t.kind ≡ kind.Name → t.role ≡ r → FitsAll (role_piece r d ∷ []) (t ∷ [])
+all_role r d t e h = record { before = λ n. fits_role r d t n e h }
+
 pub all_none_left : {ps : List Piece} {u v : List Lexeme} → FitsAll ps u → v ≡ [] → FitsAll ps (u ++ v)
 all_none_left {ps = ps} {u = u} h e = subst (λ x. FitsAll ps (u ++ x)) (sym e) (subst (λ x. FitsAll ps x) (sym (append-nil u)) h)
 

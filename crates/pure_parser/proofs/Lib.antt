@@ -10,3 +10,4 @@ pub mod Refuse
 pub mod Agrees
 pub mod SoundParts
 pub mod SoundLists
+pub mod SoundFunctions

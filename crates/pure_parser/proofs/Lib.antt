@@ -11,3 +11,4 @@ pub mod Agrees
 pub mod SoundParts
 pub mod SoundLists
 pub mod SoundFunctions
+pub mod SoundObjects

@@ -205,3 +205,98 @@ module _ (m : Bodies) where
     listed_sound : (t : Lexeme) → t.kind ≡ kind.Mark mark.OPEN_PAREN → Sound Inside (Behind (t ∷ []) (IsHead d d)) (Exprs.listed_params v t.start)
     unfolding Exprs.listed_params
     listed_sound t e = sound_bind more_params_sound (λ u n r. sound_made (λ _. head_case t.start n) (expect_sound mark.CLOSE_PAREN d) (λ x _ c. head_is d d t u x n e r c))
+
+    -- The parameters that suit a form: a getter's and a setter's are few.
+
+    pub record SuitedHead (f : FuncForm) (u : List Lexeme) (h : Head) : Type 0 where
+      pub suits : SuitsForm f (params_of h.params) h.comma
+      pub is : IsHead d d u h
+
+    -- the forms of functions that are no arrows
+    abbrev pub IsPlainForm : FuncForm → Type 0
+    IsPlainForm form.Script = ⊥
+    IsPlainForm form.Function = Unit {0}
+    IsPlainForm form.Arrow = ⊥
+    IsPlainForm form.Method = Unit {0}
+    IsPlainForm form.Getter = Unit {0}
+    IsPlainForm form.Setter = Unit {0}
+
+    none_sound : (t : Lexeme) → t.kind ≡ kind.Mark mark.OPEN_PAREN → Sound Inside (Behind (t ∷ []) (SuitedHead form.Getter)) (Exprs.no_params t.start)
+    none_sound t e = sound_made (λ _. record { start = t.start; params = []; comma = false; bare = false }) (expect_sound mark.CLOSE_PAREN d) (λ x _ c. record { suits = (refl, refl); is = head_is d d t [] x (stopped Plain) e (params_none d d) c })
+
+    one_sound : (t : Lexeme) → t.kind ≡ kind.Mark mark.OPEN_PAREN → Sound Inside (Behind (t ∷ []) (SuitedHead form.Setter)) (Exprs.one_param v t.start)
+    one_sound t e = sound_bind param_sound (λ u p h. sound_made (λ _. record { start = t.start; params = p ∷ []; comma = false; bare = false }) (expect_sound mark.CLOSE_PAREN d) (λ x _ c. record {
+        suits = one_param p h.single;
+        is = head_is d d t u x (begun p (stopped Plain)) e (subst (λ y. ParamsMany d d y (begun p (stopped Plain))) (append-nil u) (params_first d d u [] p (stopped Plain) h (record { single = tt; proper = tt; fits = all_none }))) c }))
+      where
+        one_param : (p : Param) → p.rest ≡ false → IsOneParam (params_of (p ∷ [])) false
+        one_param p h = subst (λ r. IsOneParam (more_params p.name (maybe_expr_of p.value) r no_params) false) (sym h) refl
+
+    form_sound : (f : FuncForm) → IsPlainForm f → (t : Lexeme) → t.kind ≡ kind.Mark mark.OPEN_PAREN → Sound Inside (Behind (t ∷ []) (SuitedHead f)) (Exprs.form_params v f t.start)
+    form_sound form.Script i t e = absurd i
+    form_sound form.Function i t e = sound_map (λ u h r. record { suits = tt; is = r }) (listed_sound t e)
+    form_sound form.Arrow i t e = absurd i
+    form_sound form.Method i t e = sound_map (λ u h r. record { suits = tt; is = r }) (listed_sound t e)
+    form_sound form.Getter i t e = none_sound t e
+    form_sound form.Setter i t e = one_sound t e
+
+    head_sound : (f : FuncForm) → IsPlainForm f → Sound Inside (SuitedHead f) (Exprs.params_head v f)
+    unfolding Exprs.params_head
+    head_sound f i =
+        let open_paren : Lexeme = lexeme_of_kind (kind.Mark mark.OPEN_PAREN) in
+        let rest = sound_some (form_sound f i open_paren refl) in
+        let some : Mended Inside (SuitedHead f) = record { end = open_paren ∷ rest.end; of = rest.of; starts = tt; is = rest.is } in
+        sound_peek (λ t. at_when (is_mark mark.OPEN_PAREN t.kind) (λ e. at_step t (form_sound f i t (mark_known mark.OPEN_PAREN t.kind e))) (λ _. sound_at t (sound_bad some))) (sound_bad some)
+
+    -- a function from its parameters on
+    pub record IsFunctionOf (f : FuncForm) (name : Option Named) (u : List Lexeme) (x : Function) : Type 0 where
+      pub of : IsOf f name x
+      pub free : function_free x ≡ true
+      pub proper : ProperFunction m x
+      pub fits : FitsAll (print_function m d x) u
+
+    plain_arrow : (f : FuncForm) → IsPlainForm f → is_arrow_form f ≡ false
+    plain_arrow form.Script i = absurd i
+    plain_arrow form.Function i = refl
+    plain_arrow form.Arrow i = absurd i
+    plain_arrow form.Method i = refl
+    plain_arrow form.Getter i = refl
+    plain_arrow form.Setter i = refl
+
+    plain_print : (f : FuncForm) → is_arrow_form f ≡ false → (start end : ℕ) (name : Option Named) (ps : Params) (comma : Bool) (body : Body) → parenthesized false start d (print_params m d d ps) comma ++ print_body m d end body ≡ print_function m d (function f start end name ps comma false body)
+    plain_print f e start end name ps comma body = rw e refl
+
+    function_is : (f : FuncForm) → IsPlainForm f → (name : Option Named) (u x : List Lexeme) (h : Head) (b : BodyRead) → SuitedHead f u h → IsBraced m d f x b → IsFunctionOf f name (u ++ x) (function_case f name h b)
+    function_is f i name u x h b p q =
+        subst (λ y. IsFunctionOf f name (u ++ x) (function f h.start b.end name (params_of h.params) h.comma y b.body)) (sym p.is.bare)
+            (subst (λ y. IsFunctionOf f name (u ++ x) (function f h.start b.end name (params_of h.params) h.comma false y)) (sym q.is) (record {
+                of = (refl, refl);
+                free = refl;
+                proper = (p.is.are, p.suits, tt, p.is.proper, q.proper);
+                fits = all_same (plain_print f (plain_arrow f i) h.start b.end name (params_of h.params) h.comma (tree.BracedBody q.items)) (all_append p.is.fits q.fits) }))
+
+    pub function_sound : (f : FuncForm) (name : Option Named) → IsPlainForm f → Sound Inside (IsFunctionOf f name) (Exprs.function_of v f name)
+    unfolding Exprs.function_of
+    function_sound f name i = sound_bind (head_sound f i) (λ u h p. sound_made (function_case f name h) (s.body.braced f h.start (is_simple h.params)) (λ x b q. function_is f i name u x h b p q))
+
+    -- a function expression, behind its word
+
+    abbrev pub IsMaybeName : List Lexeme → Option Named → Type 0
+    IsMaybeName u o = FitsAll (print_name o d) u
+
+    pub maybe_name_sound : Sound Inside IsMaybeName Exprs.maybe_name
+    unfolding Exprs.maybe_name
+    maybe_name_sound = sound_peek (λ t. at_when (is_name t.kind) (λ e. at_step t (sound_ret {a = Some (named t)} (all_name d t (name_known t.kind e)))) (λ _. sound_at t (sound_ret {a = None} all_none))) (sound_ret {a = None} all_none)
+
+    func_is : (t : Lexeme) → t.kind ≡ kind.Word word.FUNCTION → (u x : List Lexeme) (o : Option Named) (f : Function) → IsMaybeName u o → IsFunctionOf form.Function o x f → IsExpr m false d 0 (t ∷ (u ++ x)) (tree.Func t.start f)
+    func_is t e u x o (function f start end name ps comma bare body) h r =
+        subst (λ y. IsFunctionOf form.Function o x (function y start end name ps comma bare body) → IsExpr m false d 0 (t ∷ (u ++ x)) (tree.Func t.start (function y start end name ps comma bare body))) (sym r.of.0)
+            (λ k. record {
+                rank_le = omega arith;
+                proper = (tt, k.proper);
+                in_if = k.free;
+                fits = all_append (all_placed (kind.Word word.FUNCTION) d t e) (all_append (subst (λ n. FitsAll (print_name n d) u) (sym k.of.1) h) k.fits) }) r
+
+    pub func_sound : (t : Lexeme) → t.kind ≡ kind.Word word.FUNCTION → Sound Inside (Behind (t ∷ []) (IsExpr m false d 0)) (Exprs.func_of v t.start)
+    unfolding Exprs.func_of
+    func_sound t e = sound_bind maybe_name_sound (λ u o h. sound_made (λ f. tree.Func t.start f) (function_sound form.Function o tt) (λ x f r. func_is t e u x o f h r))

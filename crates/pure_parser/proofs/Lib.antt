@@ -12,3 +12,6 @@ pub mod SoundParts
 pub mod SoundLists
 pub mod SoundFunctions
 pub mod SoundObjects
+pub mod Rows
+mod CornerRows
+mod DepthRows

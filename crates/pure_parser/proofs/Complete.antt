@@ -5,10 +5,11 @@ use Rattle.std.proofs.lemmas.Bool.{le-ltb, lt-ltb}
 use Rattle.script_grammar.specs.declared.token.Kind.{Kind}
 use Rattle.script_grammar.specs.declared.token.FuncForm.{FuncForm}
 use Rattle.script_grammar.specs.Lexeme.{Lexeme}
-use Rattle.script_grammar.specs.Pieces.{Piece, At, Gap, Slot, Fits}
-use Rattle.pure_parser.specs.Parser.{Recorded, Reply, Read, Bad, Deep, Parser, head_of, rest_of, put_before, noted, after, ret, bad, deep, bind, peek, step, when, note, no_room, last_end, with_end, Turn, Again, Stop, turned, turns, loop, Many, stopped, begun, led}
+use Rattle.script_grammar.specs.Pieces.{Piece, At, Gap, Pass, Slot}
+use Rattle.pure_parser.specs.Parser.{Recorded, Reply, Read, Bad, Deep, Parser, head_of, rest_of, put_before, noted, after, ret, bad, deep, bind, peek, step, when, note, no_room, Turn, Again, Stop, turned, turns, loop, Many, stopped, begun, led}
 use Rattle.pure_parser.proofs.Friendly.{first_of}
-use Rattle.pure_parser.proofs.Fitting.{fits_part, Parted, head_first, last_end_append}
+use Rattle.pure_parser.proofs.Fitting.{head_first}
+use Rattle.pure_parser.proofs.Stands.{Marked, lexemes, Stands, Split, stands_split, lexemes_append, AreShallow}
 
 -- a reply without the bodies that were passed over
 abbrev pub bare : {A : Type 0} → Reply A → Reply A
@@ -33,38 +34,33 @@ bare_after (Read a rs ts) f = bare_noted rs (f a ts)
 bare_after (Bad rs ts) f = refl
 bare_after (Deep rs ts) f = refl
 
--- the reply, or that the first lexeme is too deep that stands at a place deeper than the limit
-abbrev pub cut : {A : Type 0} → ℕ → List Piece → List Lexeme → List Lexeme → Reply A → Reply A
-cut limit [] w rest r = r
-cut limit (Gap e ∷ ps) w rest r = cut limit ps w rest r
-cut limit (At s ∷ ps) [] rest r = r
-cut limit (At s ∷ ps) (t ∷ w) rest r = cond (nat_lt limit s.depth) (Deep [] (t ∷ (w ++ rest))) (cut limit ps w rest r)
+-- the reply, or that the first of these lexemes is too deep that is deeper than the limit
+abbrev pub cut : {A : Type 0} → ℕ → List Marked → List Lexeme → Reply A → Reply A
+cut limit [] rest r = r
+cut limit (x ∷ w) rest r = cond (nat_lt limit x.depth) (Deep [] (x.lexeme ∷ (lexemes w ++ rest))) (cut limit w rest r)
 
-pub cut_append : {A : Type 0} (limit : ℕ) (a b : List Piece) (u v rest : List Lexeme) (n : Lexeme) (r : Reply A) → Fits a u n → cut limit (a ++ b) (u ++ v) rest r ≡ cut limit a u (v ++ rest) (cut limit b v rest r)
-cut_append limit [] b [] v rest n r h = refl
-cut_append limit [] b (t ∷ u) v rest n r h = absurd h
-cut_append limit (Gap e ∷ a) b [] v rest n r h = cut_append limit a b [] v rest n r h.1
-cut_append limit (Gap e ∷ a) b (t ∷ u) v rest n r h = cut_append limit a b (t ∷ u) v rest n r h.1
-cut_append limit (At s ∷ a) b [] v rest n r h = absurd h
-cut_append limit (At s ∷ a) b (t ∷ u) v rest n r h =
-    ap (λ x. cond (nat_lt limit s.depth) (Deep [] (t ∷ x)) (cut limit (a ++ b) (u ++ v) rest r)) (append_assoc u v rest)
-    ∙ ap (λ x. cond (nat_lt limit s.depth) (Deep [] (t ∷ (u ++ (v ++ rest)))) x) (cut_append limit a b u v rest n r h.1)
+pub joined : (u v : List Marked) (rest : List Lexeme) → lexemes (u ++ v) ++ rest ≡ lexemes u ++ (lexemes v ++ rest)
+joined u v rest = ap (λ x. x ++ rest) (lexemes_append u v) ∙ append_assoc (lexemes u) (lexemes v) rest
+
+pub cut_append : {A : Type 0} (limit : ℕ) (u v : List Marked) (rest : List Lexeme) (r : Reply A) → cut limit (u ++ v) rest r ≡ cut limit u (lexemes v ++ rest) (cut limit v rest r)
+cut_append limit [] v rest r = refl
+cut_append limit (x ∷ u) v rest r =
+    ap (λ y. cond (nat_lt limit x.depth) (Deep [] (x.lexeme ∷ y)) (cut limit (u ++ v) rest r)) (joined u v rest)
+    ∙ ap (λ y. cond (nat_lt limit x.depth) (Deep [] (x.lexeme ∷ (lexemes u ++ (lexemes v ++ rest)))) y) (cut_append limit u v rest r)
 
 after_cond : {A B : Type 0} (b : Bool) (r s : Reply A) (f : A → Parser B) → after (cond b r s) f ≡ cond b (after r f) (after s f)
 after_cond true r s f = refl
 after_cond false r s f = refl
 
-pub after_cut : {A B : Type 0} (limit : ℕ) (a : List Piece) (u rest : List Lexeme) (r : Reply A) (f : A → Parser B) → after (cut limit a u rest r) f ≡ cut limit a u rest (after r f)
-after_cut limit [] u rest r f = refl
-after_cut limit (Gap e ∷ a) u rest r f = after_cut limit a u rest r f
-after_cut limit (At s ∷ a) [] rest r f = refl
-after_cut limit (At s ∷ a) (t ∷ u) rest r f =
-    after_cond (nat_lt limit s.depth) _ _ f
-    ∙ ap (λ x. cond (nat_lt limit s.depth) (Deep [] (t ∷ (u ++ rest))) x) (after_cut limit a u rest r f)
+pub after_cut : {A B : Type 0} (limit : ℕ) (w : List Marked) (rest : List Lexeme) (r : Reply A) (f : A → Parser B) → after (cut limit w rest r) f ≡ cut limit w rest (after r f)
+after_cut limit [] rest r f = refl
+after_cut limit (x ∷ w) rest r f =
+    after_cond (nat_lt limit x.depth) _ _ f
+    ∙ ap (λ y. cond (nat_lt limit x.depth) (Deep [] (x.lexeme ∷ (lexemes w ++ rest))) y) (after_cut limit w rest r f)
 
 -- f reads a at these lexemes, up to the rest
-pub record Parses {A : Type 0} (limit : ℕ) (f : Parser A) (ps : List Piece) (w rest : List Lexeme) (a : A) : Type 0 where
-  pub by : bare (f (w ++ rest)) ≡ cut limit ps w rest (Read a [] rest)
+pub record Parses {A : Type 0} (limit : ℕ) (f : Parser A) (w : List Marked) (rest : List Lexeme) (a : A) : Type 0 where
+  pub by : bare (f (lexemes w ++ rest)) ≡ cut limit w rest (Read a [] rest)
 
 abbrev pub AllK : {A : Type 0} → (A → Type 0) → List A → Type 0
 AllK K [] = Unit {0}
@@ -87,111 +83,115 @@ deep_front limit a b f = record { first = f.first; others = f.others ++ b; split
 pub deep_at : (limit : ℕ) (s : Slot) (ps : List Piece) → limit < s.depth → DeepFront limit (At s ∷ ps)
 deep_at limit s ps h = record { first = s; others = ps; split = refl; below = h }
 
-cut_first : {A : Type 0} (limit : ℕ) (s : Slot) (ps : List Piece) (w q : List Lexeme) (n : Lexeme) (r : Reply A) → limit < s.depth → Fits (At s ∷ ps) w n → cut limit (At s ∷ ps) w q r ≡ Deep [] (w ++ q)
+cut_first : {A : Type 0} (limit : ℕ) (s : Slot) (ps : List Piece) (w : List Marked) (q : List Lexeme) (n : Lexeme) (r : Reply A) → limit < s.depth → Stands (At s ∷ ps) w n → cut limit w q r ≡ Deep [] (lexemes w ++ q)
 cut_first limit s ps [] q n r l k = absurd k
-cut_first limit s ps (x ∷ w) q n r l k = ap (λ b. cond b (Deep [] (x ∷ (w ++ q))) (cut limit ps w q r)) (lt-ltb limit s.depth l)
+cut_first limit s ps (x ∷ w) q n r l k = ap (λ b. cond b (Deep [] (x.lexeme ∷ (lexemes w ++ q))) (cut limit w q r)) (lt-ltb limit x.depth (omega (arith, l, k.1)))
 
-pub cut_deep : {A : Type 0} (limit : ℕ) (ps : List Piece) (w q : List Lexeme) (n : Lexeme) (r : Reply A) → DeepFront limit ps → Fits ps w n → cut limit ps w q r ≡ Deep [] (w ++ q)
-cut_deep limit ps w q n r f h = subst (λ x. Fits x w n → cut limit x w q r ≡ Deep [] (w ++ q)) (sym f.split) (λ k. cut_first limit f.first f.others w q n r f.below k) h
+pub cut_deep : {A : Type 0} (limit : ℕ) (ps : List Piece) (w : List Marked) (q : List Lexeme) (n : Lexeme) (r : Reply A) → DeepFront limit ps → Stands ps w n → cut limit w q r ≡ Deep [] (lexemes w ++ q)
+cut_deep limit ps w q n r f h = cut_first limit f.first f.others w q n r f.below (subst (λ x. Stands x w n) f.split h)
+
+-- lexemes that were passed over are not deep
+pub cut_shallow : {A : Type 0} (limit : ℕ) (w : List Marked) (rest : List Lexeme) (r : Reply A) → AreShallow w → cut limit w rest r ≡ r
+cut_shallow limit [] rest r h = refl
+cut_shallow limit (x ∷ w) rest r h = ap (λ b. cond b (Deep [] (x.lexeme ∷ (lexemes w ++ rest))) (cut limit w rest r)) (le-ltb limit x.depth (omega (arith, h.0))) ∙ cut_shallow limit w rest r h.1
 
 module _ (limit : ℕ) where
-  pub parses_ret : {A : Type 0} (a : A) (rest : List Lexeme) → Parses limit (ret a) [] [] rest a
+  pub parses_ret : {A : Type 0} (a : A) (rest : List Lexeme) → Parses limit (ret a) [] rest a
   parses_ret a rest = record { by = refl }
 
-  pub parses_note : (form : FuncForm) (room : ℕ) (simple : Bool) (rest : List Lexeme) → Parses limit (note form room simple) [] [] rest tt
+  pub parses_note : (form : FuncForm) (room : ℕ) (simple : Bool) (rest : List Lexeme) → Parses limit (note form room simple) [] rest tt
   parses_note form room simple rest = record { by = refl }
 
-  pub parses_bind : {A B : Type 0} {m : Parser A} (f : A → Parser B) {ss tt : List Piece} {u v rest : List Lexeme} {a : A} {b : B} (n : Lexeme) → Fits ss u n → Parses limit m ss u (v ++ rest) a → Parses limit (f a) tt v rest b → Parses limit (bind m f) (ss ++ tt) (u ++ v) rest b
-  parses_bind {m = m} f {ss = ss} {tt = tt} {u = u} {v = v} {rest = rest} {a = a} {b = b} n h p q = record { by =
-      bare_after (m ((u ++ v) ++ rest)) f
-      ∙ ap (λ x. after (bare (m x)) (λ a. barely (f a))) (append_assoc u v rest)
+  pub parses_bind : {A B : Type 0} {m : Parser A} (f : A → Parser B) {u v : List Marked} {rest : List Lexeme} {a : A} {b : B} → Parses limit m u (lexemes v ++ rest) a → Parses limit (f a) v rest b → Parses limit (bind m f) (u ++ v) rest b
+  parses_bind {m = m} f {u = u} {v = v} {rest = rest} {a = a} {b = b} p q = record { by =
+      bare_after (m (lexemes (u ++ v) ++ rest)) f
+      ∙ ap (λ x. after (bare (m x)) (λ a. barely (f a))) (joined u v rest)
       ∙ ap (λ x. after x (λ a. barely (f a))) p.by
-      ∙ after_cut limit ss u (v ++ rest) (Read a [] (v ++ rest)) (λ a. barely (f a))
-      ∙ ap (λ x. cut limit ss u (v ++ rest) x) q.by
-      ∙ sym (cut_append limit ss tt u v rest n (Read b [] rest) h) }
+      ∙ after_cut limit u (lexemes v ++ rest) (Read a [] (lexemes v ++ rest)) (λ a. barely (f a))
+      ∙ ap (λ x. cut limit u (lexemes v ++ rest) x) q.by
+      ∙ sym (cut_append limit u v rest (Read b [] rest)) }
 
-  pub shallow : {A : Type 0} (s : Slot) (r q : Reply A) → s.depth ≤ limit → cond (nat_lt limit s.depth) r q ≡ q
-  shallow s r q h = ap (λ b. cond b r q) (le-ltb limit s.depth h)
+  -- the same, where the lexemes are given whole
+  pub parses_parts : {A B : Type 0} {m : Parser A} (f : A → Parser B) (w u v : List Marked) {rest : List Lexeme} {a : A} {b : B} → w ≡ u ++ v → Parses limit m u (lexemes v ++ rest) a → Parses limit (f a) v rest b → Parses limit (bind m f) w rest b
+  parses_parts {m = m} f w u v {rest = rest} {b = b} e p q = subst (λ x. Parses limit (bind m f) x rest b) (sym e) (parses_bind f p q)
 
-  pub parses_step : {A : Type 0} {f : Parser A} {s : Slot} {ps : List Piece} {t : Lexeme} {w rest : List Lexeme} {a : A} → s.depth ≤ limit → Parses limit f ps w rest a → Parses limit (step f) (At s ∷ ps) (t ∷ w) rest a
-  parses_step {s = s} {t = t} {w = w} {rest = rest} h p = record { by = p.by ∙ sym (shallow s (Deep [] (t ∷ (w ++ rest))) _ h) }
+  pub shallow : {A : Type 0} (d : ℕ) (r q : Reply A) → d ≤ limit → cond (nat_lt limit d) r q ≡ q
+  shallow d r q h = ap (λ b. cond b r q) (le-ltb limit d h)
 
-  pub parses_peek : {A : Type 0} (f : Lexeme → Parser A) {ps : List Piece} {t : Lexeme} {w rest : List Lexeme} {a : A} → Parses limit (f t) ps (t ∷ w) rest a → Parses limit (peek f) ps (t ∷ w) rest a
-  parses_peek f p = record { by = p.by }
+  pub parses_step : {A : Type 0} {f : Parser A} (x : Marked) {w : List Marked} {rest : List Lexeme} {a : A} → x.depth ≤ limit → Parses limit f w rest a → Parses limit (step f) (x ∷ w) rest a
+  parses_step x {w = w} {rest = rest} h p = record { by = p.by ∙ sym (shallow x.depth (Deep [] (x.lexeme ∷ (lexemes w ++ rest))) _ h) }
+
+  pub parses_peek : {A : Type 0} (f : Lexeme → Parser A) (x : Marked) {w : List Marked} {rest : List Lexeme} {a : A} → Parses limit (f x.lexeme) (x ∷ w) rest a → Parses limit (peek f) (x ∷ w) rest a
+  parses_peek f x p = record { by = p.by }
 
   -- where nothing is read, the next lexeme is looked at
-  pub parses_look : {A : Type 0} (f : Lexeme → Parser A) {ps : List Piece} {rest : List Lexeme} {a : A} → Parses limit (f (head_of rest)) ps [] rest a → Parses limit (peek f) ps [] rest a
+  pub parses_look : {A : Type 0} (f : Lexeme → Parser A) {rest : List Lexeme} {a : A} → Parses limit (f (head_of rest)) [] rest a → Parses limit (peek f) [] rest a
   parses_look f p = record { by = p.by }
 
   -- a bind whose second part reads nothing
-  pub parses_map : {A B : Type 0} {m : Parser A} (f : A → Parser B) {ps : List Piece} {u rest : List Lexeme} {a : A} {b : B} → Parses limit m ps u rest a → bare (f a rest) ≡ Read b [] rest → Parses limit (bind m f) ps u rest b
-  parses_map {m = m} f {ps = ps} {u = u} {rest = rest} {a = a} {b = b} p e = record { by =
-      bare_after (m (u ++ rest)) f
+  pub parses_map : {A B : Type 0} {m : Parser A} (f : A → Parser B) {u : List Marked} {rest : List Lexeme} {a : A} {b : B} → Parses limit m u rest a → bare (f a rest) ≡ Read b [] rest → Parses limit (bind m f) u rest b
+  parses_map {m = m} f {u = u} {rest = rest} {a = a} {b = b} p e = record { by =
+      bare_after (m (lexemes u ++ rest)) f
       ∙ ap (λ x. after x (λ a. barely (f a))) p.by
-      ∙ after_cut limit ps u rest (Read a [] rest) (λ a. barely (f a))
-      ∙ ap (λ x. cut limit ps u rest x) e }
+      ∙ after_cut limit u rest (Read a [] rest) (λ a. barely (f a))
+      ∙ ap (λ x. cut limit u rest x) e }
 
   -- a bind whose first part reads nothing
-  pub parses_then : {A B : Type 0} (m : Parser A) (f : A → Parser B) {ps : List Piece} {u rest : List Lexeme} {a : A} {b : B} → bare (m (u ++ rest)) ≡ Read a [] (u ++ rest) → Parses limit (f a) ps u rest b → Parses limit (bind m f) ps u rest b
+  pub parses_then : {A B : Type 0} (m : Parser A) (f : A → Parser B) {u : List Marked} {rest : List Lexeme} {a : A} {b : B} → bare (m (lexemes u ++ rest)) ≡ Read a [] (lexemes u ++ rest) → Parses limit (f a) u rest b → Parses limit (bind m f) u rest b
   parses_then m f {u = u} {rest = rest} e p = record { by =
-      bare_after (m (u ++ rest)) f
+      bare_after (m (lexemes u ++ rest)) f
       ∙ ap (λ x. after x (λ a. barely (f a))) e
       ∙ p.by }
 
-  pub parses_with_end : {A B : Type 0} {m : Parser A} (g : A → ℕ → B) {ps : List Piece} {t : Lexeme} {w rest : List Lexeme} {a : A} → Parses limit m ps (t ∷ w) rest a → Parses limit (with_end g m) ps (t ∷ w) rest (g a (last_end (t ∷ w) []))
-  parses_with_end {m = m} g {ps = ps} {t = t} {w = w} {rest = rest} {a = a} p = record { by =
-      bare_after (m (t ∷ (w ++ rest))) (λ a us. Read (g a (last_end (t ∷ (w ++ rest)) us)) [] us)
-      ∙ ap (λ x. after x (λ a us. Read (g a (last_end (t ∷ (w ++ rest)) us)) [] us)) p.by
-      ∙ after_cut limit ps (t ∷ w) rest (Read a [] rest) (λ a us. Read (g a (last_end (t ∷ (w ++ rest)) us)) [] us)
-      ∙ ap (λ x. cut limit ps (t ∷ w) rest (Read (g a x) [] rest)) (last_end_append t w rest) }
-
   -- a loop over the items of a list, and how it stops
   module _ {A B : Type 0} (K : A → Type 0) (pr : A → List Piece) (Follow : Lexeme → Type 0) (turn : Parser (Turn A B))
-      (each : (x : A) (u q : List Lexeme) → K x → Fits (pr x) u (head_of q) → Follow (head_of q) → Parses limit turn (pr x) u q (Again x))
-      (some : (x : A) (u : List Lexeme) (n : Lexeme) → K x → Fits (pr x) u n → 0 < length u)
-      (next : (x : A) (u q : List Lexeme) → K x → Fits (pr x) u (head_of q) → Follow (head_of (u ++ q))) where
+      (each : (x : A) (u : List Marked) (q : List Lexeme) → K x → Stands (pr x) u (head_of q) → Follow (head_of q) → Parses limit turn u q (Again x))
+      (some : (x : A) (u : List Marked) (n : Lexeme) → K x → Stands (pr x) u n → 0 < length (lexemes u))
+      (next : (x : A) (u : List Marked) (n : Lexeme) → K x → Stands (pr x) u n → Follow (first_of (lexemes u) n)) where
 
-    follow_flat : (xs : List A) (w q : List Lexeme) → AllK K xs → Fits (flat pr xs) w (head_of q) → Follow (head_of q) → Follow (head_of (w ++ q))
-    follow_flat [] [] q k h f = f
-    follow_flat [] (t ∷ w) q k h f = absurd h
-    follow_flat (x ∷ xs) w q k h f =
-        let p = fits_part (pr x) (flat pr xs) w (head_of q) h in
-        subst (λ y. Follow (head_of y)) (sym (append_assoc p.front p.back q) ∙ ap (λ y. y ++ q) (sym p.split)) (next x p.front (p.back ++ q) k.0 (subst (λ y. Fits (pr x) p.front y) (sym (head_first p.back q)) p.first))
+    follow_flat : (xs : List A) (w : List Marked) (n : Lexeme) → AllK K xs → Stands (flat pr xs) w n → Follow n → Follow (first_of (lexemes w) n)
+    follow_flat [] [] n k h f = f
+    follow_flat [] (t ∷ w) n k h f = absurd h
+    follow_flat (x ∷ xs) w n k h f =
+        let p = stands_split (pr x) (flat pr xs) w n h in
+        subst Follow (sym (ap (λ y. first_of (lexemes y) n) p.split ∙ ap (λ y. first_of y n) (lexemes_append p.front p.back) ∙ first_append2 (lexemes p.front) (lexemes p.back) n)) (next x p.front (first_of (lexemes p.back) n) k.0 p.first)
+      where
+        first_append2 : (v e : List Lexeme) (n : Lexeme) → first_of (v ++ e) n ≡ first_of v (first_of e n)
+        first_append2 [] e n = refl
+        first_append2 (t ∷ v) e n = refl
 
-    turns_parse : (xs : List A) (w : List Lexeme) (ss : List Piece) (v rest : List Lexeme) (b : B) → AllK K xs → Fits (flat pr xs) w (head_of (v ++ rest)) → Follow (head_of (v ++ rest)) → Parses limit turn ss v rest (Stop b) → (n : ℕ) → length (w ++ (v ++ rest)) < n → Parses limit (turns turn n) (flat pr xs ++ ss) (w ++ v) rest (record { items = xs; last = b })
+    turns_parse : (xs : List A) (w v : List Marked) (rest : List Lexeme) (b : B) → AllK K xs → Stands (flat pr xs) w (head_of (lexemes v ++ rest)) → Follow (head_of (lexemes v ++ rest)) → Parses limit turn v rest (Stop b) → (n : ℕ) → length (lexemes w ++ (lexemes v ++ rest)) < n → Parses limit (turns turn n) (w ++ v) rest (record { items = xs; last = b })
     unfolding turns
-    turns_parse xs w ss v rest b k h f p zero lt = absurd (omega arith)
-    turns_parse [] (t ∷ w) ss v rest b k h f p (suc n) lt = absurd h
-    turns_parse [] [] ss v rest b k h f p (suc n) lt = parses_map (turned (turns turn n)) p refl
-    turns_parse (x ∷ xs) w ss v rest b k h f p (suc n) lt =
-        let q = fits_part (pr x) (flat pr xs) w (head_of (v ++ rest)) h in
-        let here : Fits (pr x) q.front (head_of (q.back ++ (v ++ rest))) = subst (λ y. Fits (pr x) q.front y) (sym (head_first q.back (v ++ rest))) q.first in
-        let long : 0 < length q.front = some x q.front (head_of (q.back ++ (v ++ rest))) k.0 here in
-        let e : w ++ (v ++ rest) ≡ q.front ++ (q.back ++ (v ++ rest)) = ap (λ y. y ++ (v ++ rest)) q.split ∙ append_assoc q.front q.back (v ++ rest) in
-        let short : length (q.back ++ (v ++ rest)) < n = omega (arith, ap length e, length-append q.front (q.back ++ (v ++ rest))) in
-        let again = turns_parse xs q.back ss v rest b k.1 q.second f p n short in
-        let first = each x q.front (q.back ++ (v ++ rest)) k.0 here (follow_flat xs q.back (v ++ rest) k.1 q.second f) in
-        let first2 : Parses limit turn (pr x) q.front ((q.back ++ v) ++ rest) (Again x) = subst (λ y. Parses limit turn (pr x) q.front y (Again x)) (sym (append_assoc q.back v rest)) first in
-        let all = parses_bind (turned (turns turn n)) {tt = flat pr xs ++ ss} {v = q.back ++ v} {b = record { items = x ∷ xs; last = b }} (head_of (q.back ++ (v ++ rest))) here first2 (parses_map (λ m. ret (begun x m)) again refl) in
-        subst (λ y. Parses limit (turns turn (suc n)) y (w ++ v) rest (record { items = x ∷ xs; last = b })) (sym (append_assoc (pr x) (flat pr xs) ss))
-            (subst (λ y. Parses limit (turns turn (suc n)) (pr x ++ (flat pr xs ++ ss)) y rest (record { items = x ∷ xs; last = b })) (sym (append_assoc q.front q.back v) ∙ ap (λ y. y ++ v) (sym q.split)) all)
+    turns_parse xs w v rest b k h f p zero lt = absurd (omega arith)
+    turns_parse [] (t ∷ w) v rest b k h f p (suc n) lt = absurd h
+    turns_parse [] [] v rest b k h f p (suc n) lt = parses_map (turned (turns turn n)) p refl
+    turns_parse (x ∷ xs) w v rest b k h f p (suc n) lt =
+        let q = stands_split (pr x) (flat pr xs) w (head_of (lexemes v ++ rest)) h in
+        let here : Stands (pr x) q.front (head_of (lexemes q.back ++ (lexemes v ++ rest))) = subst (λ y. Stands (pr x) q.front y) (sym (head_first (lexemes q.back) (lexemes v ++ rest))) q.first in
+        let long : 0 < length (lexemes q.front) = some x q.front (head_of (lexemes q.back ++ (lexemes v ++ rest))) k.0 here in
+        let e : lexemes w ++ (lexemes v ++ rest) ≡ lexemes q.front ++ (lexemes q.back ++ (lexemes v ++ rest)) = ap (λ y. lexemes y ++ (lexemes v ++ rest)) q.split ∙ joined q.front q.back (lexemes v ++ rest) in
+        let short : length (lexemes q.back ++ (lexemes v ++ rest)) < n = omega (arith, ap length e, length-append (lexemes q.front) (lexemes q.back ++ (lexemes v ++ rest))) in
+        let again = turns_parse xs q.back v rest b k.1 q.second f p n short in
+        let follows = subst Follow (sym (head_first (lexemes q.back) (lexemes v ++ rest))) (follow_flat xs q.back (head_of (lexemes v ++ rest)) k.1 q.second f) in
+        let first = each x q.front (lexemes q.back ++ (lexemes v ++ rest)) k.0 here follows in
+        let first2 : Parses limit turn q.front (lexemes (q.back ++ v) ++ rest) (Again x) = subst (λ y. Parses limit turn q.front y (Again x)) (sym (joined q.back v rest)) first in
+        let all = parses_bind (turned (turns turn n)) {v = q.back ++ v} {b = record { items = x ∷ xs; last = b }} first2 (parses_map (λ m. ret (begun x m)) again refl) in
+        subst (λ y. Parses limit (turns turn (suc n)) y rest (record { items = x ∷ xs; last = b })) (sym (append_assoc q.front q.back v) ∙ ap (λ y. y ++ v) (sym q.split)) all
 
-    pub parses_loop : (xs : List A) (w : List Lexeme) (ss : List Piece) (v rest : List Lexeme) (b : B) → AllK K xs → Fits (flat pr xs) w (head_of (v ++ rest)) → Follow (head_of (v ++ rest)) → Parses limit turn ss v rest (Stop b) → Parses limit (loop turn) (flat pr xs ++ ss) (w ++ v) rest (record { items = xs; last = b })
+    pub parses_loop : (xs : List A) (w v : List Marked) (rest : List Lexeme) (b : B) → AllK K xs → Stands (flat pr xs) w (head_of (lexemes v ++ rest)) → Follow (head_of (lexemes v ++ rest)) → Parses limit turn v rest (Stop b) → Parses limit (loop turn) (w ++ v) rest (record { items = xs; last = b })
     unfolding loop
-    parses_loop xs w ss v rest b k h f p = record { by = (turns_parse xs w ss v rest b k h f p (suc (length ((w ++ v) ++ rest))) (omega (arith, ap length (append_assoc w v rest)))).by }
+    parses_loop xs w v rest b k h f p = record { by = (turns_parse xs w v rest b k h f p (suc (length (lexemes (w ++ v) ++ rest))) (omega (arith, ap length (joined w v rest)))).by }
 
     -- a loop that stops where nothing more is read
-    pub parses_items : (xs : List A) (w rest : List Lexeme) (b : B) → AllK K xs → Fits (flat pr xs) w (head_of rest) → Follow (head_of rest) → Parses limit turn [] [] rest (Stop b) → Parses limit (loop turn) (flat pr xs) w rest (record { items = xs; last = b })
-    parses_items xs w rest b k h f p =
-        subst (λ y. Parses limit (loop turn) y w rest (record { items = xs; last = b })) (append-nil (flat pr xs))
-            (subst (λ y. Parses limit (loop turn) (flat pr xs ++ []) y rest (record { items = xs; last = b })) (append-nil w) (parses_loop xs w [] [] rest b k h f p))
+    pub parses_items : (xs : List A) (w : List Marked) (rest : List Lexeme) (b : B) → AllK K xs → Stands (flat pr xs) w (head_of rest) → Follow (head_of rest) → Parses limit turn [] rest (Stop b) → Parses limit (loop turn) w rest (record { items = xs; last = b })
+    parses_items xs w rest b k h f p = subst (λ y. Parses limit (loop turn) y rest (record { items = xs; last = b })) (append-nil w) (parses_loop xs w [] rest b k h f p)
 
-  pub parses_when : {A : Type 0} (f g : Parser A) (b : Bool) {ps : List Piece} {w rest : List Lexeme} {a : A} → b ≡ true → Parses limit f ps w rest a → Parses limit (when b f g) ps w rest a
-  parses_when f g b {ps} {w} {rest} {a} e p = subst (λ x. Parses limit (when x f g) ps w rest a) (sym e) p
+  pub parses_when : {A : Type 0} (f g : Parser A) (b : Bool) {w : List Marked} {rest : List Lexeme} {a : A} → b ≡ true → Parses limit f w rest a → Parses limit (when b f g) w rest a
+  parses_when f g b {w} {rest} {a} e p = subst (λ x. Parses limit (when x f g) w rest a) (sym e) p
 
-  pub parses_else : {A : Type 0} (f g : Parser A) (b : Bool) {ps : List Piece} {w rest : List Lexeme} {a : A} → b ≡ false → Parses limit g ps w rest a → Parses limit (when b f g) ps w rest a
-  parses_else f g b {ps} {w} {rest} {a} e p = subst (λ x. Parses limit (when x f g) ps w rest a) (sym e) p
+  pub parses_else : {A : Type 0} (f g : Parser A) (b : Bool) {w : List Marked} {rest : List Lexeme} {a : A} → b ≡ false → Parses limit g w rest a → Parses limit (when b f g) w rest a
+  parses_else f g b {w} {rest} {a} e p = subst (λ x. Parses limit (when x f g) w rest a) (sym e) p
 
   -- without room for depth the first lexeme is too deep
-  pub parses_no_room : {A : Type 0} (begins : Kind → Bool) (ps : List Piece) (t : Lexeme) (w rest : List Lexeme) (a : A) (n : Lexeme) → DeepFront limit ps → Fits ps (t ∷ w) n → begins t.kind ≡ true → Parses limit (no_room {A = A} begins) ps (t ∷ w) rest a
-  parses_no_room begins ps t w rest a n d h e = record { by = ap (λ b. bare (when b deep bad (t ∷ (w ++ rest)))) e ∙ sym (cut_deep limit ps (t ∷ w) rest n (Read a [] rest) d h) }
+  pub parses_no_room : {A : Type 0} (begins : Kind → Bool) (ps : List Piece) (x : Marked) (w : List Marked) (rest : List Lexeme) (a : A) (n : Lexeme) → DeepFront limit ps → Stands ps (x ∷ w) n → begins x.lexeme.kind ≡ true → Parses limit (no_room {A = A} begins) (x ∷ w) rest a
+  parses_no_room begins ps x w rest a n d h e = record { by = ap (λ b. bare (when b deep bad (lexemes (x ∷ w) ++ rest))) e ∙ sym (cut_deep limit ps (x ∷ w) rest n (Read a [] rest) d h) }

@@ -1,11 +1,17 @@
-pub mod Local
-pub mod Tests
-pub mod Friendly
-pub mod Fitting
-pub mod Sound
-pub mod SoundNext
-pub mod Rows
 mod CornerRows
 mod DepthRows
+pub mod Agrees
 pub mod Complete
+pub mod Fitting
+pub mod Friendly
+pub mod Local
 pub mod Refuse
+pub mod Rows
+pub mod Sound
+pub mod SoundFunctions
+pub mod SoundLists
+pub mod SoundNext
+pub mod SoundObjects
+pub mod SoundParts
+pub mod Stands
+pub mod Tests

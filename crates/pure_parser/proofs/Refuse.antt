@@ -1,9 +1,9 @@
 -- A fault at a lexeme: no list of lexemes that begins as these do, up to and including this one, is read.
 use Rattle.std.proofs.Common.{◌≡◌, ℕ, zero, suc, ◌+◌, ◌≤◌, ◌<◌, List, [], ◌∷◌, ◌++◌, length, refl, sym, ap, ◌∙◌, subst, arith, append_assoc, append-nil, length-append, cond, nat_lt, Bool, true, false}
 use Rattle.script_grammar.specs.Lexeme.{Lexeme}
-use Rattle.script_grammar.specs.Pieces.{Piece, At, Gap}
 use Rattle.pure_parser.specs.Parser.{Recorded, Reply, Read, Bad, Deep, Parser}
 use Rattle.pure_parser.proofs.Local.{Local, Same, out, kept, left, grown}
+use Rattle.pure_parser.proofs.Stands.{Marked, lexemes}
 use Rattle.pure_parser.proofs.Complete.{Parses, cut, bare}
 
 nil_from : (us r : List Lexeme) → us ++ r ≡ r → us ≡ []
@@ -58,15 +58,13 @@ either_bad : {A : Type 0} (b : Bool) (ts : List Lexeme) (r : Reply A) (us : List
 either_bad true ts r us h e = cc
 either_bad false ts r us h e = h e
 
-cut_no_bad : {A : Type 0} (limit : ℕ) (ps : List Piece) (w q : List Lexeme) (a : A) (us : List Lexeme) → cut limit ps w q (Read a [] q) ≡ Bad [] us → ⊥
-cut_no_bad limit [] w q a us e = cc
-cut_no_bad limit (Gap g ∷ ps) w q a us e = cut_no_bad limit ps w q a us e
-cut_no_bad limit (At s ∷ ps) [] q a us e = cc
-cut_no_bad limit (At s ∷ ps) (t ∷ w) q a us e = either_bad (nat_lt limit s.depth) (t ∷ (w ++ q)) (cut limit ps w q (Read a [] q)) us (cut_no_bad limit ps w q a us) e
+cut_no_bad : {A : Type 0} (limit : ℕ) (w : List Marked) (q : List Lexeme) (a : A) (us : List Lexeme) → cut limit w q (Read a [] q) ≡ Bad [] us → ⊥
+cut_no_bad limit [] q a us e = cc
+cut_no_bad limit (x ∷ w) q a us e = either_bad (nat_lt limit x.depth) (x.lexeme ∷ (lexemes w ++ q)) (cut limit w q (Read a [] q)) us (cut_no_bad limit w q a us) e
 
 -- no lexemes of a tree begin as those up to and including the fault's
-pub refuse : {A : Type 0} (limit : ℕ) (f : Parser A) → Local f → (p : List Lexeme) (x : Lexeme) (r r2 : List Lexeme) → bare (f (p ++ x ∷ r)) ≡ Bad [] (x ∷ r) → (ps : List Piece) (w q : List Lexeme) (a : A) → Parses limit f ps w q a → w ++ q ≡ p ++ x ∷ r2 → ⊥
-refuse limit f l p x r r2 e ps w q a h s = cut_no_bad limit ps w q a (x ∷ r2) (sym h.by ∙ ap (λ y. bare (f y)) s ∙ bad_again f l p x r r2 e)
+pub refuse : {A : Type 0} (limit : ℕ) (f : Parser A) → Local f → (p : List Lexeme) (x : Lexeme) (r r2 : List Lexeme) → bare (f (p ++ x ∷ r)) ≡ Bad [] (x ∷ r) → (w : List Marked) (q : List Lexeme) (a : A) → Parses limit f w q a → lexemes w ++ q ≡ p ++ x ∷ r2 → ⊥
+refuse limit f l p x r r2 e w q a h s = cut_no_bad limit w q a (x ∷ r2) (sym h.by ∙ ap (λ y. bare (f y)) s ∙ bad_again f l p x r r2 e)
 
 -- The same for a fault that is too deep: the reply is the same, whatever follows.
 

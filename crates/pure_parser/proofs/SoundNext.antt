@@ -53,7 +53,7 @@ pub record SoundNext {A : Type 0} (p : Spot) (R : List Lexeme → A → Lexeme �
   pub at : (ts : List Lexeme) → Outcome p R ts (f ts)
 
 -- some lexemes that are read before any friendly one
-pub record Some {A : Type 0} (p : Spot) (R : List Lexeme → A → Lexeme → Type 0) : Type 0 where
+pub record Mended {A : Type 0} (p : Spot) (R : List Lexeme → A → Lexeme → Type 0) : Type 0 where
   pub end : List Lexeme
   pub of : A
   pub starts : Starts p [] end
@@ -117,7 +117,7 @@ starts_end AtFront [] e v h k = λ n f. subst Friendly (sym (first_append e v n)
 
 -- conversions
 
-outcome_next : {A : Type 0} (p : Spot) (E : List Lexeme → A → Type 0) (ts : List Lexeme) (r : Reply A) → plain.Outcome p E ts r → Outcome p (Plain E) ts r
+outcome_next : {A : Type 0} (p : Spot) (E : List Lexeme → A → Type 0) (ts : List Lexeme) (r : Reply A) → plain.Outcome p E E ts r → Outcome p (Plain E) ts r
 outcome_next p E ts (Read a rs us) o = record { front = o.front; split = o.split; is = λ n f. o.is }
 outcome_next p E ts (Bad rs us) o = record { front = o.front; split = o.split; end = o.end; of = o.of; starts = starts_next p o.front o.end o.starts; is = λ n f. o.is }
   where
@@ -125,14 +125,14 @@ outcome_next p E ts (Bad rs us) o = record { front = o.front; split = o.split; e
     starts_next Inside w e h = tt
     starts_next AtFront (t ∷ w) e h = tt
     starts_next AtFront [] [] h = absurd h
-    starts_next AtFront [] (t ∷ e) h = λ n f. h
+    starts_next AtFront [] (t ∷ e) h = λ n f. h.friendly
 outcome_next p E ts (Deep rs us) o = record { front = o.front; split = o.split; token = o.token; behind = o.behind; first = o.first; end = o.end; of = o.of; is = λ n f. o.is }
 
 -- what does not depend on the lexeme behind it, among what does
 pub next_of : {A : Type 0} {p : Spot} {E : List Lexeme → A → Type 0} {f : Parser A} → Sound p E f → SoundNext p (Plain E) f
 next_of {p = p} {E = E} {f = f} s = record { at = λ ts. outcome_next p E ts (f ts) (s.at ts) }
 
-outcome_plain : {A : Type 0} (E : List Lexeme → A → Type 0) (ts : List Lexeme) (r : Reply A) → Outcome Inside (Plain E) ts r → plain.Outcome Inside E ts r
+outcome_plain : {A : Type 0} (E : List Lexeme → A → Type 0) (ts : List Lexeme) (r : Reply A) → Outcome Inside (Plain E) ts r → plain.Outcome Inside E E ts r
 outcome_plain E ts (Read a rs us) o = record { front = o.front; split = o.split; some = tt; is = o.is (head_of us) (stands refl) }
 outcome_plain E ts (Bad rs us) o = record { front = o.front; split = o.split; end = o.end; of = o.of; starts = tt; is = o.is end_lexeme end_friendly }
 outcome_plain E ts (Deep rs us) o = record { front = o.front; split = o.split; token = o.token; behind = o.behind; first = o.first; end = o.end; of = o.of; is = o.is end_lexeme end_friendly }
@@ -280,10 +280,10 @@ module _ {A B : Type 0} (p : Spot) (E : List Lexeme → A → Type 0) (R : List 
   starts_past Inside w e v h = tt
   starts_past AtFront (t ∷ w) e v h = tt
   starts_past AtFront [] [] v h = absurd h
-  starts_past AtFront [] (t ∷ e) v h = λ n f. h
+  starts_past AtFront [] (t ∷ e) v h = λ n f. h.friendly
 
   module _ (f : A → Parser B) (g : (w : List Lexeme) (a : A) → E w a → SoundNext Inside (Past w R) (f a)) where
-    past_after : (ts : List Lexeme) (r : Reply A) → plain.Outcome p E ts r → Outcome p R ts (after r f)
+    past_after : (ts : List Lexeme) (r : Reply A) → plain.Outcome p E E ts r → Outcome p R ts (after r f)
     past_after ts (Read a rs us) o = outcome_noted p R ts rs (f a us) (past o.front ts us o.some o.split (f a us) ((g o.front a o.is).at us))
     past_after ts (Bad rs us) o =
         let s = tail_of (o.front ++ o.end) (f o.of []) ((g (o.front ++ o.end) o.of o.is).at []) in
@@ -300,7 +300,7 @@ past_bind {p = p} {E = E} {R = R} {m = m} {f = f} s g = record { at = λ ts. pas
 pub next_ret : {A : Type 0} {p : Spot} {R : List Lexeme → A → Lexeme → Type 0} {a : A} → ((n : Lexeme) → R [] a n) → SoundNext p R (ret a)
 next_ret h = record { at = λ ts. record { front = []; split = refl; is = λ n f. h n } }
 
-pub next_bad : {A : Type 0} {p : Spot} {R : List Lexeme → A → Lexeme → Type 0} → Some p R → SoundNext p R (bad {A = A})
+pub next_bad : {A : Type 0} {p : Spot} {R : List Lexeme → A → Lexeme → Type 0} → Mended p R → SoundNext p R (bad {A = A})
 next_bad s = record { at = λ ts. record { front = []; split = refl; end = s.end; of = s.of; starts = s.starts; is = s.is } }
 
 -- what is read is made into another value
@@ -355,12 +355,12 @@ pub next_when : {A : Type 0} {p : Spot} {R : List Lexeme → A → Lexeme → Ty
 next_when {p = p} {R = R} {f = f} {g = g} b h k = next_bool p R f g b b refl h k
 
 -- without room: what begins so is completed by some end
-no_room_first : {A : Type 0} (p : Spot) (R : List Lexeme → A → Lexeme → Type 0) (begins : Kind → Bool) → begins kind.End ≡ false → Some p R → ((t : Lexeme) → begins t.kind ≡ true → Some Inside (Past (t ∷ []) R)) → (ts : List Lexeme) (b : Bool) → begins (head_of ts).kind ≡ b → Outcome p R ts (when {A = A} b deep bad ts)
+no_room_first : {A : Type 0} (p : Spot) (R : List Lexeme → A → Lexeme → Type 0) (begins : Kind → Bool) → begins kind.End ≡ false → Mended p R → ((t : Lexeme) → begins t.kind ≡ true → Mended Inside (Past (t ∷ []) R)) → (ts : List Lexeme) (b : Bool) → begins (head_of ts).kind ≡ b → Outcome p R ts (when {A = A} b deep bad ts)
 no_room_first p R begins z s h ts false e = (next_bad s).at ts
 no_room_first p R begins z s h [] true e = absurd (cc)
 no_room_first p R begins z s h (t ∷ ts) true e = let k = h t e in (at_deep {p = p} {R = R} t k.end k.of k.is).first ts
 
-pub next_no_room : {A : Type 0} {p : Spot} {R : List Lexeme → A → Lexeme → Type 0} (begins : Kind → Bool) → begins kind.End ≡ false → Some p R → ((t : Lexeme) → begins t.kind ≡ true → Some Inside (Past (t ∷ []) R)) → SoundNext p R (no_room {A = A} begins)
+pub next_no_room : {A : Type 0} {p : Spot} {R : List Lexeme → A → Lexeme → Type 0} (begins : Kind → Bool) → begins kind.End ≡ false → Mended p R → ((t : Lexeme) → begins t.kind ≡ true → Mended Inside (Past (t ∷ []) R)) → SoundNext p R (no_room {A = A} begins)
 next_no_room {p = p} {R = R} begins z s h = record { at = λ ts. no_room_first p R begins z s h ts (begins (head_of ts).kind) refl }
 
 -- a loop at the front: what one turn reads, and what all read
@@ -368,7 +368,7 @@ module _ {A B : Type 0} (Q : List Lexeme → Turn A B → Lexeme → Type 0) (R 
     (s : SoundNext AtFront Q turn)
     (stop : (w : List Lexeme) (b : B) (n : Lexeme) → Q w (Stop b) n → R w (stopped b) n)
     (go : (w v : List Lexeme) (a : A) (m : Many A B) (n : Lexeme) → Q w (Again a) (first_of v n) → R v m n → R (w ++ v) (begun a m) n)
-    (some : Some AtFront R) where
+    (some : Mended AtFront R) where
   turned_next : (f : Parser (Many A B)) → SoundNext AtFront R f → (w : List Lexeme) (t : Turn A B) → SoundNext AtFront (Joined Q w t R) (turned f t)
   turned_next f l w (Again a) = next_made (begun a) l (λ v m n r q. go w v a m n q r)
   turned_next f l w (Stop b) = next_ret (λ n q. subst (λ x. R x (stopped b) n) (sym (append-nil w)) (stop w b n q))

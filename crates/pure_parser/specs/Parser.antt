@@ -1,5 +1,5 @@
 -- Parsers as functions on lists of lexemes: this project's own choice of combinators.
-use Rattle.std.specs.Prelude.{ℕ, zero, suc, List, [], ◌∷◌, ◌++◌, length, Bool, true, false, nat_eq, if◌then◌else◌}
+use Rattle.std.specs.Prelude.{ℕ, zero, suc, List, [], ◌∷◌, ◌++◌, length, Bool, true, false}
 use Rattle.script_grammar.specs.declared.token.Kind.{Kind}
 use Rattle.script_grammar.specs.declared.token.Kind.TheVariants as kind
 use Rattle.script_grammar.specs.declared.token.FuncForm.{FuncForm}
@@ -79,15 +79,6 @@ when false f g = g
 -- records that a body begins here, which is passed over next
 abbrev pub note : FuncForm → ℕ → Bool → Parser (Unit {0})
 note form room simple ts = Read tt (record { form = form; room = room; simple = simple; from = ts } ∷ []) ts
-
--- the end of the last of these lexemes before those
-abbrev pub last_end : List Lexeme → List Lexeme → ℕ
-last_end [] us = 0
-last_end (t ∷ ts) us = if nat_eq (length ts) (length us) then t.end else last_end ts us
-
--- what is made of what was read and of the end of the last lexeme of it
-abbrev pub with_end : {A B : Type 0} → (A → ℕ → B) → Parser A → Parser B
-with_end g f ts = after (f ts) (λ a us. Read (g a (last_end ts us)) [] us)
 
 -- without room for depth: what begins as these kinds of lexemes do is too deep
 abbrev pub no_room : {A : Type 0} → (Kind → Bool) → Parser A

@@ -17,7 +17,7 @@ use Rattle.script_grammar.specs.Proper.{rank, left_rank, update_rank}
 use Rattle.script_grammar.specs.Tree.{Named, Expr, Tail, Key, Prop, Function, function, Body}
 use Rattle.script_grammar.specs.Tree as tree
 use Rattle.script_grammar.specs.TreeLists.{Args, Operand, Part, Param, exprs_of, maybe_args_of, parts_of, items_of, operands_of, tails_of, props_of, params_of}
-use Rattle.pure_parser.specs.Parser.{Recorded, Reply, Read, Bad, Deep, Parser, head_of, rest_of, after, ret, bad, deep, bind, peek, step, when, note, no_room, with_end, Turn, Again, Stop, Many, stopped, begun, loop, led}
+use Rattle.pure_parser.specs.Parser.{Recorded, Reply, Read, Bad, Deep, Parser, head_of, rest_of, after, ret, bad, deep, bind, peek, step, when, note, no_room, Turn, Again, Stop, Many, stopped, begun, loop, led}
 
 -- What a call that counts for the depth reads: an AssignmentExpression, with or without the operator `in`; a prefix operator
 -- and its operand; `new` and what belongs to it; a parameter in an arrow's parentheses; a rest parameter there.
@@ -641,15 +641,34 @@ arrow_head v = peek (λ t.
 unfoldable pub arrow_mark : Parser (Unit {0})
 arrow_mark = peek (λ t. when (is_arrow t) (step (ret tt)) bad)
 
-abbrev pub short_body : Expr → ℕ → BodyRead
-short_body e end = record { body = tree.ShortBody e; end = end }
+-- what was read, and the offset where its last lexeme ends
+
+pub record Spanned (A : Type 0) : Type 0 where
+  pub value : A
+  pub end : ℕ
+
+-- the end of the last of these, or the number given if there is none
+abbrev pub last_end : ℕ → List Lexeme → ℕ
+last_end n [] = n
+last_end n (t ∷ ts) = last_end t.end ts
+
+abbrev pub spanned_reply : {A : Type 0} → List Lexeme → Reply A → Reply (Spanned A)
+spanned_reply ts (Read a rs us) = Read (record { value = a; end = last_end 0 (take (length ts - length us) ts) }) rs us
+spanned_reply ts (Bad rs us) = Bad rs us
+spanned_reply ts (Deep rs us) = Deep rs us
+
+abbrev pub spanned : {A : Type 0} → Parser A → Parser (Spanned A)
+spanned f ts = spanned_reply ts (f ts)
+
+abbrev pub short_body : Spanned Expr → BodyRead
+short_body s = record { body = tree.ShortBody s.value; end = s.end }
 
 -- a ConciseBody
 unfoldable pub arrow_body : Env → Bool → Head → Parser BodyRead
 arrow_body v w h = peek (λ t.
     when (is_mark mark.OPEN_BRACE t.kind)
     (v.body form.Arrow h.start (is_simple h.params))
-    (with_end short_body (v.sub (AnAssign w))))
+    (bind (spanned (v.sub (AnAssign w))) (λ s. ret (short_body s))))
 
 abbrev pub arrow_case : Head → BodyRead → Expr
 arrow_case h b = tree.Func h.start (function_case form.Arrow None h b)

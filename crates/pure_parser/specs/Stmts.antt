@@ -19,8 +19,8 @@ use Rattle.script_grammar.specs.Proper.{rank, left_rank, takes_else}
 use Rattle.script_grammar.specs.Tree.{Named, Expr, Init, Each, Stmt, Stmts, Function, Body}
 use Rattle.script_grammar.specs.Tree as tree
 use Rattle.script_grammar.specs.TreeLists.{Bind, Clause, Param, maybe_expr_of, maybe_stmt_of, binds_of, stmts_of, clauses_of}
-use Rattle.pure_parser.specs.Parser.{Parser, ret, bad, bind, peek, step, when, no_room, with_end, Turn, Again, Stop, Many, stopped, loop, led}
-use Rattle.pure_parser.specs.Exprs.{Call, AnAssign, AParam, ARest, Calls, Env, BodyParser, BodyRead, Head, ParamsEnd, Plain, Trailing, begins_assign, expect, name_of, named, peek_two, expr_of, maybe_name, function_of, function_case, head_case, params_led, rest_stop, again, bare_head, arrow_mark, is_simple, short_body, calls, no_calls, call_case}
+use Rattle.pure_parser.specs.Parser.{Parser, ret, bad, bind, peek, step, when, no_room, Turn, Again, Stop, Many, stopped, loop, led}
+use Rattle.pure_parser.specs.Exprs.{Call, AnAssign, AParam, ARest, Calls, Env, BodyParser, BodyRead, Head, ParamsEnd, Plain, Trailing, Spanned, begins_assign, expect, name_of, named, peek_two, expr_of, maybe_name, function_of, function_case, head_case, params_led, rest_stop, again, bare_head, arrow_mark, is_simple, spanned, short_body, calls, no_calls, call_case}
 
 -- What a call for a statement reads: an item of a list of statements, or a statement that stands alone, as a loop's body;
 -- the flag says whether a `return` may stand there.
@@ -405,7 +405,7 @@ unfoldable pub strict_body : Env → Head → Parser BodyRead
 strict_body v h = peek (λ t.
     when (is_mark mark.OPEN_BRACE t.kind)
     (v.body form.Arrow h.start (is_simple h.params))
-    (with_end short_body (v.sub (AnAssign true))))
+    (bind (spanned (v.sub (AnAssign true))) (λ s. ret (short_body s))))
 
 unfoldable pub arrow_alone : Env → Parser Function
 arrow_alone v = bind (strict_head v) (λ h. bind arrow_mark (λ _. bind (strict_body v h) (λ b. ret (function_case form.Arrow None h b))))

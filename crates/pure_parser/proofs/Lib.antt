@@ -15,3 +15,4 @@ pub mod SoundObjects
 pub mod SoundParts
 pub mod Stands
 pub mod Tests
+pub mod Begins

@@ -16,3 +16,5 @@ pub mod SoundParts
 pub mod Stands
 pub mod Tests
 pub mod Begins
+pub mod StmtFitting
+pub mod SoundStmtLists

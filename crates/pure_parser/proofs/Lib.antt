@@ -18,3 +18,5 @@ pub mod Tests
 pub mod Begins
 pub mod StmtFitting
 pub mod SoundStmtLists
+pub mod StmtNext
+pub mod SoundStmts

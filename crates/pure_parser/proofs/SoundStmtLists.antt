@@ -16,7 +16,7 @@ use Rattle.script_grammar.specs.Print.{print, print_stmt, print_stmts, print_bin
 use Rattle.script_grammar.specs.Proper.{rank, Proper, ProperMaybe, ProperStmt, ProperStmts, ProperBinds, HasBinds, maybe_free, binds_free, is_statement, InIf, free_of_in}
 use Rattle.pure_parser.specs.Parser.{Parser, head_of, ret, bad, bind, peek, step, when, Turn, Again, Stop, loop, Many, stopped, begun, led}
 use Rattle.pure_parser.specs.Exprs.{Env, AnAssign, expect, name_of, named}
-use Rattle.pure_parser.specs.Stmts
+use Rattle.pure_parser.specs.Stmts as parser
 use Rattle.pure_parser.specs.Stmts.{Place, AnItem, AStmt, StmtCalls, is_item, is_inside, bound}
 use Rattle.pure_parser.proofs.Friendly.{Spot, AtFront, Inside, Friendly, first_of, friendly_omits}
 use Rattle.pure_parser.proofs.Fitting.{FitsAll, all_none, all_append, all_mark, all_word, all_name, all_same, lexeme_of_kind, zero_lexeme}
@@ -37,8 +37,8 @@ IsWord i d u _ = FitsAll (word_piece i d ∷ []) u
 pub word_some : (i d : ℕ) → Mended Inside (IsWord i d)
 word_some i d = record { end = lexeme_of_kind (kind.Word i) ∷ []; of = tt; starts = tt; is = all_word i d (lexeme_of_kind (kind.Word i)) refl }
 
-pub expect_word_sound : (i d : ℕ) → Sound Inside (IsWord i d) (Stmts.expect_word i)
-unfolding Stmts.expect_word
+pub expect_word_sound : (i d : ℕ) → Sound Inside (IsWord i d) (parser.expect_word i)
+unfolding parser.expect_word
 expect_word_sound i d = sound_peek (λ t. plain.at_when (is_word i t.kind) (λ e. plain.at_step t (sound_ret {a = tt} (all_word i d t (word_known i t.kind e)))) (λ e. sound_at t (sound_bad (word_some i d)))) (sound_bad (word_some i d))
 
 -- a semicolon
@@ -56,8 +56,8 @@ gap_end : (e : Ending) (d : ℕ) (n : Lexeme) → Follows [] n → IsSemi e d []
 gap_end e d n (stands h) = gap_here e d n (ap (may_omit e) h)
 gap_end e d n (friendly f) = gap_here e d n (friendly_omits e n f)
 
-pub semi_sound : (e : Ending) (d : ℕ) → SoundNext Inside (IsSemi e d) (Stmts.semi_of e)
-unfolding Stmts.semi_of
+pub semi_sound : (e : Ending) (d : ℕ) → SoundNext Inside (IsSemi e d) (parser.semi_of e)
+unfolding parser.semi_of
 semi_sound e d = next_look
     (λ t. at_when (is_mark mark.SEMICOLON t.kind)
         (λ h. at_step t (next_ret {a = true} (λ n. all_next (all_mark mark.SEMICOLON d t (mark_known mark.SEMICOLON t.kind h)) n)))
@@ -92,17 +92,17 @@ module _ (m : Bodies) where
   no_stmts_are d inside n = record { proper = tt; fits = none_next }
 
   module _ (d : ℕ) (stmt : StmtCalls) (s : SoundStmts d stmt) where
-    stmt_turn_sound : (inside : Bool) → SoundNext AtFront (StmtTurn d inside) (Stmts.stmt_turn stmt inside)
-    unfolding Stmts.stmt_turn
+    stmt_turn_sound : (inside : Bool) → SoundNext AtFront (StmtTurn d inside) (parser.stmt_turn stmt inside)
+    unfolding parser.stmt_turn
     stmt_turn_sound inside = next_peek
-        (λ t. at_when (Stmts.ends_items t.kind)
+        (λ t. at_when (parser.ends_items t.kind)
             (λ h. at_ret {a = Stop tt} t refl (λ n f. refl))
             (λ _. next_at t (next_made Again (s.at (AnItem inside)) (λ w a n q. q))))
         (next_ret {a = Stop tt} (λ n. refl))
 
-    pub stmts_sound : (inside : Bool) → SoundNext AtFront (AreStmts d inside) (Stmts.stmts_from stmt inside)
-    unfolding Stmts.stmts_from
-    stmts_sound inside = next_made (λ x. x.items) (next_loop (StmtTurn d inside) (ManyStmts d inside) (Stmts.stmt_turn stmt inside) (stmt_turn_sound inside)
+    pub stmts_sound : (inside : Bool) → SoundNext AtFront (AreStmts d inside) (parser.stmts_from stmt inside)
+    unfolding parser.stmts_from
+    stmts_sound inside = next_made (λ x. x.items) (next_loop (StmtTurn d inside) (ManyStmts d inside) (parser.stmt_turn stmt inside) (stmt_turn_sound inside)
         (λ w b n q. subst (λ x. AreStmts d inside x [] n) (sym q) (no_stmts_are d inside n))
         (λ w v a x n q r. record { proper = (q.proper, r.proper); fits = then_next w v q.fits r.fits })
         (record { end = []; of = stopped tt; starts = λ n f. f; is = λ n f. no_stmts_are d inside n })) (λ w x n q. q)
@@ -119,8 +119,8 @@ module _ (m : Bodies) where
     unfolding expect
     close_sound = next_peek (λ t. at_when (is_mark mark.CLOSE_BRACE t.kind) (λ h. at_step t (next_ret {a = tt} (λ n. all_mark mark.CLOSE_BRACE d t (mark_known mark.CLOSE_BRACE t.kind h)))) (λ h. next_at t (next_bad close_mended))) (next_bad close_mended)
 
-    pub braced_sound : (inside : Bool) → Sound Inside (IsBlock inside) (Stmts.braced_of stmt inside)
-    unfolding Stmts.braced_of
+    pub braced_sound : (inside : Bool) → Sound Inside (IsBlock inside) (parser.braced_of stmt inside)
+    unfolding parser.braced_of
     braced_sound inside = plain_of (past_bind {E = IsMark mark.OPEN_BRACE d} (expect_sound mark.OPEN_BRACE d) (λ u _ q. next_bind (next_inside (stmts_sound inside)) (λ w ss. next_made (λ _. stmts_of ss) close_sound (λ v _ n h r. record { proper = r.proper; fits = all_append q (close_all w v n r.fits h) }))))
 
 -- bindings
@@ -172,8 +172,8 @@ module _ (m : Bodies) (d : ℕ) where
     fits = all_append q.2 r.fits }
 
   module _ (v : Env) (s : SoundEnv m d v) where
-    value_sound : (w : Bool) → Sound Inside (IsValue w) (Stmts.value_of v w)
-    unfolding Stmts.value_of
+    value_sound : (w : Bool) → Sound Inside (IsValue w) (parser.value_of v w)
+    unfolding parser.value_of
     value_sound w = sound_peek
         (λ t. plain.at_when (is_mark mark.ASSIGN t.kind)
             (λ h. plain.at_step t (sound_made Some (sound_inside (s.calls.assign w)) (λ u e q. record { proper = (q.rank_le, q.proper); in_if = q.in_if; fits = all_append (all_mark mark.ASSIGN d t (mark_known mark.ASSIGN t.kind h)) q.fits })))
@@ -181,29 +181,29 @@ module _ (m : Bodies) (d : ℕ) where
         (sound_ret {a = None} (record { proper = tt; in_if = in_true w; fits = all_none }))
 
     -- behind the name
-    pub bind_from_sound : (w : Bool) (u : List Lexeme) (n : Named) → IsName d u n → Sound Inside (Behind u (IsBind w)) (Stmts.bind_from v w n)
-    unfolding Stmts.bind_from
+    pub bind_from_sound : (w : Bool) (u : List Lexeme) (n : Named) → IsName d u n → Sound Inside (Behind u (IsBind w)) (parser.bind_from v w n)
+    unfolding parser.bind_from
     bind_from_sound w u n h = sound_made (bound n) (value_sound w) (λ x o q. record { proper = q.proper; in_if = q.in_if; fits = all_append h q.fits })
 
-    bind_sound : (w : Bool) → Sound Inside (IsBind w) (Stmts.bind_of v w)
-    unfolding Stmts.bind_of
+    bind_sound : (w : Bool) → Sound Inside (IsBind w) (parser.bind_of v w)
+    unfolding parser.bind_of
     bind_sound w = sound_bind (name_sound d) (λ u n q. bind_from_sound w u n q)
 
-    bind_turn_sound : (w : Bool) → Sound Inside (BindTurn w) (Stmts.bind_turn v w)
-    unfolding Stmts.bind_turn
+    bind_turn_sound : (w : Bool) → Sound Inside (BindTurn w) (parser.bind_turn v w)
+    unfolding parser.bind_turn
     bind_turn_sound w = sound_peek
         (λ t. plain.at_when (is_mark mark.COMMA t.kind)
             (λ h. plain.at_step t (sound_made Again (bind_sound w) (λ u x q. (q.proper, q.in_if, all_append (all_mark mark.COMMA d t (mark_known mark.COMMA t.kind h)) q.fits))))
             (λ _. sound_at t (sound_ret {a = Stop tt} refl)))
         (sound_ret {a = Stop tt} refl)
 
-    more_binds_sound : (w : Bool) → Sound Inside (MoreBinds w) (loop (Stmts.bind_turn v w))
-    more_binds_sound w = sound_loop (BindTurn w) (MoreBinds w) (Stmts.bind_turn v w) (bind_turn_sound w)
+    more_binds_sound : (w : Bool) → Sound Inside (MoreBinds w) (loop (parser.bind_turn v w))
+    more_binds_sound w = sound_loop (BindTurn w) (MoreBinds w) (parser.bind_turn v w) (bind_turn_sound w)
         (λ u b q. subst (λ x. MoreBinds w x (stopped tt)) (sym q) (more_none w))
         (λ u x a y q r. more_go w u x a y q r)
         (record { end = []; of = stopped tt; starts = tt; is = more_none w })
 
     -- behind the first name
-    pub binds_from_sound : (w : Bool) (u : List Lexeme) (n : Named) → IsName d u n → Sound Inside (Behind u (AreBinds w)) (Stmts.binds_from v w n)
-    unfolding Stmts.binds_from
+    pub binds_from_sound : (w : Bool) (u : List Lexeme) (n : Named) → IsName d u n → Sound Inside (Behind u (AreBinds w)) (parser.binds_from v w n)
+    unfolding parser.binds_from
     binds_from_sound w u n h = sound_bind (bind_from_sound w u n h) (λ x y q. sound_made (begun y) (more_binds_sound w) (λ z ys r. subst (λ o. AreBinds w o (begun y ys)) (append_assoc u x z) (binds_begun w (u ++ x) z y ys q r)))

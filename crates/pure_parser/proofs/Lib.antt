@@ -20,3 +20,4 @@ pub mod StmtFitting
 pub mod SoundStmtLists
 pub mod StmtNext
 pub mod SoundStmts
+pub mod SoundLoops

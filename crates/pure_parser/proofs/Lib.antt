@@ -21,3 +21,4 @@ pub mod SoundStmtLists
 pub mod StmtNext
 pub mod SoundStmts
 pub mod SoundLoops
+pub mod SoundSwitch

@@ -115,7 +115,7 @@ module _ (m : Bodies) where
     close_mended : next.Mended AtFront (Plain (IsMark mark.CLOSE_BRACE d))
     close_mended = record { end = lexeme_of_kind (kind.Mark mark.CLOSE_BRACE) ∷ []; of = tt; starts = λ n f. record { omits = refl }; is = λ n f. all_mark mark.CLOSE_BRACE d (lexeme_of_kind (kind.Mark mark.CLOSE_BRACE)) refl }
 
-    close_sound : SoundNext AtFront (Plain (IsMark mark.CLOSE_BRACE d)) (expect mark.CLOSE_BRACE)
+    pub close_sound : SoundNext AtFront (Plain (IsMark mark.CLOSE_BRACE d)) (expect mark.CLOSE_BRACE)
     unfolding expect
     close_sound = next_peek (λ t. at_when (is_mark mark.CLOSE_BRACE t.kind) (λ h. at_step t (next_ret {a = tt} (λ n. all_mark mark.CLOSE_BRACE d t (mark_known mark.CLOSE_BRACE t.kind h)))) (λ h. next_at t (next_bad close_mended))) (next_bad close_mended)
 

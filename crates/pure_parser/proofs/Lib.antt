@@ -22,3 +22,4 @@ pub mod StmtNext
 pub mod SoundStmts
 pub mod SoundLoops
 pub mod SoundSwitch
+pub mod SoundScripts

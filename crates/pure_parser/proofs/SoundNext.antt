@@ -353,6 +353,13 @@ next_look_at p R f s e (t ∷ ts) = (s t).first ts
 pub next_look : {A : Type 0} {p : Spot} {R : List Lexeme → A → Lexeme → Type 0} {f : Lexeme → Parser A} → ((t : Lexeme) → NextAt p R t (f t)) → Outcome p R [] (f (head_of []) []) → SoundNext p R (peek f)
 next_look {p = p} {R = R} {f = f} s e = record { at = next_look_at p R f s e }
 
+next_look_two_at : {A : Type 0} (p : Spot) (R : List Lexeme → A → Lexeme → Type 0) (f : Lexeme → Lexeme → Parser A) → ((t u : Lexeme) → NextAt p R t (f t u)) → Outcome p R [] (f (head_of []) (head_of []) []) → (ts : List Lexeme) → Outcome p R ts (peek_two f ts)
+next_look_two_at p R f s e [] = e
+next_look_two_at p R f s e (t ∷ ts) = (s t (head_of ts)).first ts
+
+pub next_look_two : {A : Type 0} {p : Spot} {R : List Lexeme → A → Lexeme → Type 0} {f : Lexeme → Lexeme → Parser A} → ((t u : Lexeme) → NextAt p R t (f t u)) → Outcome p R [] (f (head_of []) (head_of []) []) → SoundNext p R (peek_two f)
+next_look_two {p = p} {R = R} {f = f} s e = record { at = next_look_two_at p R f s e }
+
 next_two_at : {A : Type 0} (p : Spot) (R : List Lexeme → A → Lexeme → Type 0) (f : Lexeme → Lexeme → Parser A) → ((t u : Lexeme) → NextAt p R t (f t u)) → SoundNext p R (f (head_of []) (head_of [])) → (ts : List Lexeme) → Outcome p R ts (peek_two f ts)
 next_two_at p R f s e [] = e.at []
 next_two_at p R f s e (t ∷ ts) = (s t (head_of ts)).first ts

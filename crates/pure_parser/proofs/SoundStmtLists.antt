@@ -119,9 +119,14 @@ module _ (m : Bodies) where
     unfolding expect
     close_sound = next_peek (λ t. at_when (is_mark mark.CLOSE_BRACE t.kind) (λ h. at_step t (next_ret {a = tt} (λ n. all_mark mark.CLOSE_BRACE d t (mark_known mark.CLOSE_BRACE t.kind h)))) (λ h. next_at t (next_bad close_mended))) (next_bad close_mended)
 
+    -- behind the first brace
+    pub braced_from_sound : (inside : Bool) (u : List Lexeme) → IsMark mark.OPEN_BRACE d u tt → SoundNext Inside (Past u (Plain (IsBlock inside))) (parser.braced_from stmt inside)
+    unfolding parser.braced_from
+    braced_from_sound inside u q = next_bind (next_inside (stmts_sound inside)) (λ w ss. next_made (λ _. stmts_of ss) close_sound (λ v _ n h r. record { proper = r.proper; fits = all_append q (close_all w v n r.fits h) }))
+
     pub braced_sound : (inside : Bool) → Sound Inside (IsBlock inside) (parser.braced_of stmt inside)
     unfolding parser.braced_of
-    braced_sound inside = plain_of (past_bind {E = IsMark mark.OPEN_BRACE d} (expect_sound mark.OPEN_BRACE d) (λ u _ q. next_bind (next_inside (stmts_sound inside)) (λ w ss. next_made (λ _. stmts_of ss) close_sound (λ v _ n h r. record { proper = r.proper; fits = all_append q (close_all w v n r.fits h) }))))
+    braced_sound inside = plain_of (past_bind {E = IsMark mark.OPEN_BRACE d} (expect_sound mark.OPEN_BRACE d) (λ u _ q. braced_from_sound inside u q))
 
 -- bindings
 

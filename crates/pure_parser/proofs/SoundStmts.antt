@@ -32,7 +32,7 @@ use Rattle.pure_parser.proofs.SoundFunctions.{IsFunctionOf, function_sound}
 use Rattle.pure_parser.proofs.StmtFitting.{FitsNext, none_next, all_next, then_all, then_next, next_all, close_all, same_next, same_pieces, glue_all}
 use Rattle.pure_parser.proofs.StmtNext.{front_bind, past_assoc}
 use Rattle.pure_parser.proofs.Begins.{begins_same, begins_not}
-use Rattle.pure_parser.proofs.SoundStmtLists.{IsStmt, SoundStmts, AreStmts, IsBlock, IsWord, expect_word_sound, IsSemi, semi_sound, stmts_sound, braced_sound, AreBinds, binds_from_sound}
+use Rattle.pure_parser.proofs.SoundStmtLists.{IsStmt, SoundStmts, AreStmts, IsBlock, IsWord, expect_word_sound, IsSemi, semi_sound, stmts_sound, braced_from_sound, braced_sound, AreBinds, binds_from_sound}
 
 -- behind what stands between two lexemes
 pub around_then : (x y : Piece) (ps : List Piece) {b : List Piece} {u v : List Lexeme} {n : Lexeme} → FitsAll (x ∷ (ps ++ y ∷ [])) u → FitsNext b v n → FitsNext (x ∷ (ps ++ (y ∷ b))) (u ++ v) n
@@ -56,7 +56,7 @@ zero_stmt m d p = record {
 
 -- an expression that begins with neither `{` nor `function`
 
-begun_not : (m : Bodies) (d : ℕ) (f : Kind → Bool) (t : Lexeme) (w : List Lexeme) (e : Expr) → f t.kind ≡ false → f kind.Number ≡ false → FitsAll (print m d e) w → Begun t w → begins_with f (print m d e) ≡ false
+pub begun_not : (m : Bodies) (d : ℕ) (f : Kind → Bool) (t : Lexeme) (w : List Lexeme) (e : Expr) → f t.kind ≡ false → f kind.Number ≡ false → FitsAll (print m d e) w → Begun t w → begins_with f (print m d e) ≡ false
 begun_not m d f t [] e h z q (here x) = absurd x
 begun_not m d f t (u ∷ w) e h z q (here x) = begins_not f _ u w q (ap (λ y. f y.kind) x ∙ h)
 begun_not m d f t w e h z q (started u v s k) = begins_not f _ u v (subst (λ x. FitsAll (print m d e) x) s q) (ap f k.number ∙ z)
@@ -133,9 +133,9 @@ module _ (m : Bodies) (d : ℕ) where
       stands = λ _. refl;
       fits = then_all (all_word word.DO d t k) (then_next w (a ++ (u ++ v)) r.fits (then_all qa (parens_then e q h))) }))) (parser.expect_word word.WHILE) (word_next word.WHILE (word_front word.WHILE (record { omits = refl }))))
 
-    pub block_sound : SoundNext Inside (IsStmt m d p) (parser.block_stmt b (is_inside p))
+    pub block_sound : (t : Lexeme) → t.kind ≡ kind.Mark mark.OPEN_BRACE → SoundNext Inside (Past (t ∷ []) (IsStmt m d p)) (parser.block_stmt b (is_inside p))
     unfolding parser.block_stmt
-    block_sound = next_made tree.Block (next_of (braced_sound m d b.stmt s.stmts (is_inside p))) (λ u x n q. record { proper = q.proper; stands = λ _. refl; fits = all_next q.fits n })
+    block_sound t k = next_made tree.Block (braced_from_sound m d b.stmt s.stmts (is_inside p) (t ∷ []) (all_mark mark.OPEN_BRACE d t k)) (λ u x n q. record { proper = q.proper; stands = λ _. refl; fits = all_next q.fits n })
 
     pub debugger_sound : (t : Lexeme) → t.kind ≡ kind.Word word.DEBUGGER → SoundNext Inside (Past (t ∷ []) (IsStmt m d p)) parser.debugger_of
     unfolding parser.debugger_of

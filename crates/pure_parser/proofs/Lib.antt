@@ -15,3 +15,4 @@ pub mod SoundObjects
 pub mod Rows
 mod CornerRows
 mod DepthRows
+pub mod SoundChains

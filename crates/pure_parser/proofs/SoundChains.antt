@@ -1,0 +1,182 @@
+-- Primaries, members, calls, `new`, and the operators of one operand: what is read fits its places, and faults can be
+-- mended.
+use Rattle.std.proofs.Common.{◌≡◌, ℕ, zero, suc, ◌+◌, ◌≤◌, List, [], ◌∷◌, ◌++◌, refl, sym, ap, ◌∙◌, subst, arith, append_assoc, append-nil, Bool, true, false, ◌&&◌, ◌||◌, not, nat_le, nat_eq, Option, Some, None, if◌then◌else◌}
+use Rattle.std.proofs.lemmas.Bool.{leb-true, eqb-true}
+use Rattle.script_grammar.specs.declared.token.Kind.{Kind}
+use Rattle.script_grammar.specs.declared.token.Kind.TheVariants as kind
+use Rattle.script_grammar.specs.declared.token.mark.TheConstants as mark
+use Rattle.script_grammar.specs.declared.token.word.TheConstants as word
+use Rattle.script_grammar.specs.Lexeme.{Lexeme}
+use Rattle.script_grammar.specs.Kinds.{is_mark, is_word, is_any_word, is_prefix, is_prefix_op, is_update, is_update_op, is_head, op_kind}
+use Rattle.script_grammar.specs.Tree.{Named, Expr, Tail, Tails}
+use Rattle.script_grammar.specs.Tree as tree
+use Rattle.script_grammar.specs.TreeLists.{Args, exprs_of, tails_of, maybe_args_of, parts_of}
+use Rattle.script_grammar.specs.Pieces.{Bodies, Piece, At, mark_piece, glued_mark, placed, from}
+use Rattle.script_grammar.specs.Print.{print, print_tail, print_tails, print_args}
+use Rattle.script_grammar.specs.Proper.{rank, Proper, ProperTail, ProperTails, ProperArgs, is_member_tail, are_member_tails, free_of_in}
+use Rattle.pure_parser.specs.Parser.{Parser, head_of, ret, bad, bind, peek, step, when, Turn, Again, Stop, loop, Many, stopped, begun}
+use Rattle.pure_parser.specs.Exprs
+use Rattle.pure_parser.specs.Exprs.{Env, AnAssign, APrefix, ANew, expect, is_atom, is_word_atom, word_atom, atom_case, chain_case, is_chain_head, mark_of, is_word_kind}
+use Rattle.pure_parser.proofs.Friendly.{Spot, AtFront, Inside}
+use Rattle.pure_parser.proofs.Fitting.{FitsAll, all_none, all_append, all_mark, all_placed, all_name, all_text, all_number, all_str, all_some_word, all_glued, all_same, all_none_left, fits_from, lexeme_of_kind, zero_lexeme}
+use Rattle.pure_parser.proofs.Tests.{false_true, mark_known, word_known, head_known, and_left, and_right, or_cases, not_true}
+use Rattle.pure_parser.proofs.Sound.{Leads, LeadsAt, Sound, Mended, Behind, Begun, BeginsAt, sound_bind, leads_bind, sound_ret, sound_bad, sound_at, sound_peek, sound_look, at_step, at_when, at_bind, end_bind, sound_first, sound_done, some_done, sound_some, sound_map, leads_map, sound_inside, sound_loop, sound_made, sound_when}
+use Rattle.pure_parser.proofs.SoundParts.{IsExpr, SoundEnv, SoundCalls, SoundHead, looser, freed, zero_some, zero_is, IsMark, expect_sound, top, top_le, head_bind, head_map, head_of_sound}
+use Rattle.pure_parser.proofs.SoundLists.{expr_sound, args_sound, IsArgs, array_sound, template_sound}
+use Rattle.pure_parser.proofs.SoundFunctions.{func_sound}
+use Rattle.pure_parser.proofs.SoundObjects.{object_sound}
+
+-- a primary of one lexeme
+
+module _ (m : Bodies) (d : ℕ) where
+  word_atom_at : (i : ℕ) (t : Lexeme) → t.kind ≡ kind.Word i → is_word_atom i ≡ true → IsExpr m false d 0 (t ∷ []) (word_atom i t.start)
+  word_atom_at i t e h =
+      or_cases (nat_eq i word.THIS || nat_eq i word.NULL || nat_eq i word.TRUE) (nat_eq i word.FALSE) h
+          (λ h. or_cases (nat_eq i word.THIS || nat_eq i word.NULL) (nat_eq i word.TRUE) h
+              (λ h. or_cases (nat_eq i word.THIS) (nat_eq i word.NULL) h
+                  (λ h. subst (λ j. t.kind ≡ kind.Word j → IsExpr m false d 0 (t ∷ []) (word_atom j t.start)) (sym (eqb-true i word.THIS h)) (λ e. record { rank_le = omega arith; proper = tt; in_if = refl; fits = all_placed (kind.Word word.THIS) d t e }) e)
+                  (λ h. subst (λ j. t.kind ≡ kind.Word j → IsExpr m false d 0 (t ∷ []) (word_atom j t.start)) (sym (eqb-true i word.NULL h)) (λ e. record { rank_le = omega arith; proper = tt; in_if = refl; fits = all_placed (kind.Word word.NULL) d t e }) e))
+              (λ h. subst (λ j. t.kind ≡ kind.Word j → IsExpr m false d 0 (t ∷ []) (word_atom j t.start)) (sym (eqb-true i word.TRUE h)) (λ e. record { rank_le = omega arith; proper = tt; in_if = refl; fits = all_placed (kind.Word word.TRUE) d t e }) e))
+          (λ h. subst (λ j. t.kind ≡ kind.Word j → IsExpr m false d 0 (t ∷ []) (word_atom j t.start)) (sym (eqb-true i word.FALSE h)) (λ e. record { rank_le = omega arith; proper = tt; in_if = refl; fits = all_placed (kind.Word word.FALSE) d t e }) e)
+
+  atom_at : (k : Kind) (t : Lexeme) → t.kind ≡ k → is_atom k ≡ true → IsExpr m false d 0 (t ∷ []) (atom_case k t)
+  atom_at kind.Name t e h = record { rank_le = omega arith; proper = tt; in_if = refl; fits = all_name d t e }
+  atom_at kind.Number t e h = record { rank_le = omega arith; proper = tt; in_if = refl; fits = all_number d t e }
+  atom_at kind.Str t e h = record { rank_le = omega arith; proper = tt; in_if = refl; fits = all_str d t e }
+  atom_at kind.TemplateWhole t e h = record { rank_le = omega arith; proper = tt; in_if = refl; fits = all_text kind.TemplateWhole d t e }
+  atom_at (kind.Word i) t e h = word_atom_at i t e h
+  atom_at kind.TemplateHead t e h = absurd (false_true h)
+  atom_at kind.TemplateMiddle t e h = absurd (false_true h)
+  atom_at kind.TemplateTail t e h = absurd (false_true h)
+  atom_at (kind.Mark i) t e h = absurd (false_true h)
+  atom_at kind.Bad t e h = absurd (false_true h)
+  atom_at kind.End t e h = absurd (false_true h)
+
+  -- tails; the flag says whether calls are among them
+
+  abbrev pub MayCall : Bool → Tail → Type 0
+  MayCall calls t = calls ≡ false → is_member_tail t ≡ true
+
+  abbrev pub TailTurn : Bool → List Lexeme → Turn Tail (Unit {0}) → Type 0
+  TailTurn calls u (Again t) = ProperTail m t × MayCall calls t × FitsAll (print_tail m d t) u
+  TailTurn calls u (Stop b) = u ≡ []
+
+  pub record TailMany (calls : Bool) (u : List Lexeme) (n : Many Tail (Unit {0})) : Type 0 where
+    pub proper : ProperTails m (tails_of n.items)
+    pub members : calls ≡ false → are_member_tails (tails_of n.items) ≡ true
+    pub fits : FitsAll (print_tails m d (tails_of n.items)) u
+
+  -- the most that a chain has with these tails
+  abbrev pub chain_rank : Bool → ℕ
+  chain_rank true = 4
+  chain_rank false = 2
+
+  chain_rank_le : (calls : Bool) (ts : Tails) → (calls ≡ false → are_member_tails ts ≡ true) → (if are_member_tails ts then 2 else 4) ≤ chain_rank calls
+  chain_rank_le true ts h = either (are_member_tails ts)
+    where
+      either : (b : Bool) → (if b then 2 else 4) ≤ 4
+      either true = omega arith
+      either false = omega arith
+  chain_rank_le false ts h = rw (h refl) (omega arith)
+
+  pub chain_is : (calls : Bool) (u x : List Lexeme) (e : Expr) (ts : List Tail) → IsExpr m false d 1 u e → TailMany calls x (record { items = ts; last = tt }) → IsExpr m false d (chain_rank calls) (u ++ x) (chain_case e ts)
+  chain_is true u x e [] q r = record { rank_le = omega (arith, q.rank_le); proper = q.proper; in_if = q.in_if; fits = all_same (append-nil (print m d e)) (all_append q.fits r.fits) }
+  chain_is false u x e [] q r = record { rank_le = omega (arith, q.rank_le); proper = q.proper; in_if = q.in_if; fits = all_same (append-nil (print m d e)) (all_append q.fits r.fits) }
+  chain_is calls u x e (t ∷ ts) q r = record { rank_le = chain_rank_le calls (tails_of (t ∷ ts)) r.members; proper = (q.rank_le, q.proper, tt, r.proper); in_if = refl; fits = all_append q.fits r.fits }
+
+  -- arguments of `new`, or none
+
+  pub record IsMaybeArgs (u : List Lexeme) (o : Option Args) : Type 0 where
+    pub proper : ProperArgs m (maybe_args_of o)
+    pub fits : FitsAll (print_args m d (maybe_args_of o)) u
+
+  module _ (v : Env) (s : SoundEnv m d v)
+      (paren : (heads : Bool) (t : Lexeme) → t.kind ≡ kind.Mark mark.OPEN_PAREN → Leads Inside (Behind (t ∷ []) (IsExpr m false d 0)) (Behind (t ∷ []) (IsExpr m false d (top heads 0))) (Exprs.paren_of v heads t.start)) where
+
+    primed : (heads : Bool) (w : List Lexeme) (f : Parser Expr) → Sound Inside (Behind w (IsExpr m false d 0)) f → Leads Inside (Behind w (IsExpr m false d 0)) (Behind w (IsExpr m false d (top heads 0))) f
+    primed heads w f h = leads_map (λ u e q. q) (λ u e q. looser (top_le heads 0 (omega arith)) (w ++ u) e q) h
+
+    pub prim_sound : (heads : Bool) → SoundHead m false d heads 0 (Exprs.prim_of v heads)
+    unfolding Exprs.prim_of
+    prim_sound heads = sound_peek (λ t.
+        at_when (is_atom t.kind) (λ e. at_step t (sound_ret {a = atom_case t.kind t} (atom_at t.kind t refl e))) (λ _.
+        at_when (is_mark mark.OPEN_PAREN t.kind) (λ e. at_step t (paren heads t (mark_known mark.OPEN_PAREN t.kind e))) (λ _.
+        at_when (is_word word.FUNCTION t.kind) (λ e. at_step t (primed heads (t ∷ []) (Exprs.func_of v t.start) (func_sound m d v s t (word_known word.FUNCTION t.kind e)))) (λ _.
+        at_when (is_mark mark.OPEN_BRACKET t.kind) (λ e. at_step t (primed heads (t ∷ []) (Exprs.array_of v t.start) (array_sound m d v s t (mark_known mark.OPEN_BRACKET t.kind e)))) (λ _.
+        at_when (is_mark mark.OPEN_BRACE t.kind) (λ e. at_step t (primed heads (t ∷ []) (Exprs.object_of v t.start) (object_sound m d v s t (mark_known mark.OPEN_BRACE t.kind e)))) (λ _.
+        at_when (is_head t.kind) (λ e. at_step t (primed heads (t ∷ []) (Exprs.template_of v t.start t.text) (template_sound m d v s t (head_known t.kind e)))) (λ _.
+        sound_at t (sound_bad (zero_some AtFront m false d (top heads 0)))))))))) (sound_bad (zero_some AtFront m false d (top heads 0)))
+
+    -- tails
+
+    -- one tail: a member, or a call
+    pub record IsDot (u : List Lexeme) (a : Tail) : Type 0 where
+      pub proper : ProperTail m a
+      pub member : is_member_tail a ≡ true
+      pub fits : (t : Lexeme) → t.kind ≡ kind.Mark mark.DOT → FitsAll (print_tail m d a) (t ∷ u)
+
+    dot_name_sound : Sound Inside IsDot Exprs.dot_of
+    unfolding Exprs.dot_of
+    dot_name_sound =
+        let name : Lexeme = lexeme_of_kind kind.Name in
+        let some : Mended Inside IsDot = record { end = name ∷ []; of = tree.Dot []; starts = tt; is = record { proper = tt; member = refl; fits = λ t e. all_append (all_mark mark.DOT d t e) (all_some_word d name refl) } } in
+        sound_peek (λ u. at_when (is_any_word u.kind) (λ h. at_step u (sound_ret {a = tree.Dot u.text} (record { proper = tt; member = refl; fits = λ t e. all_append (all_mark mark.DOT d t e) (all_some_word d u h) }))) (λ _. sound_at u (sound_bad some))) (sound_bad some)
+
+    dot_sound : (calls : Bool) (t : Lexeme) → t.kind ≡ kind.Mark mark.DOT → Sound Inside (Behind (t ∷ []) (TailTurn calls)) (bind Exprs.dot_of Exprs.again)
+    dot_sound calls t e = sound_made Again dot_name_sound (λ u a h. (h.proper, (λ _. h.member), h.fits t e))
+
+    index_inner : (t : Lexeme) → t.kind ≡ kind.Mark mark.OPEN_BRACKET → (calls : Bool) → Sound Inside (λ u a. TailTurn calls (t ∷ u) (Again a)) (Exprs.index_of v)
+    unfolding Exprs.index_of
+    index_inner t e calls = sound_bind (sound_inside (expr_sound m d v s true)) (λ u a q. sound_made (λ _. tree.Index a) (expect_sound mark.CLOSE_BRACKET d) (λ x _ c. (q.proper, (λ _. refl), all_append (all_mark mark.OPEN_BRACKET d t e) (all_append q.fits c))))
+
+    index_sound : (calls : Bool) (t : Lexeme) → t.kind ≡ kind.Mark mark.OPEN_BRACKET → Sound Inside (Behind (t ∷ []) (TailTurn calls)) (bind (Exprs.index_of v) Exprs.again)
+    index_sound calls t e = sound_made Again (index_inner t e calls) (λ u a h. h)
+
+    call_inner : (t : Lexeme) → t.kind ≡ kind.Mark mark.OPEN_PAREN → Sound Inside (λ u a. TailTurn true (t ∷ u) (Again a)) (Exprs.call_of v)
+    unfolding Exprs.call_of
+    call_inner t e = sound_made (λ a. tree.Call (exprs_of a.items) a.comma) (args_sound m d v s) (λ u a r. ((r.has, r.proper), (λ h. absurd (false_true (sym h))), all_append (all_mark mark.OPEN_PAREN d t e) r.fits))
+
+    call_sound : (t : Lexeme) → t.kind ≡ kind.Mark mark.OPEN_PAREN → Sound Inside (Behind (t ∷ []) (TailTurn true)) (bind (Exprs.call_of v) Exprs.again)
+    call_sound t e = sound_made Again (call_inner t e) (λ u a h. h)
+
+    member_or_sound : (calls : Bool) (t : Lexeme) (f : Parser (Turn Tail (Unit {0}))) → LeadsAt Inside (TailTurn calls) (TailTurn calls) t f → LeadsAt Inside (TailTurn calls) (TailTurn calls) t (Exprs.member_or v t f)
+    member_or_sound calls t f h =
+        at_when (is_mark mark.DOT t.kind) (λ e. at_step t (dot_sound calls t (mark_known mark.DOT t.kind e))) (λ _.
+        at_when (is_mark mark.OPEN_BRACKET t.kind) (λ e. at_step t (index_sound calls t (mark_known mark.OPEN_BRACKET t.kind e))) (λ _. h))
+
+    member_turn_sound : Sound Inside (TailTurn false) (Exprs.member_turn v)
+    unfolding Exprs.member_turn
+    member_turn_sound = sound_peek (λ t. member_or_sound false t (ret (Stop tt)) (sound_at t (sound_ret {a = Stop tt} refl))) (sound_ret {a = Stop tt} refl)
+
+    tail_turn_sound : Sound Inside (TailTurn true) (Exprs.tail_turn v)
+    unfolding Exprs.tail_turn
+    tail_turn_sound = sound_peek (λ t. member_or_sound true t (when (is_mark mark.OPEN_PAREN t.kind) (step (bind (Exprs.call_of v) Exprs.again)) (ret (Stop tt)))
+        (at_when (is_mark mark.OPEN_PAREN t.kind) (λ e. at_step t (call_sound t (mark_known mark.OPEN_PAREN t.kind e))) (λ _. sound_at t (sound_ret {a = Stop tt} refl)))) (sound_ret {a = Stop tt} refl)
+
+    tails_sound : (calls : Bool) (turn : Parser (Turn Tail (Unit {0}))) → Sound Inside (TailTurn calls) turn → Sound Inside (TailMany calls) (loop turn)
+    tails_sound calls turn h = sound_loop (TailTurn calls) (TailMany calls) turn h
+        (λ u b q. record { proper = tt; members = λ _. refl; fits = subst (λ x. FitsAll [] x) (sym q) all_none })
+        (λ u x a n q r. record { proper = (q.0, r.proper); members = λ e. member_both (is_member_tail a) (are_member_tails (tails_of n.items)) (q.1 e) (r.members e); fits = all_append q.2 r.fits })
+        (record { end = []; of = stopped tt; starts = tt; is = record { proper = tt; members = λ _. refl; fits = all_none } })
+      where
+        member_both : (a b : Bool) → a ≡ true → b ≡ true → (a && b) ≡ true
+        member_both true b h k = k
+        member_both false b h k = absurd (false_true h)
+
+    -- a chain, or what may not begin one
+    chain_sound : (calls : Bool) (turn : Parser (Turn Tail (Unit {0}))) → Sound Inside (TailTurn calls) turn → (r : ℕ) → 3 ≤ r → chain_rank calls ≤ r → (u : List Lexeme) (e : Expr) → IsExpr m false d 3 u e → Sound Inside (Behind u (IsExpr m false d r)) (Exprs.chain_of turn e)
+    chain_sound calls turn h r l k u e q = sound_when (is_chain_head e)
+        (λ c. sound_made (λ n. chain_case e n.items) (tails_sound calls turn h) (λ x n t. looser k (u ++ x) (chain_case e n.items) (chain_is calls u x e n.items (record { rank_le = leb-true (rank e) 1 c; proper = q.proper; in_if = q.in_if; fits = q.fits }) (record { proper = t.proper; members = t.members; fits = t.fits }))))
+        (λ _. sound_done (IsExpr m false d r) u e (looser l u e q))
+
+    -- `new`
+
+    pub new_or_prim_sound : (heads : Bool) → SoundHead m false d heads 3 (Exprs.new_or_prim v heads)
+    unfolding Exprs.new_or_prim
+    new_or_prim_sound heads = sound_peek (λ t. at_when (is_word word.NEW t.kind) (λ _. sound_at t (head_of_sound heads (omega arith) s.calls.new)) (λ _. sound_at t (head_map heads (omega arith) (prim_sound heads)))) (head_map heads (omega arith) (prim_sound heads))
+
+    new_args_sound : Sound Inside IsMaybeArgs (Exprs.new_args v)
+    unfolding Exprs.new_args
+    new_args_sound =
+        let none : Sound Inside IsMaybeArgs (ret None) = sound_ret (record { proper = tt; fits = all_none }) in
+        sound_peek (λ t. at_when (is_mark mark.OPEN_PAREN t.kind) (λ e. at_step t (sound_made Some (args_sound m d v s) (λ u a r. record { proper = (r.has, r.proper); fits = all_append (all_mark mark.OPEN_PAREN d t (mark_known mark.OPEN_PAREN t.kind e)) r.fits }))) (λ _. sound_at t none)) none

@@ -180,3 +180,106 @@ module _ (m : Bodies) (d : ℕ) where
     new_args_sound =
         let none : Sound Inside IsMaybeArgs (ret None) = sound_ret (record { proper = tt; fits = all_none }) in
         sound_peek (λ t. at_when (is_mark mark.OPEN_PAREN t.kind) (λ e. at_step t (sound_made Some (args_sound m d v s) (λ u a r. record { proper = (r.has, r.proper); fits = all_append (all_mark mark.OPEN_PAREN d t (mark_known mark.OPEN_PAREN t.kind e)) r.fits }))) (λ _. sound_at t none)) none
+
+    -- left sides and updates
+
+    pub left_sound : (heads : Bool) → SoundHead m false d heads 4 (Exprs.left_of v heads)
+    unfolding Exprs.left_of
+    left_sound heads = head_bind heads (Exprs.chain_of (Exprs.tail_turn v)) (omega arith) (new_or_prim_sound heads) (chain_sound true (Exprs.tail_turn v) tail_turn_sound 4 (omega arith) (omega arith))
+
+    update_known : (k : Kind) → is_update k ≡ true → (k ≡ kind.Mark (mark_of k)) × (is_update_op (mark_of k) ≡ true)
+    update_known (kind.Mark i) e = (refl, e)
+    update_known kind.Name e = absurd (false_true e)
+    update_known kind.Number e = absurd (false_true e)
+    update_known kind.Str e = absurd (false_true e)
+    update_known kind.TemplateWhole e = absurd (false_true e)
+    update_known kind.TemplateHead e = absurd (false_true e)
+    update_known kind.TemplateMiddle e = absurd (false_true e)
+    update_known kind.TemplateTail e = absurd (false_true e)
+    update_known (kind.Word i) e = absurd (false_true e)
+    update_known kind.Bad e = absurd (false_true e)
+    update_known kind.End e = absurd (false_true e)
+
+    from_fits : (ps : List Piece) (u : List Lexeme) (t : Lexeme) → BeginsAt t u → FitsAll ps u → FitsAll (from t.start ps) u
+    from_fits ps [] t b h = absurd b
+    from_fits ps (x ∷ u) t b h = record { before = λ n. fits_from ps x u n t.start (ap (λ y. y.start) b) (h.before n) }
+
+    postfix_sound : (t : Lexeme) (u : List Lexeme) (e : Expr) → IsExpr m false d 4 u e → BeginsAt t u → Sound Inside (Behind u (IsExpr m false d 5)) (Exprs.postfix_of t.start e)
+    unfolding Exprs.postfix_of
+    postfix_sound t u e q b =
+        let alone : Sound Inside (Behind u (IsExpr m false d 5)) (ret e) = sound_done (IsExpr m false d 5) u e (looser (omega arith) u e q) in
+        sound_peek (λ k. at_when (is_update k.kind && not k.after_line) (λ h.
+            let known = update_known k.kind (and_left (is_update k.kind) (not k.after_line) h) in
+            at_step k (sound_ret {a = tree.Update t.start (mark_of k.kind) false e} (record {
+                rank_le = omega arith;
+                proper = (known.1, q.rank_le, q.proper);
+                in_if = q.in_if;
+                fits = all_append (from_fits (print m d e) u t b q.fits) (all_glued (mark_of k.kind) d k known.0 (not_true k.after_line (and_right (is_update k.kind) (not k.after_line) h))) }))) (λ _. sound_at k alone)) alone
+
+    update_mend : (heads : Bool) (u : List Lexeme) (e : Expr) → IsExpr m false d (top heads 4) u e → Mended Inside (Behind u (IsExpr m false d (top heads 5)))
+    update_mend true u e q = some_done (IsExpr m false d 20) u e q
+    update_mend false u e q = some_done (IsExpr m false d 5) u e (looser (omega arith) u e q)
+
+    pub update_sound : (heads : Bool) → SoundHead m false d heads 5 (Exprs.update_of v heads)
+    unfolding Exprs.update_of
+    update_sound heads = sound_look
+        (λ t. at_bind (sound_first t (left_sound heads)) (λ u e q. leads_map (λ x a r. r) (λ x a r. looser (top_le heads 5 (omega arith)) (u ++ x) a r) (postfix_sound t u e q.0 q.1)) (λ u e q. update_mend heads u e q.0))
+        (end_bind (IsExpr m false d 5) (IsExpr m false d (top heads 5)) (Exprs.postfix_of 0) (left_sound heads) (update_mend heads))
+
+    pub unary_sound : (heads : Bool) → SoundHead m false d heads 6 (Exprs.unary_of v heads)
+    unfolding Exprs.unary_of
+    unary_sound heads =
+        let plain : SoundHead m false d heads 6 (Exprs.update_of v heads) = head_map heads (omega arith) (update_sound heads) in
+        sound_peek (λ t. at_when (is_prefix t.kind || is_update t.kind) (λ _. sound_at t (head_of_sound heads (omega arith) s.calls.prefix)) (λ _. sound_at t plain)) plain
+
+-- What the calls for `new` and a prefix operator read: these count for the depth.
+
+prefix_known : (k : Kind) → is_prefix k ≡ true → (k ≡ op_kind (mark_of k) (is_word_kind k)) × (is_prefix_op (mark_of k) (is_word_kind k) ≡ true)
+prefix_known (kind.Mark i) e = (refl, e)
+prefix_known (kind.Word i) e = (refl, e)
+prefix_known kind.Name e = absurd (false_true e)
+prefix_known kind.Number e = absurd (false_true e)
+prefix_known kind.Str e = absurd (false_true e)
+prefix_known kind.TemplateWhole e = absurd (false_true e)
+prefix_known kind.TemplateHead e = absurd (false_true e)
+prefix_known kind.TemplateMiddle e = absurd (false_true e)
+prefix_known kind.TemplateTail e = absurd (false_true e)
+prefix_known kind.Bad e = absurd (false_true e)
+prefix_known kind.End e = absurd (false_true e)
+
+module _ (m : Bodies) (d : ℕ) (v : Env) (s : SoundEnv m (suc d) v)
+    (paren : (heads : Bool) (t : Lexeme) → t.kind ≡ kind.Mark mark.OPEN_PAREN → Leads Inside (Behind (t ∷ []) (IsExpr m false (suc d) 0)) (Behind (t ∷ []) (IsExpr m false (suc d) (top heads 0))) (Exprs.paren_of v heads t.start)) where
+
+  new_is : (t : Lexeme) → t.kind ≡ kind.Word word.NEW → (u x : List Lexeme) (e : Expr) (o : Option Args) → IsExpr m false (suc d) 2 u e → IsMaybeArgs m (suc d) x o → IsExpr m false d 3 (t ∷ (u ++ x)) (tree.New t.start e (maybe_args_of o))
+  new_is t k u x e None q r = record { rank_le = omega arith; proper = (omega (arith, q.rank_le), q.proper, r.proper); in_if = refl; fits = all_append (all_placed (kind.Word word.NEW) (suc d) t k) (all_append q.fits r.fits) }
+  new_is t k u x e (Some a) q r = record { rank_le = omega arith; proper = (q.rank_le, q.proper, r.proper); in_if = refl; fits = all_append (all_placed (kind.Word word.NEW) (suc d) t k) (all_append q.fits r.fits) }
+
+  new_alone : (t : Lexeme) → t.kind ≡ kind.Word word.NEW → (u : List Lexeme) (e : Expr) → IsExpr m false (suc d) 3 u e → IsExpr m false d 3 (t ∷ u) (tree.New t.start e (maybe_args_of None))
+  new_alone t k u e q = record { rank_le = omega arith; proper = (q.rank_le, q.proper, tt); in_if = refl; fits = all_append (all_placed (kind.Word word.NEW) (suc d) t k) (all_same (sym (append-nil (print m (suc d) e))) q.fits) }
+
+  new_from_sound : (t : Lexeme) → t.kind ≡ kind.Word word.NEW → (u : List Lexeme) (e : Expr) → IsExpr m false (suc d) 3 u e → Sound Inside (Behind u (Behind (t ∷ []) (IsExpr m false d 3))) (Exprs.new_from v t.start e)
+  unfolding Exprs.new_from
+  new_from_sound t k u e q = sound_when (is_chain_head e)
+      (λ c. sound_bind (tails_sound m (suc d) v s paren false (Exprs.member_turn v) (member_turn_sound m (suc d) v s paren)) (λ x n r.
+          let callee = chain_is m (suc d) false u x e n.items (record { rank_le = leb-true (rank e) 1 c; proper = q.proper; in_if = q.in_if; fits = q.fits }) (record { proper = r.proper; members = r.members; fits = r.fits }) in
+          sound_made (λ o. tree.New t.start (chain_case e n.items) (maybe_args_of o)) (new_args_sound m (suc d) v s paren) (λ y o a. subst (λ z. IsExpr m false d 3 (t ∷ z) (tree.New t.start (chain_case e n.items) (maybe_args_of o))) (append_assoc u x y) (new_is t k (u ++ x) y (chain_case e n.items) o callee a))))
+      (λ _. sound_done (Behind (t ∷ []) (IsExpr m false d 3)) u (tree.New t.start e (maybe_args_of None)) (new_alone t k u e q))
+
+  pub new_sound : Sound AtFront (IsExpr m false d 3) (Exprs.new_of v)
+  unfolding Exprs.new_of
+  new_sound =
+      let some = zero_some AtFront m false d 3 in
+      sound_peek (λ t. at_when (is_word word.NEW t.kind) (λ e. at_step t (sound_bind (sound_inside (new_or_prim_sound m (suc d) v s paren false)) (new_from_sound t (word_known word.NEW t.kind e)))) (λ _. sound_at t (sound_bad some))) (sound_bad some)
+
+  pub prefix_sound : Sound AtFront (IsExpr m false d 6) (Exprs.prefix_of v)
+  unfolding Exprs.prefix_of
+  prefix_sound =
+      let some = zero_some AtFront m false d 6 in
+      let operand = sound_inside (unary_sound m (suc d) v s paren false) in
+      sound_peek (λ t.
+          at_when (is_prefix t.kind) (λ e.
+              let known = prefix_known t.kind e in
+              at_step t (sound_made (λ a. tree.Unary t.start (mark_of t.kind) a (is_word_kind t.kind)) operand (λ u a q. record { rank_le = omega arith; proper = (known.1, q.rank_le, q.proper); in_if = q.in_if; fits = all_append (all_placed (op_kind (mark_of t.kind) (is_word_kind t.kind)) (suc d) t known.0) q.fits }))) (λ _.
+          at_when (is_update t.kind) (λ e.
+              let known = update_known m (suc d) v s paren t.kind e in
+              at_step t (sound_made (λ a. tree.Update t.start (mark_of t.kind) true a) operand (λ u a q. record { rank_le = omega arith; proper = (known.1, q.rank_le, q.proper); in_if = q.in_if; fits = all_append (all_placed (kind.Mark (mark_of t.kind)) (suc d) t known.0) q.fits }))) (λ _. sound_at t (sound_bad some)))) (sound_bad some)

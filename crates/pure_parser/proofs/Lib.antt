@@ -16,3 +16,4 @@ pub mod Rows
 mod CornerRows
 mod DepthRows
 pub mod SoundChains
+pub mod SoundLevels

@@ -8,6 +8,8 @@ pub mod Stands
 pub mod Complete
 pub mod Refuse
 pub mod Agrees
+pub mod Spanned
+pub mod Fronts
 pub mod SoundParts
 pub mod SoundLists
 pub mod SoundFunctions

@@ -19,3 +19,4 @@ mod CornerRows
 mod DepthRows
 pub mod SoundChains
 pub mod SoundLevels
+pub mod SoundArrows

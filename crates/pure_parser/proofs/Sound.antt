@@ -91,14 +91,14 @@ leads_map {p = p} {R = R} {S = S} {R2 = R2} {S2 = S2} {f = f} m k s = record { a
 pub sound_map : {A : Type 0} {p : Spot} {R S : List Lexeme → A → Type 0} {f : Parser A} → ((w : List Lexeme) (a : A) → R w a → S w a) → Sound p R f → Sound p S f
 sound_map m s = leads_map m m s
 
-outcome_inside : {A : Type 0} (R S : List Lexeme → A → Type 0) (ts : List Lexeme) (r : Reply A) → Outcome AtFront R S ts r → Outcome Inside R S ts r
-outcome_inside R S ts (Read a rs us) o = record { front = o.front; split = o.split; some = tt; is = o.is }
-outcome_inside R S ts (Bad rs us) o = record { front = o.front; split = o.split; end = o.end; of = o.of; starts = tt; is = o.is }
-outcome_inside R S ts (Deep rs us) o = o
+pub inside_outcome : {A : Type 0} (R S : List Lexeme → A → Type 0) (ts : List Lexeme) (r : Reply A) → Outcome AtFront R S ts r → Outcome Inside R S ts r
+inside_outcome R S ts (Read a rs us) o = record { front = o.front; split = o.split; some = tt; is = o.is }
+inside_outcome R S ts (Bad rs us) o = record { front = o.front; split = o.split; end = o.end; of = o.of; starts = tt; is = o.is }
+inside_outcome R S ts (Deep rs us) o = o
 
 -- what may stand at the front may stand inside
 pub sound_inside : {A : Type 0} {R S : List Lexeme → A → Type 0} {f : Parser A} → Leads AtFront R S f → Leads Inside R S f
-sound_inside {R = R} {S = S} {f = f} s = record { at = λ ts. outcome_inside R S ts (f ts) (s.at ts) }
+sound_inside {R = R} {S = S} {f = f} s = record { at = λ ts. inside_outcome R S ts (f ts) (s.at ts) }
 
 -- what stands behind lexemes that were read before
 abbrev pub Behind : {A : Type 0} → List Lexeme → (List Lexeme → A → Type 0) → List Lexeme → A → Type 0
@@ -136,7 +136,7 @@ outcome_behind p R S w ts us h e (Read a rs vs) o = record { front = w ++ o.fron
 outcome_behind p R S w ts us h e (Bad rs vs) o = record { front = w ++ o.front; split = e ∙ ap (λ x. w ++ x) o.split ∙ sym (append_assoc w o.front vs); end = o.end; of = o.of; starts = reads_start p w o.front o.end h; is = subst (λ x. S x o.of) (sym (append_assoc w o.front o.end)) o.is }
 outcome_behind p R S w ts us h e (Deep rs vs) o = record { front = w ++ o.front; split = e ∙ ap (λ x. w ++ x) o.split ∙ sym (append_assoc w o.front vs); token = o.token; behind = o.behind; first = o.first; end = o.end; of = o.of; is = subst (λ x. S x o.of) (sym (append_assoc w o.front (o.token ∷ o.end))) o.is }
 
-outcome_after : {A B : Type 0} (p : Spot) (Q E : List Lexeme → A → Type 0) (R S : List Lexeme → B → Type 0) (f : A → Parser B) → ((w : List Lexeme) (a : A) → Q w a → Leads Inside (Behind w R) (Behind w S) (f a)) → ((w : List Lexeme) (a : A) → E w a → Mended Inside (Behind w S)) → (ts : List Lexeme) (r : Reply A) → Outcome p Q E ts r → Outcome p R S ts (after r f)
+pub outcome_after : {A B : Type 0} (p : Spot) (Q E : List Lexeme → A → Type 0) (R S : List Lexeme → B → Type 0) (f : A → Parser B) → ((w : List Lexeme) (a : A) → Q w a → Leads Inside (Behind w R) (Behind w S) (f a)) → ((w : List Lexeme) (a : A) → E w a → Mended Inside (Behind w S)) → (ts : List Lexeme) (r : Reply A) → Outcome p Q E ts r → Outcome p R S ts (after r f)
 outcome_after p Q E R S f g k ts (Read a rs us) o = outcome_noted p R S ts rs (f a us) (outcome_behind p R S o.front ts us o.some o.split (f a us) ((g o.front a o.is).at us))
 outcome_after p Q E R S f g k ts (Bad rs us) o =
     let s = k (o.front ++ o.end) o.of o.is in

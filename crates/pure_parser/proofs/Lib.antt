@@ -20,3 +20,4 @@ mod DepthRows
 pub mod SoundChains
 pub mod SoundLevels
 pub mod SoundArrows
+pub mod SoundHeads

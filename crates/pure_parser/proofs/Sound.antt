@@ -248,8 +248,33 @@ first_outcome R S t ts (Deep rs us) o = record { front = o.front; split = o.spli
 pub sound_first : {A : Type 0} {R S : List Lexeme → A → Type 0} {f : Parser A} (t : Lexeme) → Leads AtFront R S f → LeadsAt AtFront (λ w a. R w a × BeginsAt t w) (λ w a. S w a × Begun t w) t f
 sound_first {R = R} {S = S} {f = f} t s = record { first = λ ts. first_outcome R S t ts (f (t ∷ ts)) (s.at (t ∷ ts)) }
 
+pub at_inside : {A : Type 0} {R S : List Lexeme → A → Type 0} {t : Lexeme} {f : Parser A} → LeadsAt AtFront R S t f → LeadsAt Inside R S t f
+at_inside {R = R} {S = S} {t = t} {f = f} s = record { first = λ ts. inside_outcome R S (t ∷ ts) (f (t ∷ ts)) (s.first ts) }
+
+-- where nothing is left, the end begins with a number
+first_end : {A : Type 0} (R S : List Lexeme → A → Type 0) (t : Lexeme) (r : Reply A) → Outcome AtFront R S [] r → Outcome AtFront (λ w a. R w a × BeginsAt t w) (λ w a. S w a × Begun t w) [] r
+first_end R S t (Read a rs us) o = absurd (none o.front us o.some o.split)
+  where
+    none : (w us : List Lexeme) → Reads AtFront w → [] ≡ w ++ us → ⊥
+    none [] us h e = absurd h
+    none (u ∷ w) us h e = cc
+first_end R S t (Bad rs us) o = record { front = o.front; split = o.split; end = o.end; of = o.of; starts = o.starts; is = (o.is, begun o.front o.end us o.starts o.split) }
+  where
+    begun : (w e us : List Lexeme) → Starts AtFront w e → [] ≡ w ++ us → Begun t (w ++ e)
+    begun [] [] us h k = absurd h
+    begun [] (u ∷ e) us h k = started u e refl h
+    begun (u ∷ w) e us h k = absurd (cc)
+first_end R S t (Deep rs us) o = absurd (none o.front us o.token o.behind o.split o.first)
+  where
+    none : (v us : List Lexeme) (t : Lexeme) (bs : List Lexeme) → [] ≡ v ++ us → us ≡ t ∷ bs → ⊥
+    none [] us t bs e k = absurd (cc)
+    none (u ∷ v) us t bs e k = absurd (cc)
+
+pub sound_first_end : {A : Type 0} {R S : List Lexeme → A → Type 0} {f : Parser A} (t : Lexeme) → Leads AtFront R S f → Outcome AtFront (λ w a. R w a × BeginsAt t w) (λ w a. S w a × Begun t w) [] (f [])
+sound_first_end {R = R} {S = S} {f = f} t s = first_end R S t (f []) (s.at [])
+
 -- what stands at the front reads nothing where nothing is left
-end_outcome : {A B : Type 0} (Q E : List Lexeme → A → Type 0) (R S : List Lexeme → B → Type 0) (f : A → Parser B) → ((w : List Lexeme) (a : A) → E w a → Mended Inside (Behind w S)) → (r : Reply A) → Outcome AtFront Q E [] r → Outcome AtFront R S [] (after r f)
+pub end_outcome : {A B : Type 0} (Q E : List Lexeme → A → Type 0) (R S : List Lexeme → B → Type 0) (f : A → Parser B) → ((w : List Lexeme) (a : A) → E w a → Mended Inside (Behind w S)) → (r : Reply A) → Outcome AtFront Q E [] r → Outcome AtFront R S [] (after r f)
 end_outcome Q E R S f k (Read a rs us) o = absurd (none o.front us o.some o.split)
   where
     none : (w us : List Lexeme) → Reads AtFront w → [] ≡ w ++ us → ⊥

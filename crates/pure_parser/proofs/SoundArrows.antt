@@ -35,11 +35,11 @@ module _ (m : Bodies) (d : ℕ) where
     pub proper : ProperExprs m (exprs_of es)
     pub fits : FitsAll (print_list m d (exprs_of es)) u
 
-  list_more : (es : List Expr) → HasExprs (exprs_of es) → print_more m d (exprs_of es) ≡ mark_piece mark.COMMA d ∷ print_list m d (exprs_of es)
+  pub list_more : (es : List Expr) → HasExprs (exprs_of es) → print_more m d (exprs_of es) ≡ mark_piece mark.COMMA d ∷ print_list m d (exprs_of es)
   list_more [] h = absurd h
   list_more (e ∷ es) h = refl
 
-  items_first : (u x : List Lexeme) (e : Expr) (es : List Expr) → rank e ≤ 20 → Proper m e → FitsAll (print m (suc d) e) u → ProperExprs m (exprs_of es) → FitsAll (print_more m d (exprs_of es)) x → IsItems (u ++ x) (e ∷ es)
+  pub items_first : (u x : List Lexeme) (e : Expr) (es : List Expr) → rank e ≤ 20 → Proper m e → FitsAll (print m (suc d) e) u → ProperExprs m (exprs_of es) → FitsAll (print_more m d (exprs_of es)) x → IsItems (u ++ x) (e ∷ es)
   items_first u x e es r p f q g = record { has = tt; proper = (r, p, q); fits = all_append f g }
 
   items_expr : (u : List Lexeme) (es : List Expr) → IsItems u es → Proper m (list_case es) × FitsAll (print m (suc d) (list_case es)) u
@@ -47,7 +47,7 @@ module _ (m : Bodies) (d : ℕ) where
   items_expr u (e ∷ []) h = (h.proper.1, all_same (append-nil (print m (suc d) e)) h.fits)
   items_expr u (e ∷ f ∷ es) h = ((tt, h.proper), h.fits)
 
-  paren_is : (t : Lexeme) → t.kind ≡ kind.Mark mark.OPEN_PAREN → (u x : List Lexeme) (es : List Expr) → IsItems u es → IsMark mark.CLOSE_PAREN d x tt → IsExpr m false d 0 (t ∷ (u ++ x)) (tree.Paren t.start (list_case es))
+  pub paren_is : (t : Lexeme) → t.kind ≡ kind.Mark mark.OPEN_PAREN → (u x : List Lexeme) (es : List Expr) → IsItems u es → IsMark mark.CLOSE_PAREN d x tt → IsExpr m false d 0 (t ∷ (u ++ x)) (tree.Paren t.start (list_case es))
   paren_is t e u x es h c =
       let p = items_expr u es h in
       record { rank_le = omega arith; proper = p.0; in_if = refl; fits = all_append (all_placed (kind.Mark mark.OPEN_PAREN) d t e) (all_append p.1 c) }
@@ -79,10 +79,10 @@ module _ (m : Bodies) (d : ℕ) where
   abbrev pub arrow_lexeme : Lexeme
   arrow_lexeme = lexeme_of_kind (kind.Mark mark.ARROW)
 
-  zero_body : BodyRead
+  pub zero_body : BodyRead
   zero_body = record { body = tree.ShortBody (tree.Number 0 0); end = 0 }
 
-  zero_body_is : (w : Bool) → ArrowBody w (zero_lexeme ∷ []) zero_body
+  pub zero_body_is : (w : Bool) → ArrowBody w (zero_lexeme ∷ []) zero_body
   unfolding zero_body
   zero_body_is w = record {
       proper = (refl, omega arith, refl, tt);
@@ -93,7 +93,7 @@ module _ (m : Bodies) (d : ℕ) where
       either true = refl
       either false = refl
 
-  arrow_mark_is : IsArrowMark (arrow_lexeme ∷ []) tt
+  pub arrow_mark_is : IsArrowMark (arrow_lexeme ∷ []) tt
   arrow_mark_is = all_glued mark.ARROW d (lexeme_of_kind (kind.Mark mark.ARROW)) refl refl
 
   abbrev pub arrow_end : List Lexeme

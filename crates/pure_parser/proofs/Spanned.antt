@@ -8,7 +8,7 @@ use Rattle.pure_parser.specs.Exprs.{Spanned, spanned, spanned_reply, last_end}
 use Rattle.pure_parser.proofs.Friendly.{Spot, AtFront, Inside}
 use Rattle.pure_parser.proofs.Fitting.{EndsBy, ends_by}
 use Rattle.pure_parser.proofs.Local.{Local, Same, out, kept, left, grown, grown_records}
-use Rattle.pure_parser.proofs.Sound.{Leads, Outcome}
+use Rattle.pure_parser.proofs.Sound.{Leads, LeadsAt, Outcome}
 use Rattle.pure_parser.proofs.Stands.{Marked, lexemes}
 use Rattle.pure_parser.proofs.Complete.{Parses, bare, cut}
 use Rattle.pure_parser.proofs.Agrees.{Agrees, MeetsAt, Meets, Verdict, fine, bad_at, deep_at, records, judged}
@@ -25,13 +25,16 @@ taken_end ts w us e = ap (λ x. last_end 0 (take (length x - length us) x)) e �
 abbrev pub WithEnd : {A : Type 0} → (List Lexeme → A → Type 0) → List Lexeme → Spanned A → Type 0
 WithEnd R w s = R w s.value × EndsBy w s.end
 
-spanned_outcome : {A : Type 0} (p : Spot) (R S : List Lexeme → A → Type 0) (ts : List Lexeme) (r : Reply A) → Outcome p R S ts r → Outcome p (WithEnd R) (WithEnd S) ts (spanned_reply ts r)
+pub spanned_outcome : {A : Type 0} (p : Spot) (R S : List Lexeme → A → Type 0) (ts : List Lexeme) (r : Reply A) → Outcome p R S ts r → Outcome p (WithEnd R) (WithEnd S) ts (spanned_reply ts r)
 spanned_outcome p R S ts (Read a rs us) o = record { front = o.front; split = o.split; some = o.some; is = (o.is, subst (λ e. EndsBy o.front e) (sym (taken_end ts o.front us o.split)) (ends_by o.front 0)) }
 spanned_outcome p R S ts (Bad rs us) o = record { front = o.front; split = o.split; end = o.end; of = record { value = o.of; end = last_end 0 (o.front ++ o.end) }; starts = o.starts; is = (o.is, ends_by (o.front ++ o.end) 0) }
 spanned_outcome p R S ts (Deep rs us) o = record { front = o.front; split = o.split; token = o.token; behind = o.behind; first = o.first; end = o.end; of = record { value = o.of; end = last_end 0 (o.front ++ o.token ∷ o.end) }; is = (o.is, ends_by (o.front ++ o.token ∷ o.end) 0) }
 
 pub sound_spanned : {A : Type 0} {p : Spot} {R S : List Lexeme → A → Type 0} {f : Parser A} → Leads p R S f → Leads p (WithEnd R) (WithEnd S) (spanned f)
 sound_spanned {p = p} {R = R} {S = S} {f = f} s = record { at = λ ts. spanned_outcome p R S ts (f ts) (s.at ts) }
+
+pub at_spanned : {A : Type 0} {p : Spot} {R S : List Lexeme → A → Type 0} {t : Lexeme} {f : Parser A} → LeadsAt p R S t f → LeadsAt p (WithEnd R) (WithEnd S) t (spanned f)
+at_spanned {p = p} {R = R} {S = S} {t = t} {f = f} s = record { first = λ ts. spanned_outcome p R S (t ∷ ts) (f (t ∷ ts)) (s.first ts) }
 
 -- locality
 

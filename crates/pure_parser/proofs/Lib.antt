@@ -21,3 +21,4 @@ pub mod SoundChains
 pub mod SoundLevels
 pub mod SoundArrows
 pub mod SoundHeads
+pub mod Lone

@@ -22,3 +22,4 @@ pub mod SoundLevels
 pub mod SoundArrows
 pub mod SoundHeads
 pub mod Lone
+pub mod SoundCalls

@@ -131,7 +131,7 @@ outcome_noted p R S ts [] r o = o
 outcome_noted p R S ts (b ∷ rs) r o = outcome_put p R S ts (b ∷ rs) r o
 
 -- an outcome behind lexemes that were read before
-outcome_behind : {A : Type 0} (p : Spot) (R S : List Lexeme → A → Type 0) (w ts us : List Lexeme) → Reads p w → ts ≡ w ++ us → (r : Reply A) → Outcome Inside (Behind w R) (Behind w S) us r → Outcome p R S ts r
+pub outcome_behind : {A : Type 0} (p : Spot) (R S : List Lexeme → A → Type 0) (w ts us : List Lexeme) → Reads p w → ts ≡ w ++ us → (r : Reply A) → Outcome Inside (Behind w R) (Behind w S) us r → Outcome p R S ts r
 outcome_behind p R S w ts us h e (Read a rs vs) o = record { front = w ++ o.front; split = e ∙ ap (λ x. w ++ x) o.split ∙ sym (append_assoc w o.front vs); some = reads_append p w o.front h; is = o.is }
 outcome_behind p R S w ts us h e (Bad rs vs) o = record { front = w ++ o.front; split = e ∙ ap (λ x. w ++ x) o.split ∙ sym (append_assoc w o.front vs); end = o.end; of = o.of; starts = reads_start p w o.front o.end h; is = subst (λ x. S x o.of) (sym (append_assoc w o.front o.end)) o.is }
 outcome_behind p R S w ts us h e (Deep rs vs) o = record { front = w ++ o.front; split = e ∙ ap (λ x. w ++ x) o.split ∙ sym (append_assoc w o.front vs); token = o.token; behind = o.behind; first = o.first; end = o.end; of = o.of; is = subst (λ x. S x o.of) (sym (append_assoc w o.front (o.token ∷ o.end))) o.is }

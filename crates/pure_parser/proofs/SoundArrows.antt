@@ -20,7 +20,7 @@ use Rattle.pure_parser.specs.Exprs.{Env, AnAssign, AParam, ARest, ParamsEnd, Pla
 use Rattle.pure_parser.proofs.Friendly.{Spot, AtFront, Inside}
 use Rattle.pure_parser.proofs.Fitting.{FitsAll, all_none, all_append, all_mark, all_placed, all_name, all_glued, all_same, fits_until, EndsBy, lexeme_of_kind, zero_lexeme}
 use Rattle.pure_parser.proofs.Tests.{false_true, mark_known, name_known, and_left, and_right, or_cases, not_true, bool_cases}
-use Rattle.pure_parser.proofs.Sound.{Leads, LeadsAt, Outcome, Sound, Mended, Behind, Begun, BeginsAt, here, started, outcome_after, inside_outcome, sound_bind, leads_bind, sound_ret, sound_bad, sound_at, sound_peek, sound_look, at_step, at_when, at_bind, end_bind, sound_first, sound_done, leads_done, some_done, sound_some, sound_map, leads_map, sound_inside, sound_loop, leads_loop, sound_made, leads_made, sound_when}
+use Rattle.pure_parser.proofs.Sound.{Leads, LeadsAt, Outcome, Sound, Mended, Behind, Begun, BeginsAt, here, started, outcome_after, sound_bind, leads_bind, sound_ret, sound_bad, sound_at, sound_peek, sound_look, at_step, at_when, at_bind, end_bind, sound_first, sound_done, leads_done, some_done, sound_some, sound_map, leads_map, sound_inside, sound_loop, leads_loop, sound_made, leads_made, sound_when}
 use Rattle.pure_parser.proofs.Spanned.{sound_spanned, WithEnd}
 use Rattle.pure_parser.proofs.Fronts.{begins_no}
 use Rattle.pure_parser.proofs.SoundParts.{IsExpr, IsParam, IsRest, IsItem, IsBraced, print_param, param_value, param_expr, param_print, param_is, SoundEnv, SoundCalls, SoundBody, in_both, looser, freed, zero_is, zero_some, IsMark, expect_sound, mark_some, top, top_le}
@@ -245,7 +245,7 @@ module _ (m : Bodies) (d : ℕ) where
         let w = form_two ts h in
         subst (λ y. Outcome Inside LeadTurn LeadEnd y (bind (v.sub (AnAssign true)) Exprs.lead_end y)) (sym w.3)
             (outcome_after Inside (IsItem m (suc d)) (IsItem m (suc d)) LeadTurn LeadEnd Exprs.lead_end lead_end_sound lead_item_mend (w.0 ∷ w.1 ∷ w.2) (v.sub (AnAssign true) (w.0 ∷ w.1 ∷ w.2))
-                (inside_outcome (IsItem m (suc d)) (IsItem m (suc d)) (w.0 ∷ w.1 ∷ w.2) (v.sub (AnAssign true) (w.0 ∷ w.1 ∷ w.2)) (s.calls.item w.0 w.1 (subst (λ y. is_param_form (head_of y) (head_of (rest_of y)) ≡ true) w.3 h) w.2)))
+                (s.calls.item w.0 w.1 (subst (λ y. is_param_form (head_of y) (head_of (rest_of y)) ≡ true) w.3 h) w.2))
 
     lead_item_sound : Leads Inside LeadTurn LeadEnd (Exprs.lead_item v)
     unfolding Exprs.lead_item

@@ -39,7 +39,7 @@ module _ (m : Bodies) (d : ℕ) where
               (λ h. subst (λ j. t.kind ≡ kind.Word j → IsExpr m false d 0 (t ∷ []) (word_atom j t.start)) (sym (eqb-true i word.TRUE h)) (λ e. record { rank_le = omega arith; proper = tt; in_if = refl; fits = all_placed (kind.Word word.TRUE) d t e }) e))
           (λ h. subst (λ j. t.kind ≡ kind.Word j → IsExpr m false d 0 (t ∷ []) (word_atom j t.start)) (sym (eqb-true i word.FALSE h)) (λ e. record { rank_le = omega arith; proper = tt; in_if = refl; fits = all_placed (kind.Word word.FALSE) d t e }) e)
 
-  atom_at : (k : Kind) (t : Lexeme) → t.kind ≡ k → is_atom k ≡ true → IsExpr m false d 0 (t ∷ []) (atom_case k t)
+  pub atom_at : (k : Kind) (t : Lexeme) → t.kind ≡ k → is_atom k ≡ true → IsExpr m false d 0 (t ∷ []) (atom_case k t)
   atom_at kind.Name t e h = record { rank_le = omega arith; proper = tt; in_if = refl; fits = all_name d t e }
   atom_at kind.Number t e h = record { rank_le = omega arith; proper = tt; in_if = refl; fits = all_number d t e }
   atom_at kind.Str t e h = record { rank_le = omega arith; proper = tt; in_if = refl; fits = all_str d t e }
@@ -265,21 +265,29 @@ module _ (m : Bodies) (d : ℕ) (v : Env) (s : SoundEnv m (suc d) v)
           sound_made (λ o. tree.New t.start (chain_case e n.items) (maybe_args_of o)) (new_args_sound m (suc d) v s paren) (λ y o a. subst (λ z. IsExpr m false d 3 (t ∷ z) (tree.New t.start (chain_case e n.items) (maybe_args_of o))) (append_assoc u x y) (new_is t k (u ++ x) y (chain_case e n.items) o callee a))))
       (λ _. sound_done (Behind (t ∷ []) (IsExpr m false d 3)) u (tree.New t.start e (maybe_args_of None)) (new_alone t k u e q))
 
+  pub new_behind : (t : Lexeme) → t.kind ≡ kind.Word word.NEW → Sound Inside (Behind (t ∷ []) (IsExpr m false d 3)) (bind (Exprs.new_or_prim v false) (Exprs.new_from v t.start))
+  new_behind t e = sound_bind (sound_inside (new_or_prim_sound m (suc d) v s paren false)) (new_from_sound t e)
+
   pub new_sound : Sound AtFront (IsExpr m false d 3) (Exprs.new_of v)
   unfolding Exprs.new_of
   new_sound =
       let some = zero_some AtFront m false d 3 in
-      sound_peek (λ t. at_when (is_word word.NEW t.kind) (λ e. at_step t (sound_bind (sound_inside (new_or_prim_sound m (suc d) v s paren false)) (new_from_sound t (word_known word.NEW t.kind e)))) (λ _. sound_at t (sound_bad some))) (sound_bad some)
+      sound_peek (λ t. at_when (is_word word.NEW t.kind) (λ e. at_step t (new_behind t (word_known word.NEW t.kind e))) (λ _. sound_at t (sound_bad some))) (sound_bad some)
+
+  pub unary_behind : (t : Lexeme) → is_prefix t.kind ≡ true → Sound Inside (Behind (t ∷ []) (IsExpr m false d 6)) (bind (Exprs.unary_of v false) (λ a. ret (tree.Unary t.start (mark_of t.kind) a (is_word_kind t.kind))))
+  unary_behind t e =
+      let known = prefix_known t.kind e in
+      sound_made (λ a. tree.Unary t.start (mark_of t.kind) a (is_word_kind t.kind)) (sound_inside (unary_sound m (suc d) v s paren false)) (λ u a q. record { rank_le = omega arith; proper = (known.1, q.rank_le, q.proper); in_if = q.in_if; fits = all_append (all_placed (op_kind (mark_of t.kind) (is_word_kind t.kind)) (suc d) t known.0) q.fits })
+
+  pub update_behind : (t : Lexeme) → is_update t.kind ≡ true → Sound Inside (Behind (t ∷ []) (IsExpr m false d 6)) (bind (Exprs.unary_of v false) (λ a. ret (tree.Update t.start (mark_of t.kind) true a)))
+  update_behind t e =
+      let known = update_known m (suc d) v s paren t.kind e in
+      sound_made (λ a. tree.Update t.start (mark_of t.kind) true a) (sound_inside (unary_sound m (suc d) v s paren false)) (λ u a q. record { rank_le = omega arith; proper = (known.1, q.rank_le, q.proper); in_if = q.in_if; fits = all_append (all_placed (kind.Mark (mark_of t.kind)) (suc d) t known.0) q.fits })
 
   pub prefix_sound : Sound AtFront (IsExpr m false d 6) (Exprs.prefix_of v)
   unfolding Exprs.prefix_of
   prefix_sound =
       let some = zero_some AtFront m false d 6 in
-      let operand = sound_inside (unary_sound m (suc d) v s paren false) in
       sound_peek (λ t.
-          at_when (is_prefix t.kind) (λ e.
-              let known = prefix_known t.kind e in
-              at_step t (sound_made (λ a. tree.Unary t.start (mark_of t.kind) a (is_word_kind t.kind)) operand (λ u a q. record { rank_le = omega arith; proper = (known.1, q.rank_le, q.proper); in_if = q.in_if; fits = all_append (all_placed (op_kind (mark_of t.kind) (is_word_kind t.kind)) (suc d) t known.0) q.fits }))) (λ _.
-          at_when (is_update t.kind) (λ e.
-              let known = update_known m (suc d) v s paren t.kind e in
-              at_step t (sound_made (λ a. tree.Update t.start (mark_of t.kind) true a) operand (λ u a q. record { rank_le = omega arith; proper = (known.1, q.rank_le, q.proper); in_if = q.in_if; fits = all_append (all_placed (kind.Mark (mark_of t.kind)) (suc d) t known.0) q.fits }))) (λ _. sound_at t (sound_bad some)))) (sound_bad some)
+          at_when (is_prefix t.kind) (λ e. at_step t (unary_behind t e)) (λ _.
+          at_when (is_update t.kind) (λ e. at_step t (update_behind t e)) (λ _. sound_at t (sound_bad some)))) (sound_bad some)

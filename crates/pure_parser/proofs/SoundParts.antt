@@ -66,7 +66,7 @@ pub record SoundCalls (m : Bodies) (d : ℕ) (sub : Calls) : Type 0 where
   pub new : Sound AtFront (IsExpr m false d 3) (sub ANew)
   pub param : Sound Inside (IsParam m (suc d)) (sub AParam)
   pub rest : Sound Inside (IsRest (suc d)) (sub ARest)
-  pub item : (t u : Lexeme) → is_param_form t u ≡ true → (ts : List Lexeme) → Outcome AtFront (IsItem m (suc d)) (IsItem m (suc d)) (t ∷ u ∷ ts) (sub (AnAssign true) (t ∷ u ∷ ts))
+  pub item : (t u : Lexeme) → is_param_form t u ≡ true → (ts : List Lexeme) → Outcome Inside (IsItem m (suc d)) (IsItem m (suc d)) (t ∷ u ∷ ts) (sub (AnAssign true) (t ∷ u ∷ ts))
 
 pub record SoundBody (m : Bodies) (d : ℕ) (body : BodyParser) : Type 0 where
   pub braced : (form : FuncForm) (start : ℕ) (simple : Bool) → Sound Inside (IsBraced m d form) (body form start simple)

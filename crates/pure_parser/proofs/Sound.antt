@@ -91,14 +91,14 @@ leads_map {p = p} {R = R} {S = S} {R2 = R2} {S2 = S2} {f = f} m k s = record { a
 pub sound_map : {A : Type 0} {p : Spot} {R S : List Lexeme → A → Type 0} {f : Parser A} → ((w : List Lexeme) (a : A) → R w a → S w a) → Sound p R f → Sound p S f
 sound_map m s = leads_map m m s
 
-outcome_inside : {A : Type 0} (R S : List Lexeme → A → Type 0) (ts : List Lexeme) (r : Reply A) → Outcome AtFront R S ts r → Outcome Inside R S ts r
-outcome_inside R S ts (Read a rs us) o = record { front = o.front; split = o.split; some = tt; is = o.is }
-outcome_inside R S ts (Bad rs us) o = record { front = o.front; split = o.split; end = o.end; of = o.of; starts = tt; is = o.is }
-outcome_inside R S ts (Deep rs us) o = o
+pub inside_outcome : {A : Type 0} (R S : List Lexeme → A → Type 0) (ts : List Lexeme) (r : Reply A) → Outcome AtFront R S ts r → Outcome Inside R S ts r
+inside_outcome R S ts (Read a rs us) o = record { front = o.front; split = o.split; some = tt; is = o.is }
+inside_outcome R S ts (Bad rs us) o = record { front = o.front; split = o.split; end = o.end; of = o.of; starts = tt; is = o.is }
+inside_outcome R S ts (Deep rs us) o = o
 
 -- what may stand at the front may stand inside
 pub sound_inside : {A : Type 0} {R S : List Lexeme → A → Type 0} {f : Parser A} → Leads AtFront R S f → Leads Inside R S f
-sound_inside {R = R} {S = S} {f = f} s = record { at = λ ts. outcome_inside R S ts (f ts) (s.at ts) }
+sound_inside {R = R} {S = S} {f = f} s = record { at = λ ts. inside_outcome R S ts (f ts) (s.at ts) }
 
 -- what stands behind lexemes that were read before
 abbrev pub Behind : {A : Type 0} → List Lexeme → (List Lexeme → A → Type 0) → List Lexeme → A → Type 0
@@ -131,12 +131,12 @@ outcome_noted p R S ts [] r o = o
 outcome_noted p R S ts (b ∷ rs) r o = outcome_put p R S ts (b ∷ rs) r o
 
 -- an outcome behind lexemes that were read before
-outcome_behind : {A : Type 0} (p : Spot) (R S : List Lexeme → A → Type 0) (w ts us : List Lexeme) → Reads p w → ts ≡ w ++ us → (r : Reply A) → Outcome Inside (Behind w R) (Behind w S) us r → Outcome p R S ts r
+pub outcome_behind : {A : Type 0} (p : Spot) (R S : List Lexeme → A → Type 0) (w ts us : List Lexeme) → Reads p w → ts ≡ w ++ us → (r : Reply A) → Outcome Inside (Behind w R) (Behind w S) us r → Outcome p R S ts r
 outcome_behind p R S w ts us h e (Read a rs vs) o = record { front = w ++ o.front; split = e ∙ ap (λ x. w ++ x) o.split ∙ sym (append_assoc w o.front vs); some = reads_append p w o.front h; is = o.is }
 outcome_behind p R S w ts us h e (Bad rs vs) o = record { front = w ++ o.front; split = e ∙ ap (λ x. w ++ x) o.split ∙ sym (append_assoc w o.front vs); end = o.end; of = o.of; starts = reads_start p w o.front o.end h; is = subst (λ x. S x o.of) (sym (append_assoc w o.front o.end)) o.is }
 outcome_behind p R S w ts us h e (Deep rs vs) o = record { front = w ++ o.front; split = e ∙ ap (λ x. w ++ x) o.split ∙ sym (append_assoc w o.front vs); token = o.token; behind = o.behind; first = o.first; end = o.end; of = o.of; is = subst (λ x. S x o.of) (sym (append_assoc w o.front (o.token ∷ o.end))) o.is }
 
-outcome_after : {A B : Type 0} (p : Spot) (Q E : List Lexeme → A → Type 0) (R S : List Lexeme → B → Type 0) (f : A → Parser B) → ((w : List Lexeme) (a : A) → Q w a → Leads Inside (Behind w R) (Behind w S) (f a)) → ((w : List Lexeme) (a : A) → E w a → Mended Inside (Behind w S)) → (ts : List Lexeme) (r : Reply A) → Outcome p Q E ts r → Outcome p R S ts (after r f)
+pub outcome_after : {A B : Type 0} (p : Spot) (Q E : List Lexeme → A → Type 0) (R S : List Lexeme → B → Type 0) (f : A → Parser B) → ((w : List Lexeme) (a : A) → Q w a → Leads Inside (Behind w R) (Behind w S) (f a)) → ((w : List Lexeme) (a : A) → E w a → Mended Inside (Behind w S)) → (ts : List Lexeme) (r : Reply A) → Outcome p Q E ts r → Outcome p R S ts (after r f)
 outcome_after p Q E R S f g k ts (Read a rs us) o = outcome_noted p R S ts rs (f a us) (outcome_behind p R S o.front ts us o.some o.split (f a us) ((g o.front a o.is).at us))
 outcome_after p Q E R S f g k ts (Bad rs us) o =
     let s = k (o.front ++ o.end) o.of o.is in
@@ -251,8 +251,33 @@ first_outcome R S t ts (Deep rs us) o = record { front = o.front; split = o.spli
 pub sound_first : {A : Type 0} {R S : List Lexeme → A → Type 0} {f : Parser A} (t : Lexeme) → Leads AtFront R S f → LeadsAt AtFront (λ w a. R w a × BeginsAt t w) (λ w a. S w a × Begun t w) t f
 sound_first {R = R} {S = S} {f = f} t s = record { first = λ ts. first_outcome R S t ts (f (t ∷ ts)) (s.at (t ∷ ts)) }
 
+pub at_inside : {A : Type 0} {R S : List Lexeme → A → Type 0} {t : Lexeme} {f : Parser A} → LeadsAt AtFront R S t f → LeadsAt Inside R S t f
+at_inside {R = R} {S = S} {t = t} {f = f} s = record { first = λ ts. inside_outcome R S (t ∷ ts) (f (t ∷ ts)) (s.first ts) }
+
+-- where nothing is left, the end begins with a number
+first_end : {A : Type 0} (R S : List Lexeme → A → Type 0) (t : Lexeme) (r : Reply A) → Outcome AtFront R S [] r → Outcome AtFront (λ w a. R w a × BeginsAt t w) (λ w a. S w a × Begun t w) [] r
+first_end R S t (Read a rs us) o = absurd (none o.front us o.some o.split)
+  where
+    none : (w us : List Lexeme) → Reads AtFront w → [] ≡ w ++ us → ⊥
+    none [] us h e = absurd h
+    none (u ∷ w) us h e = cc
+first_end R S t (Bad rs us) o = record { front = o.front; split = o.split; end = o.end; of = o.of; starts = o.starts; is = (o.is, begun o.front o.end us o.starts o.split) }
+  where
+    begun : (w e us : List Lexeme) → Starts AtFront w e → [] ≡ w ++ us → Begun t (w ++ e)
+    begun [] [] us h k = absurd h
+    begun [] (u ∷ e) us h k = started u e refl h
+    begun (u ∷ w) e us h k = absurd (cc)
+first_end R S t (Deep rs us) o = absurd (none o.front us o.token o.behind o.split o.first)
+  where
+    none : (v us : List Lexeme) (t : Lexeme) (bs : List Lexeme) → [] ≡ v ++ us → us ≡ t ∷ bs → ⊥
+    none [] us t bs e k = absurd (cc)
+    none (u ∷ v) us t bs e k = absurd (cc)
+
+pub sound_first_end : {A : Type 0} {R S : List Lexeme → A → Type 0} {f : Parser A} (t : Lexeme) → Leads AtFront R S f → Outcome AtFront (λ w a. R w a × BeginsAt t w) (λ w a. S w a × Begun t w) [] (f [])
+sound_first_end {R = R} {S = S} {f = f} t s = first_end R S t (f []) (s.at [])
+
 -- what stands at the front reads nothing where nothing is left
-end_outcome : {A B : Type 0} (Q E : List Lexeme → A → Type 0) (R S : List Lexeme → B → Type 0) (f : A → Parser B) → ((w : List Lexeme) (a : A) → E w a → Mended Inside (Behind w S)) → (r : Reply A) → Outcome AtFront Q E [] r → Outcome AtFront R S [] (after r f)
+pub end_outcome : {A B : Type 0} (Q E : List Lexeme → A → Type 0) (R S : List Lexeme → B → Type 0) (f : A → Parser B) → ((w : List Lexeme) (a : A) → E w a → Mended Inside (Behind w S)) → (r : Reply A) → Outcome AtFront Q E [] r → Outcome AtFront R S [] (after r f)
 end_outcome Q E R S f k (Read a rs us) o = absurd (none o.front us o.some o.split)
   where
     none : (w us : List Lexeme) → Reads AtFront w → [] ≡ w ++ us → ⊥

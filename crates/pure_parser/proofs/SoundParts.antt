@@ -13,11 +13,11 @@ use Rattle.script_grammar.specs.Pieces.{Bodies, Piece, At, Fits, mark_piece, wor
 use Rattle.script_grammar.specs.Print.{print, print_body, print_initializer, ellipsis}
 use Rattle.script_grammar.specs.Proper.{rank, Proper, ProperMaybe, ProperBody, free_of_in, InIf}
 use Rattle.pure_parser.specs.Parser.{Parser, head_of, ret, bad, deep, bind, peek, step, when}
-use Rattle.pure_parser.specs.Exprs.{Call, AnAssign, APrefix, ANew, AParam, ARest, Calls, BodyRead, BodyParser, Env, expect, name_of, named}
+use Rattle.pure_parser.specs.Exprs.{Call, AnAssign, APrefix, ANew, AParam, ARest, Calls, BodyRead, BodyParser, Env, expect, name_of, named, is_param_form}
 use Rattle.pure_parser.proofs.Friendly.{Spot, AtFront, Inside, Starter}
 use Rattle.pure_parser.proofs.Fitting.{FitsAll, all_none, all_append, all_mark, all_name, all_kind, fits_number, lexeme_of_kind, zero_lexeme, zero_starts}
 use Rattle.pure_parser.proofs.Tests.{false_true, mark_known, name_known, and_both, or_left, or_right}
-use Rattle.pure_parser.proofs.Sound.{Leads, LeadsAt, Sound, Mended, Behind, sound_bind, leads_bind, sound_ret, sound_bad, sound_at, sound_peek, at_step, at_when, sound_done, some_done, sound_some, sound_map, leads_map, sound_inside}
+use Rattle.pure_parser.proofs.Sound.{Leads, LeadsAt, Outcome, Sound, Mended, Behind, sound_bind, leads_bind, sound_ret, sound_bad, sound_at, sound_peek, at_step, at_when, sound_done, some_done, sound_some, sound_map, leads_map, sound_inside}
 
 -- A proper expression that binds no looser than r, without `in` where it is left out, whose places the lexemes fit.
 pub record IsExpr (m : Bodies) (w : Bool) (d r : ℕ) (u : List Lexeme) (e : Expr) : Type 0 where
@@ -34,6 +34,20 @@ pub record IsParam (m : Bodies) (d : ℕ) (u : List Lexeme) (p : Param) : Type 0
   pub single : p.rest ≡ false
   pub proper : ProperMaybe m (maybe_expr_of p.value)
   pub fits : FitsAll (print_param m d p) u
+
+-- An item of a parenthesized expression that has the form of a parameter: it stands for one, and the other way round.
+
+abbrev pub param_value : Named → Option Expr → Expr
+param_value n None = tree.Name n
+param_value n (Some e) = tree.Assign mark.ASSIGN (tree.Name n) e
+
+abbrev pub param_expr : Param → Expr
+param_expr p = param_value p.name p.value
+
+pub record IsItem (m : Bodies) (d : ℕ) (u : List Lexeme) (e : Expr) : Type 0 where
+  pub param : Param
+  pub is : e ≡ param_expr param
+  pub of : IsParam m d u param
 
 -- `...` and a name
 abbrev pub IsRest : ℕ → List Lexeme → Named → Type 0
@@ -52,6 +66,7 @@ pub record SoundCalls (m : Bodies) (d : ℕ) (sub : Calls) : Type 0 where
   pub new : Sound AtFront (IsExpr m false d 3) (sub ANew)
   pub param : Sound Inside (IsParam m (suc d)) (sub AParam)
   pub rest : Sound Inside (IsRest (suc d)) (sub ARest)
+  pub item : (t u : Lexeme) → is_param_form t u ≡ true → (ts : List Lexeme) → Outcome Inside (IsItem m (suc d)) (IsItem m (suc d)) (t ∷ u ∷ ts) (sub (AnAssign true) (t ∷ u ∷ ts))
 
 pub record SoundBody (m : Bodies) (d : ℕ) (body : BodyParser) : Type 0 where
   pub braced : (form : FuncForm) (start : ℕ) (simple : Bool) → Sound Inside (IsBraced m d form) (body form start simple)
@@ -127,3 +142,20 @@ head_map false h s = leads_map (λ u e q. looser h u e (freed u e q)) (λ u e q.
 
 pub head_of_sound : {m : Bodies} {w : Bool} {d r : ℕ} (heads : Bool) {g : Parser Expr} → r ≤ 20 → Sound AtFront (IsExpr m w d r) g → SoundHead m w d heads r g
 head_of_sound heads h s = leads_map (λ u e q. q) (λ u e q. looser (top_le heads _ h) u e q) s
+
+-- a parameter prints as the expression that it stands for
+
+value_print : (m : Bodies) (q : ℕ) (n : Named) (o : Option Expr) (r : Bool) → r ≡ false → ellipsis r q ++ (name_piece n q ∷ print_initializer m q (maybe_expr_of o)) ≡ print m q (param_value n o)
+value_print m q n None false h = refl
+value_print m q n (Some e) false h = refl
+value_print m q n o true h = absurd (cc)
+
+pub param_print : (m : Bodies) (q : ℕ) (p : Param) → p.rest ≡ false → print_param m q p ≡ print m q (param_expr p)
+param_print m q p h = value_print m q p.name p.value p.rest h
+
+value_is : (m : Bodies) (d : ℕ) (u : List Lexeme) (n : Named) (o : Option Expr) → ProperMaybe m (maybe_expr_of o) → FitsAll (print m d (param_value n o)) u → IsExpr m true d 20 u (param_value n o)
+value_is m d u n None p f = record { rank_le = omega arith; proper = tt; in_if = refl; fits = f }
+value_is m d u n (Some e) p f = record { rank_le = omega arith; proper = (refl, omega arith, tt, p.0, p.1); in_if = refl; fits = f }
+
+pub param_is : (m : Bodies) (d : ℕ) (u : List Lexeme) (p : Param) → IsParam m d u p → IsExpr m true d 20 u (param_expr p)
+param_is m d u p h = value_is m d u p.name p.value h.proper (subst (λ x. FitsAll x u) (param_print m d p h.single) h.fits)

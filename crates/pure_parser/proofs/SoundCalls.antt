@@ -16,7 +16,7 @@ use Rattle.script_grammar.specs.Pieces.{Bodies, Piece, At, mark_piece, name_piec
 use Rattle.script_grammar.specs.Print.{print, print_initializer}
 use Rattle.pure_parser.specs.Parser.{Parser, Reply, head_of, rest_of, ret, bad, deep, bind, peek, step, when, no_room}
 use Rattle.pure_parser.specs.Exprs
-use Rattle.pure_parser.specs.Exprs.{Env, Call, Calls, BodyParser, AnAssign, APrefix, ANew, AParam, ARest, named, param, is_param_form, calls, begins_assign, begins_word, begins_mark, begins_call, is_atom, is_word_atom, atom_case}
+use Rattle.pure_parser.specs.Exprs.{Env, Call, Calls, BodyParser, AnAssign, APrefix, ANew, AParam, ARest, named, param, is_param_form, calls, no_calls, call_case, begins_assign, begins_word, begins_mark, begins_call, is_atom, is_word_atom, atom_case}
 use Rattle.pure_parser.proofs.Friendly.{Spot, AtFront, Inside}
 use Rattle.pure_parser.proofs.Fitting.{FitsAll, all_none, all_append, all_mark, all_name, lexeme_of_kind, zero_lexeme}
 use Rattle.pure_parser.proofs.Tests.{false_true, mark_known, word_known, name_known, or_cases, or_left, or_right}
@@ -61,7 +61,7 @@ module _ (m : Bodies) (d : ℕ) where
   unfolding name_lexeme
   no_item t u ts = record { front = []; split = refl; end = name_lexeme ∷ []; of = tree.Name (named name_lexeme); starts = tt; is = name_item name_lexeme refl }
 
-nothing_sound : (m : Bodies) (d : ℕ) (body : BodyParser) → SoundBody m d body → SoundEnv m d (nothing body)
+pub nothing_sound : (m : Bodies) (d : ℕ) (body : BodyParser) → SoundBody m d body → SoundEnv m d (nothing body)
 nothing_sound m d body b = record {
   calls = record {
     assign = λ w. sound_bad (zero_some AtFront m w (suc d) 20);
@@ -156,7 +156,7 @@ module _ (m : Bodies) (d : ℕ) (body : BodyParser) (b : SoundBody m d body) (b2
       (λ h. update_begun (ap is_update (mark_known_as i mark.INCREMENT e h))))
       (λ h. update_begun (ap is_update (mark_known_as i mark.DECREMENT e h)))
 
-  assign_begun : (k : Kind) → t.kind ≡ k → begins_assign k ≡ true → Begins
+  pub assign_begun : (k : Kind) → t.kind ≡ k → begins_assign k ≡ true → Begins
   assign_begun kind.Name e h = atom_begun (ap is_atom e)
   assign_begun kind.Number e h = atom_begun (ap is_atom e)
   assign_begun kind.Str e h = atom_begun (ap is_atom e)
@@ -219,17 +219,17 @@ no_room_item m d t u h ts =
     subst (λ b. Outcome Inside (IsItem m (suc d)) (IsItem m (suc d)) (t ∷ u ∷ ts) (when b deep bad (t ∷ u ∷ ts))) (sym (ap begins_assign (form_name t u h)))
         (record { front = []; split = refl; token = t; behind = u ∷ ts; first = refl; end = []; of = tree.Name (named t); is = name_item m (suc d) t (form_name t u h) })
 
-module _ (m : Bodies) (body : ℕ → BodyParser) (b : (room d : ℕ) → SoundBody m d (body room)) where
-  no_room_sound : (d : ℕ) → SoundCalls m d (calls body zero)
-  unfolding calls
-  no_room_sound d = record {
-    assign = λ w. sound_no_room (begins_call (AnAssign w)) refl (zero_some AtFront m w (suc d) 20) (λ t h. assign_begun m (suc d) (body zero) (b zero (suc d)) (b zero (suc (suc d))) w t t.kind refl h);
-    prefix = sound_no_room (begins_call APrefix) refl (zero_some AtFront m false d 6) (λ t h. either_begun m d (body zero) (b zero (suc d)) t h);
-    new = sound_no_room (begins_call ANew) refl (zero_some AtFront m false d 3) (λ t h. let below = nothing_sound m (suc d) (body zero) (b zero (suc d)) in sound_some (new_behind m d (nothing (body zero)) below (paren_sound m (suc d) (nothing (body zero)) below) t (word_known word.NEW t.kind h)));
-    param = sound_no_room (begins_call AParam) refl (param_mend m (suc d)) (λ t h. record { end = []; of = param (named t) None; starts = tt; is = name_param m (suc d) t (name_known t.kind h) });
-    rest = sound_no_room (begins_call ARest) refl (rest_mend m (suc d)) (λ t h. rest_behind m (suc d) t (mark_known mark.ELLIPSIS t.kind h));
-    item = no_room_item m d }
+-- without room
+pub no_calls_sound : (m : Bodies) (body : BodyParser) → ((d : ℕ) → SoundBody m d body) → (d : ℕ) → SoundCalls m d no_calls
+no_calls_sound m body b d = record {
+  assign = λ w. sound_no_room (begins_call (AnAssign w)) refl (zero_some AtFront m w (suc d) 20) (λ t h. assign_begun m (suc d) body (b (suc d)) (b (suc (suc d))) w t t.kind refl h);
+  prefix = sound_no_room (begins_call APrefix) refl (zero_some AtFront m false d 6) (λ t h. either_begun m d body (b (suc d)) t h);
+  new = sound_no_room (begins_call ANew) refl (zero_some AtFront m false d 3) (λ t h. let below = nothing_sound m (suc d) body (b (suc d)) in sound_some (new_behind m d (nothing body) below (paren_sound m (suc d) (nothing body) below) t (word_known word.NEW t.kind h)));
+  param = sound_no_room (begins_call AParam) refl (param_mend m (suc d)) (λ t h. record { end = []; of = param (named t) None; starts = tt; is = name_param m (suc d) t (name_known t.kind h) });
+  rest = sound_no_room (begins_call ARest) refl (rest_mend m (suc d)) (λ t h. rest_behind m (suc d) t (mark_known mark.ELLIPSIS t.kind h));
+  item = no_room_item m d }
 
+module _ (m : Bodies) where
   assign_sound : (d : ℕ) (v : Env) → SoundEnv m d v → (w : Bool) → Sound AtFront (IsExpr m w d 20) (Exprs.assign_of v w)
   unfolding Exprs.assign_of
   assign_sound d v s w = record { at = λ ts. (sound_when (Exprs.is_arrow_head ts) (λ _. arrow_sound m d v s w) (λ _. plain_sound m d v s (unary_sound m d v s (paren_sound m d v s)) w)).at ts }
@@ -242,17 +242,18 @@ module _ (m : Bodies) (body : ℕ → BodyParser) (b : (room d : ℕ) → SoundB
   unfolding Exprs.arrow_rest
   arrow_rest_sound d = sound_peek (λ t. at_when (is_mark mark.ELLIPSIS t.kind) (λ e. at_step t (sound_map (λ u n h. all_append (all_mark mark.ELLIPSIS d t (mark_known mark.ELLIPSIS t.kind e)) h) (name_sound d))) (λ _. sound_at t (sound_bad (rest_mend m d)))) (sound_bad (rest_mend m d))
 
-  -- with whatever room for depth
-  pub calls_sound : (room d : ℕ) → SoundCalls m d (calls body room)
-  unfolding calls
-  calls_sound zero d = no_room_sound d
-  calls_sound (suc room) d =
-      let v : Env = record { sub = calls body room; body = body room } in
-      let s : SoundEnv m (suc d) v = record { calls = calls_sound room (suc d); body = b room (suc d) } in
-      record {
-        assign = λ w. assign_sound (suc d) v s w;
-        prefix = prefix_sound m d v s (paren_sound m (suc d) v s);
-        new = new_sound m d v s (paren_sound m (suc d) v s);
-        param = arrow_param_sound (suc d) v s;
-        rest = arrow_rest_sound (suc d);
-        item = item_sound m (suc d) v s }
+  -- with room for one more
+  pub case_sound : (d : ℕ) (v : Env) → SoundEnv m (suc d) v → SoundCalls m d (call_case v)
+  case_sound d v s = record {
+    assign = λ w. assign_sound (suc d) v s w;
+    prefix = prefix_sound m d v s (paren_sound m (suc d) v s);
+    new = new_sound m d v s (paren_sound m (suc d) v s);
+    param = arrow_param_sound (suc d) v s;
+    rest = arrow_rest_sound (suc d);
+    item = item_sound m (suc d) v s }
+
+-- with whatever room for depth
+pub calls_sound : (m : Bodies) (body : ℕ → BodyParser) → ((room d : ℕ) → SoundBody m d (body room)) → (room d : ℕ) → SoundCalls m d (calls body room)
+unfolding calls
+calls_sound m body b zero d = no_calls_sound m (body zero) (b zero) d
+calls_sound m body b (suc room) d = case_sound m d (record { sub = calls body room; body = body room }) (record { calls = calls_sound m body b room (suc d); body = b room (suc d) })

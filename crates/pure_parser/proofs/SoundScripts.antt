@@ -47,7 +47,7 @@ module _ (m : Bodies) (d : ℕ) (b : Block) (s : SoundBlock m d b) (p : Place) w
 
   -- declarations
 
-  binding_sound : (t : Lexeme) (c : Decl) → t.kind ≡ kind.Word (decl_word c) → (is_item p ≡ false → is_var c ≡ true) → SoundNext Inside (Past (t ∷ []) Target) (parser.binding_of b.exprs c)
+  pub binding_sound : (t : Lexeme) (c : Decl) → t.kind ≡ kind.Word (decl_word c) → (is_item p ≡ false → is_var c ≡ true) → SoundNext Inside (Past (t ∷ []) Target) (parser.binding_of b.exprs c)
   unfolding parser.binding_of
   binding_sound t c k h =
       past_bind {E = IsName d} (name_sound d) (λ u n q.
@@ -63,7 +63,7 @@ module _ (m : Bodies) (d : ℕ) (b : Block) (s : SoundBlock m d b) (p : Place) w
           (λ r1. subst (λ y. IsFunctionOf m d b.exprs s.env form.Function (Some n) w (function form.Function start end y ps comma bare body) → Target (t ∷ (u ++ w)) (tree.Declared (function form.Function start end y ps comma bare body)) x) (sym r1.of.1)
               (λ r2. record { proper = (tt, r2.proper); stands = λ e. absurd (true_false (sym h ∙ e)); fits = all_next (all_append (all_word word.FUNCTION d t k) (all_append q r2.fits)) x }) r1) r
 
-  declared_sound : (t : Lexeme) → t.kind ≡ kind.Word word.FUNCTION → is_item p ≡ true → SoundNext Inside (Past (t ∷ []) Target) (parser.declared_of b.exprs)
+  pub declared_sound : (t : Lexeme) → t.kind ≡ kind.Word word.FUNCTION → is_item p ≡ true → SoundNext Inside (Past (t ∷ []) Target) (parser.declared_of b.exprs)
   unfolding parser.declared_of
   declared_sound t k h = past_bind {E = IsName d} (name_sound d) (λ u n q. next_made tree.Declared (next_of (function_sound m d b.exprs s.env form.Function (Some n) tt)) (λ w f x r. is_declared t u w n f x k h q r))
 

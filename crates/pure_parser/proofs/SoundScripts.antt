@@ -69,10 +69,10 @@ module _ (m : Bodies) (d : ℕ) (b : Block) (s : SoundBlock m d b) (p : Place) w
 
   -- expression statements
 
-  abbrev Valued : Lexeme → List Lexeme → Expr → Type 0
+  abbrev pub Valued : Lexeme → List Lexeme → Expr → Type 0
   Valued t u e = IsExpr m true (suc d) 21 u e × Begun t u
 
-  valued_is : (t : Lexeme) (u : List Lexeme) (e : Expr) → is_word word.FUNCTION t.kind ≡ false → is_mark mark.OPEN_BRACE t.kind ≡ false → Valued t u e → (v : List Lexeme) (y : Bool) (n : Lexeme) → IsSemi (ending e) d v y n → Target (u ++ v) (tree.Value e y) n
+  pub valued_is : (t : Lexeme) (u : List Lexeme) (e : Expr) → is_word word.FUNCTION t.kind ≡ false → is_mark mark.OPEN_BRACE t.kind ≡ false → Valued t u e → (v : List Lexeme) (y : Bool) (n : Lexeme) → IsSemi (ending e) d v y n → Target (u ++ v) (tree.Value e y) n
   valued_is t u e h k q v y n r = record {
     proper = (begins_same (is_mark mark.OPEN_BRACE) whole m 1 (suc d) e ∙ begun_not m (suc d) (is_mark mark.OPEN_BRACE) t u e k refl q.0.fits q.1,
         begins_same (is_word word.FUNCTION) whole m 1 (suc d) e ∙ begun_not m (suc d) (is_word word.FUNCTION) t u e h refl q.0.fits q.1,
@@ -84,10 +84,10 @@ module _ (m : Bodies) (d : ℕ) (b : Block) (s : SoundBlock m d b) (p : Place) w
   unfolding parser.value_stmt
   value_at t h k = past_at {E = Valued t} (at_map (λ u e q. (q.0, here q.1)) (λ u e q. q) (sound_first t (expr_sound m d b.exprs s.env true))) (λ u e q. next_made (tree.Value e) (semi_sound (ending e) d) (λ v y n r. valued_is t u e h k q v y n r))
 
-  semicolon : Lexeme
+  pub semicolon : Lexeme
   semicolon = lexeme_of_kind (kind.Mark mark.SEMICOLON)
 
-  semi_written : (e : Expr) (n : Lexeme) → IsSemi (ending e) d (semicolon ∷ []) true n
+  pub semi_written : (e : Expr) (n : Lexeme) → IsSemi (ending e) d (semicolon ∷ []) true n
   unfolding semicolon
   semi_written e n = all_next (all_mark mark.SEMICOLON d (lexeme_of_kind (kind.Mark mark.SEMICOLON)) refl) n
 

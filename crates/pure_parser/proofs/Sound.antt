@@ -187,6 +187,9 @@ SoundAt p R t f = LeadsAt p R R t f
 pub sound_at : {A : Type 0} {p : Spot} {R S : List Lexeme → A → Type 0} {f : Parser A} (t : Lexeme) → Leads p R S f → LeadsAt p R S t f
 sound_at t s = record { first = λ ts. s.at (t ∷ ts) }
 
+pub at_map : {A : Type 0} {p : Spot} {R S R2 S2 : List Lexeme → A → Type 0} {t : Lexeme} {f : Parser A} → ((w : List Lexeme) (a : A) → R w a → R2 w a) → ((w : List Lexeme) (a : A) → S w a → S2 w a) → LeadsAt p R S t f → LeadsAt p R2 S2 t f
+at_map {p = p} {R = R} {S = S} {R2 = R2} {S2 = S2} {t = t} {f = f} m k s = record { first = λ ts. outcome_map p R S R2 S2 m k (t ∷ ts) (f (t ∷ ts)) (s.first ts) }
+
 reads_one : (p : Spot) (t : Lexeme) → Reads p (t ∷ [])
 reads_one AtFront t = tt
 reads_one Inside t = tt

@@ -6,6 +6,7 @@ use Rattle.script_grammar.specs.declared.token.Kind.{Kind}
 use Rattle.script_grammar.specs.declared.token.Kind.TheVariants as kind
 use Rattle.script_grammar.specs.Lexeme.{Lexeme}
 use Rattle.pure_parser.specs.Parser.{Recorded, Reply, Read, Bad, Deep, Parser, head_of, rest_of, put_before, noted, after, ret, bad, deep, bind, peek, step, when, no_room, Turn, Again, Stop, turned, turns, loop, Many, stopped, begun, end_lexeme}
+use Rattle.pure_parser.specs.Exprs.{peek_two}
 use Rattle.pure_parser.proofs.Friendly.{Friendly, Spot, AtFront, Inside, first_of, end_friendly}
 use Rattle.pure_parser.proofs.Sound.{Sound, Behind}
 use Rattle.pure_parser.proofs.Sound as plain
@@ -295,6 +296,14 @@ module _ {A B : Type 0} (p : Spot) (E : List Lexeme → A → Type 0) (R : List 
 pub past_bind : {A B : Type 0} {p : Spot} {E : List Lexeme → A → Type 0} {R : List Lexeme → B → Lexeme → Type 0} {m : Parser A} {f : A → Parser B} → Sound p E m → ((w : List Lexeme) (a : A) → E w a → SoundNext Inside (Past w R) (f a)) → SoundNext p R (bind m f)
 past_bind {p = p} {E = E} {R = R} {m = m} {f = f} s g = record { at = λ ts. past_after p E R f g ts (m ts) (s.at ts) }
 
+-- a parser at lexemes that begin with this one
+pub record NextAt {A : Type 0} (p : Spot) (R : List Lexeme → A → Lexeme → Type 0) (t : Lexeme) (f : Parser A) : Type 0 where
+  pub first : (ts : List Lexeme) → Outcome p R (t ∷ ts) (f (t ∷ ts))
+
+-- the first part at lexemes that begin with this one
+pub past_at : {A B : Type 0} {p : Spot} {E : List Lexeme → A → Type 0} {R : List Lexeme → B → Lexeme → Type 0} {t : Lexeme} {m : Parser A} {f : A → Parser B} → plain.SoundAt p E t m → ((w : List Lexeme) (a : A) → E w a → SoundNext Inside (Past w R) (f a)) → NextAt p R t (bind m f)
+past_at {p = p} {E = E} {R = R} {t = t} {m = m} {f = f} s g = record { first = λ ts. past_after p E R f g (t ∷ ts) (m (t ∷ ts)) (s.first ts) }
+
 -- leaves
 
 pub next_ret : {A : Type 0} {p : Spot} {R : List Lexeme → A → Lexeme → Type 0} {a : A} → ((n : Lexeme) → R [] a n) → SoundNext p R (ret a)
@@ -306,10 +315,6 @@ next_bad s = record { at = λ ts. record { front = []; split = refl; end = s.end
 -- what is read is made into another value
 pub next_made : {A B : Type 0} {p : Spot} {Q : List Lexeme → A → Lexeme → Type 0} {R : List Lexeme → B → Lexeme → Type 0} {m : Parser A} (g : A → B) → SoundNext p Q m → ((w : List Lexeme) (a : A) (n : Lexeme) → Q w a n → R w (g a) n) → SoundNext p R (bind m (λ a. ret (g a)))
 next_made {R = R} g s h = next_bind s (λ w a. next_ret (λ n q. subst (λ x. R x (g a) n) (sym (append-nil w)) (h w a n q)))
-
--- a parser at lexemes that begin with this one
-pub record NextAt {A : Type 0} (p : Spot) (R : List Lexeme → A → Lexeme → Type 0) (t : Lexeme) (f : Parser A) : Type 0 where
-  pub first : (ts : List Lexeme) → Outcome p R (t ∷ ts) (f (t ∷ ts))
 
 pub next_at : {A : Type 0} {p : Spot} {R : List Lexeme → A → Lexeme → Type 0} {f : Parser A} (t : Lexeme) → SoundNext p R f → NextAt p R t f
 next_at t s = record { first = λ ts. s.at (t ∷ ts) }
@@ -339,6 +344,22 @@ next_peek_at p R f s e (t ∷ ts) = (s t).first ts
 -- looks at the first lexeme; the end of all lexemes stands for one of kind End
 pub next_peek : {A : Type 0} {p : Spot} {R : List Lexeme → A → Lexeme → Type 0} {f : Lexeme → Parser A} → ((t : Lexeme) → NextAt p R t (f t)) → SoundNext p R (f (head_of [])) → SoundNext p R (peek f)
 next_peek {p = p} {R = R} {f = f} s e = record { at = next_peek_at p R f s e }
+
+next_look_at : {A : Type 0} (p : Spot) (R : List Lexeme → A → Lexeme → Type 0) (f : Lexeme → Parser A) → ((t : Lexeme) → NextAt p R t (f t)) → Outcome p R [] (f (head_of []) []) → (ts : List Lexeme) → Outcome p R ts (peek f ts)
+next_look_at p R f s e [] = e
+next_look_at p R f s e (t ∷ ts) = (s t).first ts
+
+-- the same, where what is done depends on the lexeme
+pub next_look : {A : Type 0} {p : Spot} {R : List Lexeme → A → Lexeme → Type 0} {f : Lexeme → Parser A} → ((t : Lexeme) → NextAt p R t (f t)) → Outcome p R [] (f (head_of []) []) → SoundNext p R (peek f)
+next_look {p = p} {R = R} {f = f} s e = record { at = next_look_at p R f s e }
+
+next_two_at : {A : Type 0} (p : Spot) (R : List Lexeme → A → Lexeme → Type 0) (f : Lexeme → Lexeme → Parser A) → ((t u : Lexeme) → NextAt p R t (f t u)) → SoundNext p R (f (head_of []) (head_of [])) → (ts : List Lexeme) → Outcome p R ts (peek_two f ts)
+next_two_at p R f s e [] = e.at []
+next_two_at p R f s e (t ∷ ts) = (s t (head_of ts)).first ts
+
+-- looks at the first two lexemes
+pub next_peek_two : {A : Type 0} {p : Spot} {R : List Lexeme → A → Lexeme → Type 0} {f : Lexeme → Lexeme → Parser A} → ((t u : Lexeme) → NextAt p R t (f t u)) → SoundNext p R (f (head_of []) (head_of [])) → SoundNext p R (peek_two f)
+next_peek_two {p = p} {R = R} {f = f} s e = record { at = next_two_at p R f s e }
 
 at_bool : {A : Type 0} (p : Spot) (R : List Lexeme → A → Lexeme → Type 0) (t : Lexeme) (f g : Parser A) (b c : Bool) → c ≡ b → (b ≡ true → NextAt p R t f) → (b ≡ false → NextAt p R t g) → NextAt p R t (when c f g)
 at_bool p R t f g true c e h k = subst (λ x. NextAt p R t (when x f g)) (sym e) (h refl)

@@ -278,11 +278,11 @@ labelled_of b inside = bind b.label (λ n. bind (expect mark.COLON) (λ _. bind 
 abbrev pub is_label : Lexeme → Lexeme → Bool
 is_label t u = is_name t.kind && is_mark mark.COLON u.kind
 
--- one that begins with no word of a statement: `function` begins no expression statement
+-- one that begins with no word of a statement: neither `function` nor `{` begins an expression statement
 unfoldable pub plain_stmt : Block → Bool → Parser Stmt
 plain_stmt b inside = peek_two (λ t u.
     when (is_label t u) (labelled_of b inside)
-    (when (is_word word.FUNCTION t.kind) bad (value_stmt b.exprs)))
+    (when (is_word word.FUNCTION t.kind || is_mark mark.OPEN_BRACE t.kind) bad (value_stmt b.exprs)))
 
 unfoldable pub block_stmt : Block → Bool → Parser Stmt
 block_stmt b inside = bind (braced_of b.stmt inside) (λ ss. ret (tree.Block ss))

@@ -1,1 +1,4 @@
 mod PrintRows
+pub mod ExprEquations
+pub mod StmtEquations
+pub mod PartEquations

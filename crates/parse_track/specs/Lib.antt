@@ -1,0 +1,7 @@
+-- What a script tells, the early errors and the closed names of what was told, and the log of a track.
+pub mod Told
+pub mod RegionNames
+pub mod EarlyErrors
+pub mod ClosedNames
+pub mod Log
+pub mod Rows

@@ -1,3 +1,4 @@
 pub mod Log
 pub mod Order
 pub mod Entering
+mod Examples

@@ -5,7 +5,7 @@ use Rattle.parse_track.specs.declared.region.Early.{Early}
 use Rattle.parse_track.specs.declared.region.Jump.{Jump}
 use Rattle.parse_track.specs.declared.region.Jump.TheVariants.{Break, Continue}
 use Rattle.parse_track.specs.Told.{Name, Region, Script, Function, Arrow, Lambda, Block, Switch, ForHead, Catch, Loop, Label, VarBody, Leaf, Declared, Used, Jumped, Told, nothing, leaf, inner, KnownNames}
-use Rattle.parse_track.specs.RegionNames.{is_lexical, is_param, is_catch_param, is_head, is_block, is_body, is_function, declared_by, directly, vars, lexical_below}
+use Rattle.parse_track.specs.RegionNames.{is_lexical, is_param, is_catch_param, is_head, is_block, is_body, directly, vars, lexical_below}
 
 -- whether a name is among these
 abbrev pub has_name : {A : Type 0} → (A → A → Bool) → A → List (Name A) → Bool
@@ -77,10 +77,8 @@ abbrev pub lambda_name : {A : Type 0} → Region A → List (Name A)
 lambda_name (Lambda name) = name ∷ []
 lambda_name _ = []
 
-abbrev pub binds_reserved : {A : Type 0} → (A → A → Bool) → KnownNames A → Told A → List ℕ
-binds_reserved same known nothing = []
-binds_reserved same known (leaf l t) = reserved same known (declared_by (λ _. true) l) ++ binds_reserved same known t
-binds_reserved same known (inner k at i t) = reserved same known (lambda_name k) ++ (binds_reserved same known i ++ binds_reserved same known t)
+abbrev pub binds_reserved : {A : Type 0} → (A → A → Bool) → KnownNames A → Region A → Told A → List ℕ
+binds_reserved same known k i = reserved same known (lambda_name k ++ directly (λ _. true) i)
 
 -- What a jump finds around it in its function: whether a loop, whether a loop or a switch, the labels, and those
 -- of them that label a loop.
@@ -170,5 +168,5 @@ first_error same known noted t =
     sooner (error_of 4 (smallest (at_regions (catch_and_lexical same) t))) (
     sooner (error_of 5 (smallest (at_regions (param_and_lexical same) t))) (
     sooner (error_of 6 (smallest (at_regions (twice_param same) t))) (
-    sooner (error_of 9 (smallest (binds_reserved same known t)))
+    sooner (error_of 9 (smallest (at_regions (binds_reserved same known) t)))
     (error_of 11 (smallest (wrong_jumps same nothing_around t))))))))))

@@ -82,3 +82,44 @@ left log = record log { present = around_at log.present log.parts }
 -- the log after an early error is noted, of which only the first counts
 abbrev pub noting : Log → Early → Log
 noting log early = record log { noted = sooner (Some early) log.noted }
+
+-- the names of the code that early errors and closed names ask for
+abbrev pub known_names : Known → told.KnownNames ℕ
+known_names known = record { eval = known.eval; arguments = known.arguments; this = known.this }
+
+abbrev pub kind_of : Option Part → told.Region ℕ
+kind_of None = told.Block
+kind_of (Some part) = region_of part.kind
+
+abbrev pub at_of : Option Part → ℕ
+at_of None = 0
+at_of (Some part) = part.at
+
+abbrev pub items_of : Option Part → List Item
+items_of None = []
+items_of (Some part) = part.items
+
+-- what items tell, where `inside` is what each region tells
+abbrev pub told_items : List Part → (ℕ → told.Told ℕ) → List Item → told.Told ℕ
+told_items parts inside [] = told.nothing
+told_items parts inside (Leaf l ∷ items) = told.leaf l (told_items parts inside items)
+told_items parts inside (Inner m ∷ items) =
+    told.inner (kind_of (slice_get parts m)) (at_of (slice_get parts m)) (inside m) (told_items parts inside items)
+
+-- what a region tells, with at most so many regions one in another
+unfoldable pub told_region : ℕ → List Part → ℕ → told.Told ℕ
+told_region zero parts n = told.nothing
+told_region (suc room) parts n = told_items parts (told_region room parts) (items_of (slice_get parts n))
+
+abbrev pub outermost_if : ℕ → Option ℕ → List Item
+outermost_if n None = Inner n ∷ []
+outermost_if n (Some _) = []
+
+-- the outermost regions, of those from number n on
+abbrev pub outermost : ℕ → List Part → List Item
+outermost n [] = []
+outermost n (part ∷ parts) = outermost_if n part.around ++ outermost (n + 1) parts
+
+-- what was told of a script: its outermost regions, in the order of entering
+abbrev pub told_of : List Part → told.Told ℕ
+told_of parts = told_items parts (told_region (length parts) parts) (outermost 0 parts)

@@ -2,3 +2,5 @@ pub mod Log
 pub mod Order
 pub mod Entering
 mod Examples
+pub mod Walk
+pub mod Marks

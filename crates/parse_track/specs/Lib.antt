@@ -5,3 +5,4 @@ pub mod EarlyErrors
 pub mod ClosedNames
 pub mod Log
 pub mod Rows
+pub mod Walk

@@ -4,3 +4,5 @@ pub mod Entering
 mod Examples
 pub mod Walk
 pub mod Marks
+pub mod Items
+pub mod Distinct

@@ -5,7 +5,8 @@ use Rattle.parse_track.specs.Told.{Name, Region, Leaf, Declared, Used, Jumped, T
 use Rattle.parse_track.specs.RegionNames.{is_lambda}
 use Rattle.parse_track.specs.EarlyErrors.{has}
 use Rattle.parse_track.specs.ClosedNames.{names, begins, reaches, reached, flags}
-use Rattle.parse_track.specs.Walk.{Top, Tops, no_tops, put, bind_all, hit, deeper, size, walk}
+use Rattle.parse_track.specs.declared.closed.Top.{Top}
+use Rattle.parse_track.specs.Walk.{Tops, no_tops, put, bind_all, hit, deeper, size, walk}
 use Rattle.parse_track.proofs.Walk.{hit_other, Clear, Only, Below, is_at, put_clear_at, put_clear, bind_clear, bind_keeps, bind_hides, untouched, found, has-append, or_first, or_second, tell_less, tell_more, not_less, same_self, false_is_true}
 
 -- so many places from one on

@@ -7,7 +7,8 @@ use Rattle.parse_track.specs.Told.{Name, Region, Leaf, Declared, Used, Jumped, T
 use Rattle.parse_track.specs.RegionNames.{is_lambda}
 use Rattle.parse_track.specs.EarlyErrors.{has}
 use Rattle.parse_track.specs.ClosedNames.{names, begins, reaches, reached, flags}
-use Rattle.parse_track.specs.Walk.{Top, Tops, no_tops, put, bind_all, hit, deeper, size, walk}
+use Rattle.parse_track.specs.declared.closed.Top.{Top}
+use Rattle.parse_track.specs.Walk.{Tops, no_tops, put, bind_all, hit, deeper, size, walk}
 
 -- booleans
 or_none : (a b : Bool) → a ≡ false → b ≡ false → (a || b) ≡ false

@@ -6,14 +6,14 @@ use Rattle.parse_track.specs.RegionNames.{is_lexical, is_param, is_catch_param, 
 use Rattle.parse_track.specs.EarlyErrors.{has}
 
 abbrev pub names_of : {A : Type 0} → List (Name A) → List A
-names_of [] = []
-names_of (x ∷ xs) = x.name ∷ names_of xs
+names_of xs = map (λ x. x.name) xs
 
--- each name once, where it stands first
+-- of these names those that stand for the first time, behind some that were seen
 abbrev pub without : {A : Type 0} → (A → A → Bool) → List A → List A → List A
 without same seen [] = []
-without same seen (x ∷ xs) = cond (has same x seen) (without same seen xs) (x ∷ without same (x ∷ seen) xs)
+without same seen (x ∷ xs) = cond (has same x seen) [] (x ∷ []) ++ without same (seen ++ x ∷ []) xs
 
+-- each name once, where it stands first
 abbrev pub distinct : {A : Type 0} → (A → A → Bool) → List A → List A
 distinct same xs = without same [] xs
 

@@ -1,6 +1,7 @@
 -- The early errors of ECMA-262's static semantics that speak of names, regions and jumps, each as the list of
 -- the offsets where a script has it, and the first early error.
 use Rattle.std.specs.Prelude.{ℕ, max, Bool, true, false, cond, not, ◌||◌, ◌&&◌, nat_eq, nat_lt, Option, None, Some, List, [], ◌∷◌, ◌++◌}
+use Rattle.std.specs.List.{list_any}
 use Rattle.parse_track.specs.declared.region.Early.{Early}
 use Rattle.parse_track.specs.declared.region.Jump.{Jump}
 use Rattle.parse_track.specs.declared.region.Jump.TheVariants.{Break, Continue}
@@ -9,12 +10,10 @@ use Rattle.parse_track.specs.RegionNames.{is_lexical, is_param, is_catch_param, 
 
 -- whether a name is among these
 abbrev pub has_name : {A : Type 0} → (A → A → Bool) → A → List (Name A) → Bool
-has_name same x [] = false
-has_name same x (y ∷ ys) = same x y.name || has_name same x ys
+has_name same x ys = list_any (λ y. same x y.name) ys
 
 abbrev pub has : {A : Type 0} → (A → A → Bool) → A → List A → Bool
-has same x [] = false
-has same x (y ∷ ys) = same x y || has same x ys
+has same x ys = list_any (same x) ys
 
 -- the offset of each name that stands before it too, or in the list in front
 abbrev pub repeated : {A : Type 0} → (A → A → Bool) → List (Name A) → List (Name A) → List ℕ

@@ -6,3 +6,5 @@ pub mod ClosedNames
 pub mod Log
 pub mod Rows
 pub mod Walk
+pub mod Asked
+pub mod Scopes

@@ -1,10 +1,10 @@
 -- How the rows that a track keeps stand for the parts of its log.
-use Rattle.std.specs.Prelude.{ℕ, ◌+◌, ◌<◌, ◌≤◌, ◌^◌, ◌-◌, ◌≡◌, Option, None, Some, List, [], ◌∷◌, length, slice_get, map, IfSome}
+use Rattle.std.specs.Prelude.{ℕ, zero, suc, ◌+◌, ◌<◌, ◌≤◌, ◌^◌, ◌-◌, ◌≡◌, Option, None, Some, List, [], ◌∷◌, length, slice_get, map, IfSome}
 use Rattle.parse_track.specs.declared.track.Item.{Item as Told}
 use Rattle.parse_track.specs.declared.track.Item.TheVariants as code
 use Rattle.parse_track.specs.declared.track.Row.{Row}
 use Rattle.parse_track.specs.Told as told
-use Rattle.parse_track.specs.Log.{Item, Leaf, Inner, Part, name_of, label_of}
+use Rattle.parse_track.specs.Log.{Item, Leaf, Inner, Part, name_of, label_of, items_of}
 
 abbrev pub item_of : Told → Item
 item_of (code.Declared how name) = Leaf (told.Declared how (name_of name))
@@ -37,3 +37,8 @@ pub record IsInOrder (parts : List Part) (present : Option ℕ) : Type 0 where
   pub order : AreInOrder 0 (length parts) parts
   pub inside : IfSome present (λ n. n < length parts)
   pub few : length parts ≤ 2 ^ 32 - 2
+
+-- what stands in a region, where so many regions may stand one in another
+abbrev pub items_at : ℕ → List Part → ℕ → List Item
+items_at zero parts n = []
+items_at (suc room) parts n = items_of (slice_get parts n)

@@ -1,14 +1,10 @@
 -- How uses find bindings from the outside in: the counterpart of `closed` for one walk over what was told, with the
 -- innermost binding of each name. Only clauses of private functions cite it; that it gives `closed` is proved.
 use Rattle.std.specs.Prelude.{ℕ, ◌+◌, Bool, true, false, cond, nat_eq, nat_lt, Option, None, Some, List, [], ◌∷◌, ◌++◌, length}
+use Rattle.parse_track.specs.declared.closed.Top.{Top}
 use Rattle.parse_track.specs.Told.{Name, Region, Leaf, Declared, Used, Jumped, Told, nothing, leaf, inner, KnownNames}
 use Rattle.parse_track.specs.RegionNames.{is_lambda}
 use Rattle.parse_track.specs.ClosedNames.{names, begins}
-
--- the innermost binding of a name: its place among all bindings, and how many functions are around its scope
-pub record Top : Type 0 where
-  pub place : ℕ
-  pub depth : ℕ
 
 abbrev pub Tops : Type 0
 Tops = ℕ → Option Top

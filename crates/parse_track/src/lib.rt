@@ -9,3 +9,6 @@
 
 pub mod region;
 pub mod track;
+mod names;
+mod scopes;
+mod closed;

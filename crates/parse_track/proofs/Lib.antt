@@ -6,3 +6,5 @@ pub mod Walk
 pub mod Marks
 pub mod Items
 pub mod Distinct
+pub mod Binding
+pub mod Visiting

@@ -127,11 +127,11 @@ bind_clear (x ∷ xs) q depth place tops c h =
 pub false_is_true : false ≡ true → ⊥
 false_is_true e = cc
 
-or_left : (a b : Bool) → (a || b) ≡ false → a ≡ false
+pub or_left : (a b : Bool) → (a || b) ≡ false → a ≡ false
 or_left true b e = e
 or_left false b e = refl
 
-or_right : (a b : Bool) → (a || b) ≡ false → b ≡ false
+pub or_right : (a b : Bool) → (a || b) ≡ false → b ≡ false
 or_right true b e = absurd (false_is_true (sym e))
 or_right false b e = e
 

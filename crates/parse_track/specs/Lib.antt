@@ -8,3 +8,4 @@ pub mod Rows
 pub mod Walk
 pub mod Asked
 pub mod Scopes
+pub mod Visited

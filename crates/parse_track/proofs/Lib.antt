@@ -8,3 +8,5 @@ pub mod Items
 pub mod Distinct
 pub mod Binding
 pub mod Visiting
+pub mod Marking
+pub mod Closing

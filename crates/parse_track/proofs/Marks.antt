@@ -6,37 +6,19 @@ use Rattle.parse_track.specs.RegionNames.{is_lambda}
 use Rattle.parse_track.specs.EarlyErrors.{has}
 use Rattle.parse_track.specs.ClosedNames.{names, begins, reaches, reached, flags}
 use Rattle.parse_track.specs.declared.closed.Top.{Top}
-use Rattle.parse_track.specs.Walk.{Tops, no_tops, put, bind_all, hit, deeper, size, walk}
+use Rattle.parse_track.specs.Walk.{Tops, no_tops, put, bind_all, hit, deeper, size, walk, marks}
 use Rattle.parse_track.proofs.Walk.{hit_other, Clear, Only, Below, is_at, put_clear_at, put_clear, bind_clear, bind_keeps, bind_hides, untouched, found, has-append, or_first, or_second, tell_less, tell_more, not_less, same_self, false_is_true}
 
--- so many places from one on
-abbrev pub places : ℕ → ℕ → List ℕ
-places p zero = []
-places p (suc n) = p ∷ places (p + 1) n
-
-places-append : (p m n : ℕ) → places p (m + n) ≡ places p m ++ places (p + m) n
-places-append p zero n = ap (λ (k : ℕ). places p k) (let e : 0 + n ≡ n = omega arith in e) ∙ ap (λ (k : ℕ). places k n) (let e : p ≡ p + 0 = omega arith in e)
-places-append p (suc m) n =
-    ap (places p) (let e : suc m + n ≡ suc (m + n) = omega arith in e)
-    ∙ ap (λ (ps : List ℕ). p ∷ ps) (places-append (p + 1) m n ∙ ap (λ (k : ℕ). places (p + 1) m ++ places k n) (let e : (p + 1) + m ≡ p + suc m = omega arith in e))
-
--- the mark of each of so many places
-pub marks : List ℕ → ℕ → ℕ → List Bool
-marks hits p zero = []
-marks hits p (suc n) = has nat_eq p hits ∷ marks hits (p + 1) n
-
-cons_same : (a b : Bool) (xs ys : List Bool) → a ≡ b → xs ≡ ys → a ∷ xs ≡ b ∷ ys
+pub cons_same : (a b : Bool) (xs ys : List Bool) → a ≡ b → xs ≡ ys → a ∷ xs ≡ b ∷ ys
 cons_same a b xs ys e f = ap (λ (x : Bool). x ∷ xs) e ∙ ap (λ (zs : List Bool). b ∷ zs) f
 
 pub marks_same : (xs ys : List ℕ) (p n : ℕ) → ((q : ℕ) → p ≤ q → q < p + n → has nat_eq q xs ≡ has nat_eq q ys) → marks xs p n ≡ marks ys p n
-unfolding marks
 marks_same xs ys p zero h = refl
 marks_same xs ys p (suc n) h =
     cons_same (has nat_eq p xs) (has nat_eq p ys) (marks xs (p + 1) n) (marks ys (p + 1) n) (h p (omega arith) (omega arith))
       (marks_same xs ys (p + 1) n (λ q l m. h q (omega arith) (omega arith)))
 
 pub marks-append : (hits : List ℕ) (p m n : ℕ) → marks hits p (m + n) ≡ marks hits p m ++ marks hits (p + m) n
-unfolding marks
 marks-append hits p zero n = ap (λ (k : ℕ). marks hits p k) (let e : 0 + n ≡ n = omega arith in e) ∙ ap (λ (k : ℕ). marks hits k n) (let e : p ≡ p + 0 = omega arith in e)
 marks-append hits p (suc m) n =
     ap (marks hits p) (let e : suc m + n ≡ suc (m + n) = omega arith in e)
@@ -89,7 +71,6 @@ own_one known k i p depth place x xs tops false e h l =
 
 own : (known : KnownNames ℕ) (k : Region ℕ) (i : Told ℕ) (xs : List ℕ) (p depth place : ℕ) (tops : Tops) → p + length xs ≤ place → Below p tops
     → marks (walk known (is_lambda k) (bind_all depth p xs tops) place depth i) p (length xs) ≡ reached nat_eq known k i xs
-unfolding marks
 own known k i [] p depth place tops h l = refl
 own known k i (x ∷ xs) p depth place tops h l =
     cons_same
@@ -105,7 +86,6 @@ join_three a b c d e f g h i j k = h ∙ (ap (λ (x : List Bool). x ++ (c ++ d))
 
 pub marked : (known : KnownNames ℕ) (t : Told ℕ) (named : Bool) (tops : Tops) (place depth : ℕ) → Below place tops
     → marks (walk known named tops place depth t) place (size known t) ≡ flags nat_eq known t
-unfolding marks
 marked known nothing named tops place depth b = refl
 marked known (leaf (Declared _ _) t) named tops place depth b = marked known t named tops place depth b
 marked known (leaf (Jumped _ _ _) t) named tops place depth b = marked known t named tops place depth b

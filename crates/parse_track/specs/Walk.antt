@@ -1,9 +1,10 @@
 -- How uses find bindings from the outside in: the counterpart of `closed` for one walk over what was told, with the
 -- innermost binding of each name. Only clauses of private functions cite it; that it gives `closed` is proved.
-use Rattle.std.specs.Prelude.{ℕ, ◌+◌, Bool, true, false, cond, nat_eq, nat_lt, Option, None, Some, List, [], ◌∷◌, ◌++◌, length}
+use Rattle.std.specs.Prelude.{ℕ, zero, suc, ◌+◌, Bool, true, false, cond, nat_eq, nat_lt, Option, None, Some, List, [], ◌∷◌, ◌++◌, length}
 use Rattle.parse_track.specs.declared.closed.Top.{Top}
 use Rattle.parse_track.specs.Told.{Name, Region, Leaf, Declared, Used, Jumped, Told, nothing, leaf, inner, KnownNames}
 use Rattle.parse_track.specs.RegionNames.{is_lambda}
+use Rattle.parse_track.specs.EarlyErrors.{has}
 use Rattle.parse_track.specs.ClosedNames.{names, begins}
 
 abbrev pub Tops : Type 0
@@ -46,3 +47,8 @@ walk known named tops place depth (inner k at i t) =
       (bind_all (deeper (begins named k) depth) place (names nat_eq known k i) tops)
       (place + length (names nat_eq known k i)) (deeper (begins named k) depth) i
     ++ walk known named tops (place + (length (names nat_eq known k i) + size known i)) depth t
+
+-- of each of so many places, from one on, whether it is hit
+abbrev pub marks : List ℕ → ℕ → ℕ → List Bool
+marks hits p zero = []
+marks hits p (suc n) = has nat_eq p hits ∷ marks hits (p + 1) n

@@ -1,6 +1,6 @@
 //! The names that inner functions close over, by one walk from the outside in.
 
-ghost use Rattle.std.specs.Prelude.{◌≡◌, ◌<◌, ◌≤◌, ◌+◌, ◌^◌, ◌++◌, ◌∷◌, [], ℕ, Option, List, Bool, false, length, slice_get, cond, Some, IfOk, OnOk, map, nat_eq};
+ghost use Rattle.std.specs.Prelude.{◌≡◌, ◌<◌, ◌≤◌, ◌+◌, ◌^◌, ◌++◌, ◌∷◌, [], ℕ, Option, List, Bool, false, length, slice_get, cond, Some, None, IfOk, OnOk, map, nat_eq};
 ghost use Rattle.std.specs.Ordering.{nat_cmp};
 ghost use Rattle.std.specs.BTreeMap.{get};
 ghost use Rattle.parse_track.specs.EarlyErrors.{has};
@@ -110,22 +110,50 @@ fn push_scopes(bound: &mut Vec<ClosedAt>, func: Option<u32>, from: u32, scopes: 
 /// inner functions close over.
 #[derive(Drop)]
 pub struct Found {
-    env: BTreeMap<u32, Top>,
-    bound: Vec<ClosedAt>,
-    hits: Vec<usize>,
+    pub env: BTreeMap<u32, Top>,
+    pub bound: Vec<ClosedAt>,
+    pub hits: Vec<usize>,
+}
+
+impl Found {
+    /// Nothing is found yet.
+    pub fn new(alloc: Global) -> Found
+        ensures env { (y : ℕ) → get nat_cmp result.env y ≡ None }
+        ensures bound { result.bound.items ≡ [] }
+        ensures hits { result.hits.items ≡ [] }
+    {
+        Found {
+            env: BTreeMap::new(alloc),
+            bound: Vec::new(alloc),
+            hits: Vec::new(alloc),
+        }
+    }
 }
 
 /// What is around a region: whether it stands directly in that of its function's name, the offset where its function begins,
 /// None for the script, and how many functions are around it.
 #[derive(Clone, Copy, Debug)]
 pub struct Around {
-    named: bool,
-    func: Option<u32>,
-    depth: usize,
+    pub named: bool,
+    pub func: Option<u32>,
+    pub depth: usize,
+}
+
+impl Around {
+    /// What is around an outermost region: nothing.
+    pub fn script() -> Around
+        ensures { result ≡ record { named = false; func = None; depth = 0 } }
+    {
+        Around {
+            named: false,
+            func: None,
+            depth: 0,
+        }
+    }
 }
 
 /// How many bindings there are.
-fn count(bound: &[ClosedAt]) -> usize
+pub fn count(bound: &[ClosedAt]) -> usize
     ensures { result ≡ length bound.now }
 {
     bound.len()
@@ -276,7 +304,7 @@ fn visit_item(
 
 /// Visits a region inside: binds its names, visits what stands in it, and binds its names to what they were bound to.
 #[cycle(visiting)]
-fn visit_inner(
+pub fn visit_inner(
     alloc: Global,
     known: &Known,
     rows: &[Row],

@@ -12,3 +12,4 @@ pub mod track;
 mod names;
 mod scopes;
 mod closed;
+mod closed_names;

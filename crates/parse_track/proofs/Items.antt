@@ -89,3 +89,14 @@ direct_atoms_are parts room n a items names atoms e f g =
 pub var_atoms_are : (parts : List Part) (room n : ℕ) (names : List Ident) (atoms : List ℕ) → map name_of names ≡ vars (told_region room parts n)
     → atoms ≡ map (λ (name : Ident). name.atom) names → atoms ≡ names_of (vars (told_region room parts n))
 var_atoms_are parts room n names atoms e f = f ∙ (sym (names_atoms names) ∙ ap names_of e)
+
+-- a loop over the items of a region has come to its end
+pub list_done : (F : Told ℕ → List (Name ℕ)) (parts : List Part) (room n : ℕ) (old now : List (Name ℕ)) (items left : List Row.Item) → left ≡ [] → F nothing ≡ []
+    → now ++ F (told_items parts (told_region (room - 1) parts) (map item_of left)) ≡ old ++ F (told_items parts (told_region (room - 1) parts) (map item_of items))
+    → map item_of items ≡ items_at room parts n → now ≡ old ++ F (told_region room parts n)
+list_done F parts room n old now items left e z h f =
+    sym (append-nil now)
+    ∙ (ap (λ (xs : List (Name ℕ)). now ++ xs) (sym z)
+    ∙ (ap (λ (is : List Row.Item). now ++ F (told_items parts (told_region (room - 1) parts) (map item_of is))) (sym e)
+    ∙ (h ∙ (ap (λ (is : List Item). old ++ F (told_items parts (told_region (room - 1) parts) is)) f
+    ∙ ap (λ (t : Told ℕ). old ++ F t) (sym (region_tells room parts n))))))

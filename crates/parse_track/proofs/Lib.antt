@@ -10,3 +10,6 @@ pub mod Binding
 pub mod Visiting
 pub mod Marking
 pub mod Closing
+pub mod Smallest
+pub mod Clashes
+pub mod Seeking

@@ -1,6 +1,6 @@
 -- The early errors of ECMA-262's static semantics that speak of names, regions and jumps, each as the list of
 -- the offsets where a script has it, and the first early error.
-use Rattle.std.specs.Prelude.{ℕ, max, Bool, true, false, cond, not, ◌||◌, ◌&&◌, nat_eq, nat_lt, Option, None, Some, List, [], ◌∷◌, ◌++◌}
+use Rattle.std.specs.Prelude.{ℕ, max, min, Bool, true, false, cond, not, ◌||◌, ◌&&◌, nat_eq, nat_lt, Option, None, Some, List, [], ◌∷◌, ◌++◌}
 use Rattle.std.specs.List.{list_any}
 use Rattle.parse_track.specs.declared.region.Early.{Early}
 use Rattle.parse_track.specs.declared.region.Jump.{Jump}
@@ -15,10 +15,10 @@ has_name same x ys = list_any (λ y. same x y.name) ys
 abbrev pub has : {A : Type 0} → (A → A → Bool) → A → List A → Bool
 has same x ys = list_any (same x) ys
 
--- the offset of each name that stands before it too, or in the list in front
+-- the offset of each name that stands before it too, or in the list in front of all
 abbrev pub repeated : {A : Type 0} → (A → A → Bool) → List (Name A) → List (Name A) → List ℕ
 repeated same before [] = []
-repeated same before (x ∷ xs) = cond (has_name same x.name before) (x.at ∷ []) [] ++ repeated same (x ∷ before) xs
+repeated same before (x ∷ xs) = cond (has_name same x.name before) (x.at ∷ []) [] ++ repeated same (before ++ x ∷ []) xs
 
 -- the offset of each name of the second list that the first has
 abbrev pub also_in : {A : Type 0} → (A → A → Bool) → List (Name A) → List (Name A) → List ℕ
@@ -105,7 +105,7 @@ within Function i around = nothing_around
 within Arrow i around = nothing_around
 within Loop i around = record around { loop = true; leaves = true }
 within Switch i around = record around { leaves = true }
-within (Label name) i around = record around { labels = name.name ∷ around.labels; loops = cond (is_loop i) (name.name ∷ []) [] ++ around.loops }
+within (Label name) i around = record around { labels = around.labels ++ name.name ∷ []; loops = around.loops ++ cond (is_loop i) (name.name ∷ []) [] }
 within (Lambda _) i around = around
 within Block i around = around
 within ForHead i around = around
@@ -136,7 +136,7 @@ wrong_jumps same around (inner k at i t) =
 abbrev pub smaller : Option ℕ → Option ℕ → Option ℕ
 smaller None y = y
 smaller (Some x) None = Some x
-smaller (Some x) (Some y) = cond (nat_lt y x) (Some y) (Some x)
+smaller (Some x) (Some y) = Some (min x y)
 
 abbrev pub smallest : List ℕ → Option ℕ
 smallest [] = None

@@ -9,3 +9,4 @@ pub mod Walk
 pub mod Asked
 pub mod Scopes
 pub mod Visited
+pub mod Rules

@@ -214,7 +214,7 @@ fn begins(named: bool, region: Region) -> bool
 }
 
 /// What a region of this number is.
-fn kind_at(rows: &[Row], region: u32) -> Region
+pub fn kind_at(rows: &[Row], region: u32) -> Region
     ensures { region_of result ≡ kind_of (slice_get (map row_of rows.now) region) }
 {
     match rows.get(region as usize) {

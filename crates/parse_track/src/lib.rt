@@ -10,6 +10,8 @@
 pub mod region;
 pub mod track;
 mod names;
+mod offsets;
+mod rules;
 mod scopes;
 mod closed;
 mod closed_names;

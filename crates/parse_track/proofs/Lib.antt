@@ -13,3 +13,4 @@ pub mod Closing
 pub mod Smallest
 pub mod Clashes
 pub mod Seeking
+pub mod FirstClash

@@ -10,3 +10,4 @@ pub mod Asked
 pub mod Scopes
 pub mod Visited
 pub mod Rules
+pub mod Clashes

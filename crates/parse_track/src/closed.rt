@@ -29,7 +29,7 @@ pub struct Top {
 }
 
 /// The bindings to which these names were bound.
-fn look_up(alloc: Global, env: &BTreeMap<u32, Top>, names: &[u32]) -> Result<Vec<Option<Top>>, AllocError>
+pub fn look_up<V: Copy>(alloc: Global, env: &BTreeMap<u32, V>, names: &[u32]) -> Result<Vec<Option<V>>, AllocError>
     ensures { IfOk result (λ saved. saved.items ≡ map (get nat_cmp env.now) names.now) }
 {
     names.iter().map(|name| env.get(name).copied()).collect(alloc)
@@ -53,9 +53,9 @@ fn bind(env: &mut BTreeMap<u32, Top>, names: &[u32], place: usize, depth: usize)
 }
 
 /// Binds these names to what they were bound to.
-fn put_back(env: &mut BTreeMap<u32, Top>, names: &[u32], saved: &[Option<Top>]) -> Result<(), AllocError>
+pub fn put_back<V: Copy>(env: &mut BTreeMap<u32, V>, names: &[u32], saved: &[Option<V>]) -> Result<(), AllocError>
     requires { length names.now ≡ length saved.now }
-    ensures { (tops : ℕ → Option Top) → saved.now ≡ map tops names.now → ((y : ℕ) → has nat_eq y names.now ≡ false → get nat_cmp env.old y ≡ tops y) → OnOk result ((y : ℕ) → get nat_cmp env.new y ≡ tops y) }
+    ensures { (tops : ℕ → Option V) → saved.now ≡ map tops names.now → ((y : ℕ) → has nat_eq y names.now ≡ false → get nat_cmp env.old y ≡ tops y) → OnOk result ((y : ℕ) → get nat_cmp env.new y ≡ tops y) }
 {
     for (name, top) in names.iter().zip(saved) {
         match top {

@@ -12,6 +12,7 @@ pub mod track;
 mod names;
 mod offsets;
 mod rules;
+mod clashing;
 mod scopes;
 mod closed;
 mod closed_names;

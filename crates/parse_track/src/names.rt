@@ -69,7 +69,7 @@ pub fn items_at(rows: &[Row], room: usize, region: u32) -> &[Item]
 }
 
 /// Whether var names hoist no further than this region.
-fn stops_vars(region: Region) -> bool
+pub fn stops_vars(region: Region) -> bool
     ensures { result ≡ stops_vars (region_of region) }
 {
     match region {

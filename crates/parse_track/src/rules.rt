@@ -45,7 +45,7 @@ fn is_inner(inner: InnerKind, kind: Region) -> bool
 }
 
 /// The names that are declared so in a region itself.
-fn names_in(alloc: Global, rows: &[Row], room: usize, region: u32, asked: Asked) -> Result<Vec<Ident>, AllocError>
+pub fn names_in(alloc: Global, rows: &[Row], room: usize, region: u32, asked: Asked) -> Result<Vec<Ident>, AllocError>
     ensures { IfOk result (λ names. map name_of names.items ≡ directly (asks asked) (told_region room (map row_of rows.now) region)) }
 {
     direct_names(alloc, asked, items_at(rows, room, region))

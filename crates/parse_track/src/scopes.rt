@@ -32,7 +32,7 @@ fn distinct(alloc: Global, atoms: &[u32]) -> Result<Vec<u32>, AllocError>
 }
 
 /// The atoms of these names.
-fn atoms_of(alloc: Global, names: &[Ident]) -> Result<Vec<u32>, AllocError>
+pub fn atoms_of(alloc: Global, names: &[Ident]) -> Result<Vec<u32>, AllocError>
     ensures { IfOk result (λ atoms. atoms.items ≡ map (λ name. name.atom) names.now) }
 {
     names.iter().map(|name| name.atom).collect(alloc)

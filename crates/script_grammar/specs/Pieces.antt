@@ -19,12 +19,11 @@ pub data Content : Type 0 where
   number : ℕ → Content
   role : Role → Content
 
--- A place for a token. `at` is the offset of its start where the tree keeps it, and `ends` are the offsets of its end
--- that the tree keeps. `glued` says that no line end stands before it. `depth` is the number of counted nodes around it.
+-- A place for a token. `starts` are the offsets of its start that the tree keeps, and `ends` are those of its end. `glued` says that no line end stands before it. `depth` is the number of counted nodes around it.
 pub record Slot : Type 0 where
   pub kind : Wanted
   pub content : Content
-  pub at : Option ℕ
+  pub starts : List ℕ
   pub ends : List ℕ
   pub glued : Bool
   pub depth : ℕ
@@ -91,10 +90,6 @@ Has (text w) t = t.text ≡ w
 Has (number n) t = t.number ≡ n
 Has (role r) t = t.role ≡ r
 
-abbrev pub IsAt : Option ℕ → ℕ → Type 0
-IsAt None n = Unit {0}
-IsAt (Some a) n = n ≡ a
-
 abbrev pub AllAre : List ℕ → ℕ → Type 0
 AllAre [] n = Unit {0}
 AllAre (e ∷ es) n = (n ≡ e) × AllAre es n
@@ -102,7 +97,7 @@ AllAre (e ∷ es) n = (n ≡ e) × AllAre es n
 pub record Is (s : Slot) (t : Lexeme) : Type 0 where
   pub kind : IsWanted s.kind t.kind
   pub content : Has s.content t
-  pub at : IsAt s.at t.start
+  pub starts : AllAre s.starts t.start
   pub ends : AllAre s.ends t.end
   pub line : s.glued ≡ true → t.after_line ≡ false
 
@@ -181,7 +176,7 @@ depths (Pass ∷ ps) ts n f = replicate (length f.0) 0 ++ depths ps f.1 n f.4
 -- Pieces that a tree is put together from; the last number of each is the depth.
 
 abbrev pub slot : Kind → ℕ → Slot
-slot k d = record { kind = Exactly k; content = nothing; at = None; ends = []; glued = false; depth = d }
+slot k d = record { kind = Exactly k; content = nothing; starts = []; ends = []; glued = false; depth = d }
 
 abbrev pub mark_piece : ℕ → ℕ → Piece
 mark_piece i d = At (slot (kind.Mark i) d)
@@ -190,42 +185,49 @@ abbrev pub word_piece : ℕ → ℕ → Piece
 word_piece i d = At (slot (kind.Word i) d)
 
 abbrev pub glued_mark : ℕ → ℕ → Piece
-glued_mark i d = At (record { kind = Exactly (kind.Mark i); content = nothing; at = None; ends = []; glued = true; depth = d })
+glued_mark i d = At (record { kind = Exactly (kind.Mark i); content = nothing; starts = []; ends = []; glued = true; depth = d })
 
 -- a token whose start the tree keeps
 abbrev pub placed : Kind → ℕ → ℕ → Piece
-placed k at d = At (record { kind = Exactly k; content = nothing; at = Some at; ends = []; glued = false; depth = d })
+placed k at d = At (record { kind = Exactly k; content = nothing; starts = at ∷ []; ends = []; glued = false; depth = d })
 
 abbrev pub closing_mark : ℕ → ℕ → ℕ → Piece
-closing_mark i end d = At (record { kind = Exactly (kind.Mark i); content = nothing; at = None; ends = end ∷ []; glued = false; depth = d })
+closing_mark i end d = At (record { kind = Exactly (kind.Mark i); content = nothing; starts = []; ends = end ∷ []; glued = false; depth = d })
 
 abbrev pub number_piece : ℕ → ℕ → ℕ → Piece
-number_piece at value d = At (record { kind = Exactly kind.Number; content = number value; at = Some at; ends = []; glued = false; depth = d })
+number_piece at value d = At (record { kind = Exactly kind.Number; content = number value; starts = at ∷ []; ends = []; glued = false; depth = d })
 
 abbrev pub str_piece : ℕ → ℕ → List ℕ → ℕ → Piece
-str_piece at end w d = At (record { kind = Exactly kind.Str; content = text w; at = Some at; ends = end ∷ []; glued = false; depth = d })
+str_piece at end w d = At (record { kind = Exactly kind.Str; content = text w; starts = at ∷ []; ends = end ∷ []; glued = false; depth = d })
 
 -- a token of this kind with this text, whose start the tree keeps
 abbrev pub text_piece : Kind → List ℕ → ℕ → ℕ → Piece
-text_piece k w at d = At (record { kind = Exactly k; content = text w; at = Some at; ends = []; glued = false; depth = d })
+text_piece k w at d = At (record { kind = Exactly k; content = text w; starts = at ∷ []; ends = []; glued = false; depth = d })
 
 -- the same where the tree does not keep its start
 abbrev pub template_piece : Kind → List ℕ → ℕ → Piece
-template_piece k w d = At (record { kind = Exactly k; content = text w; at = None; ends = []; glued = false; depth = d })
+template_piece k w d = At (record { kind = Exactly k; content = text w; starts = []; ends = []; glued = false; depth = d })
 
 abbrev pub name_piece : Named → ℕ → Piece
 name_piece n d = text_piece kind.Name n.text n.at d
 
 abbrev pub glued_name : Named → ℕ → Piece
-glued_name n d = At (record { kind = Exactly kind.Name; content = text n.text; at = Some n.at; ends = []; glued = true; depth = d })
+glued_name n d = At (record { kind = Exactly kind.Name; content = text n.text; starts = n.at ∷ []; ends = []; glued = true; depth = d })
 
 -- a name or a word as a property's name, whose start the tree may keep
-abbrev pub any_word : Option ℕ → List ℕ → ℕ → Piece
-any_word at w d = At (record { kind = AnyWord; content = text w; at = at; ends = []; glued = false; depth = d })
+abbrev pub any_word : List ℕ → List ℕ → ℕ → Piece
+any_word starts w d = At (record { kind = AnyWord; content = text w; starts = starts; ends = []; glued = false; depth = d })
 
 -- the name that begins an accessor
 abbrev pub role_piece : Role → ℕ → Piece
-role_piece r d = At (record { kind = Exactly kind.Name; content = role r; at = None; ends = []; glued = false; depth = d })
+role_piece r d = At (record { kind = Exactly kind.Name; content = role r; starts = []; ends = []; glued = false; depth = d })
+
+-- the first of these starts at this offset too
+abbrev pub from : ℕ → List Piece → List Piece
+from n [] = []
+from n (At s ∷ ps) = At (record s { starts = n ∷ s.starts }) ∷ ps
+from n (Gap e ∷ ps) = Gap e ∷ ps
+from n (Pass ∷ ps) = Pass ∷ ps
 
 -- no line end stands before the first of these
 abbrev pub glue : List Piece → List Piece
@@ -240,7 +242,7 @@ ending_at n (At s) = At (record s { ends = n ∷ s.ends })
 ending_at n (Gap e) = Gap e
 ending_at n Pass = Pass
 
--- the last of these ends at this offset
+-- the last of these ends at this offset too
 abbrev pub until : ℕ → List Piece → List Piece
 until n [] = []
 until n (p ∷ []) = ending_at n p ∷ []

@@ -19,7 +19,7 @@ use Rattle.script_grammar.specs.Lexeme.{get_role, set_role}
 use Rattle.script_grammar.specs.Kinds.{op_kind, decl_word, is_arrow_form}
 use Rattle.script_grammar.specs.Tree.{Named, Expr, Exprs, no_exprs, more_exprs, MaybeExpr, no_expr, some_expr, MaybeArgs, no_args, some_args, Parts, no_parts, more_parts, Items, no_items, more_items, Operands, no_operands, more_operands, Tail, Tails, no_tails, more_tails, Key, Prop, Props, no_props, more_props, Function, function, Params, no_params, more_params, Body, Binds, no_binds, more_binds, Init, Each, Clauses, no_clauses, more_clauses, Stmt, Stmts, no_stmts, more_stmts, MaybeStmt, no_stmt, some_stmt}
 use Rattle.script_grammar.specs.Tree as tree
-use Rattle.script_grammar.specs.Pieces.{Bodies, whole, passed, Piece, At, Pass, slot, BareBinding, Keyword, DoWhile, mark_piece, word_piece, glued_mark, placed, closing_mark, number_piece, str_piece, text_piece, template_piece, name_piece, glued_name, any_word, role_piece, glue, until, comma_piece, semi_piece}
+use Rattle.script_grammar.specs.Pieces.{Bodies, whole, passed, Piece, At, Pass, slot, BareBinding, Keyword, DoWhile, mark_piece, word_piece, glued_mark, placed, closing_mark, number_piece, str_piece, text_piece, template_piece, name_piece, glued_name, any_word, role_piece, from, glue, until, comma_piece, semi_piece}
 use Rattle.script_grammar.specs.Endings.{ending, return_ending, binds_ending}
 
 -- one less deep
@@ -96,7 +96,7 @@ abbrev mutual
   print m d (tree.New at callee args) = placed (kind.Word word.NEW) at (suc d) ∷ (print m (suc d) callee ++ print_args m (suc d) args)
   print m d (tree.Unary at op of is_word) = placed (op_kind op is_word) at (suc d) ∷ print m (suc d) of
   print m d (tree.Update at op true of) = placed (kind.Mark op) at (suc d) ∷ print m (suc d) of
-  print m d (tree.Update at op false of) = print m d of ++ glued_mark op d ∷ []
+  print m d (tree.Update at op false of) = from at (print m d of) ++ glued_mark op d ∷ []
   print m d (tree.Binary first rest) = print m d first ++ print_operands m d rest
   print m d (tree.Cond test then_value else_value) = print m d test ++ (mark_piece mark.QUESTION d ∷ (print m (suc d) then_value ++ (mark_piece mark.COLON d ∷ print m (suc d) else_value)))
   print m d (tree.Assign op target value) = print m d target ++ (mark_piece op d ∷ print m (suc d) value)
@@ -141,12 +141,12 @@ abbrev mutual
   print_tails m d (more_tails t ts) = print_tail m d t ++ print_tails m d ts
 
   pub print_tail : Bodies → ℕ → Tail → List Piece
-  print_tail m d (tree.Dot w) = mark_piece mark.DOT d ∷ any_word None w d ∷ []
+  print_tail m d (tree.Dot w) = mark_piece mark.DOT d ∷ any_word [] w d ∷ []
   print_tail m d (tree.Index e) = mark_piece mark.OPEN_BRACKET d ∷ (print m (suc d) e ++ mark_piece mark.CLOSE_BRACKET d ∷ [])
   print_tail m d (tree.Call es comma) = mark_piece mark.OPEN_PAREN d ∷ (print_list m d es ++ (comma_piece comma d ++ mark_piece mark.CLOSE_PAREN d ∷ []))
 
   pub print_key : Bodies → ℕ → Key → List Piece
-  print_key m d (tree.WordKey n) = any_word (Some n.at) n.text d ∷ []
+  print_key m d (tree.WordKey n) = any_word (n.at ∷ []) n.text d ∷ []
   print_key m d (tree.StrKey n) = text_piece kind.Str n.text n.at d ∷ []
   print_key m d (tree.NumberKey at value) = number_piece at value d ∷ []
   print_key m d (tree.ComputedKey e) = mark_piece mark.OPEN_BRACKET d ∷ (print m (suc d) e ++ mark_piece mark.CLOSE_BRACKET d ∷ [])

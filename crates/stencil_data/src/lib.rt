@@ -18,9 +18,11 @@ pub mod functions;
 pub mod records;
 pub mod scopes;
 pub mod stencils;
+#[cfg(test)]
+mod tests;
 pub mod texts;
 
-pub use chains::{Link, LinkName};
+pub use chains::{Chain, Link, LinkName};
 pub use functions::{Extent, FuncKind};
 pub use records::{ClosedName, LazyRecord};
 pub use scopes::{BindKind, Binding, Place, ScopeData, ScopeKind, Slot};

@@ -1,0 +1,3 @@
+pub mod Parser
+pub mod Exprs
+pub mod Stmts

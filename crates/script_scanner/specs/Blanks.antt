@@ -2,6 +2,7 @@
 use Rattle.std.specs.Prelude.{ℕ, ◌+◌, Bool, true, false, ◌||◌, ◌&&◌, not, ◌==◌, List, [], ◌∷◌, take, drop, if◌then◌else◌, Option, Some, None, option_map, nat_eq}
 use Rattle.std.specs.Int.{is_in_range}
 use Rattle.std.specs.List.{list_any, prefix_len}
+use Rattle.script_scanner.specs.declared.blanks.Blank.{Blank}
 
 -- Clause 12.2, table 34: TAB, VT, FF, SP, NBSP, ZWNBSP and the space separators.
 abbrev pub is_white_space : ℕ → Bool
@@ -28,15 +29,15 @@ begins [] codes = true
 begins (m ∷ more) [] = false
 begins (m ∷ more) (c ∷ codes) = (c == m) && begins more codes
 
+-- The first code point is this one.
+abbrev pub first_is : ℕ → List ℕ → Bool
+first_is c [] = false
+first_is c (d ∷ codes) = c == d
+
 -- How many code points there are up to the first `*/` and with it, if there is one.
 abbrev pub length_to_star_slash : List ℕ → Option ℕ
 length_to_star_slash [] = None
 length_to_star_slash (c ∷ codes) = if begins (0x2A ∷ 0x2F ∷ []) (c ∷ codes) then Some 2 else option_map (λ n. 1 + n) (length_to_star_slash codes)
-
--- What stands between tokens: how many code points, and whether it counts as a line end.
-pub record Blank : Type 0 where
-  pub length : ℕ
-  pub breaks : Bool
 
 -- Clause 12.4: a comment of many lines counts as a line end where it holds one. The text is what follows `/*`.
 abbrev pub block_comment : Option ℕ → List ℕ → Option Blank

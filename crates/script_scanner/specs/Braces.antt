@@ -8,11 +8,11 @@ use Rattle.script_scanner.specs.declared.braces.Brace.TheVariants.{Block, Substi
 
 -- Without the innermost; none of none.
 abbrev pub close_brace : List Brace → List Brace
-close_brace open = take (length open - 1) open
+close_brace braces = take (length braces - 1) braces
 
 -- With one more brace inside.
 abbrev pub open_brace : List Brace → Brace → List Brace
-open_brace open brace = open ++ brace ∷ []
+open_brace braces brace = braces ++ brace ∷ []
 
 abbrev pub is_substitution : Option Brace → Bool
 is_substitution None = false
@@ -21,4 +21,4 @@ is_substitution (Some Substitution) = true
 
 -- The innermost open brace is that of a `${`.
 abbrev pub in_substitution : List Brace → Bool
-in_substitution open = is_substitution (slice_get open (length open - 1))
+in_substitution braces = is_substitution (slice_get braces (length braces - 1))

@@ -1,6 +1,7 @@
 -- Marks: the punctuators. ECMA-262, 12th edition, clause 12.7.
-use Rattle.std.specs.Prelude.{ℕ, Bool, true, false, ◌||◌, ◌&&◌, not, List, [], ◌∷◌, Option, Some, None, codes, length, drop, find, if◌then◌else◌}
-use Rattle.script_scanner.specs.Blanks.{begins}
+use Rattle.std.specs.Prelude.{ℕ, Bool, true, false, ◌||◌, ◌&&◌, not, List, [], ◌∷◌, Option, Some, None, codes, length, drop, find, filter, if◌then◌else◌}
+use Rattle.script_scanner.specs.declared.marks.Sign.{Sign}
+use Rattle.script_scanner.specs.Blanks.{begins, first_is}
 use Rattle.script_scanner.specs.Escapes.{begins_with_digit}
 
 -- A mark: its index, its text, and whether it may stand before a decimal digit. `?.` may not (clause 12.7:
@@ -87,5 +88,13 @@ abbrev pub begins_no_token : List ℕ → Bool
 begins_no_token codes = begins (0x3C ∷ 0x21 ∷ 0x2D ∷ 0x2D ∷ []) codes || begins (0x2F ∷ 0x2A ∷ []) codes
 
 -- The longest mark at the front of a text, if there is one.
-abbrev pub mark_at : List ℕ → Option Mark
+unfoldable pub mark_at : List ℕ → Option Mark
 mark_at codes = if begins_no_token codes then None else find (fits codes) marks
+
+-- A mark as its index and its length.
+abbrev pub sign_of : Mark → Sign
+sign_of m = record { mark = m.index; length = length m.text }
+
+-- The same, of a text that begins with this code point, sought among the marks that do.
+unfoldable pub mark_from : ℕ → List ℕ → Option Mark
+mark_from c codes = if begins_no_token (c ∷ codes) then None else find (fits (c ∷ codes)) (filter (λ m. first_is c m.text) marks)

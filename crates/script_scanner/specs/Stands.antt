@@ -34,3 +34,7 @@ pub record GainsOnly (before after : List (List ℕ)) (lexed : List Lexed) : Typ
   pub gained : List (List ℕ)
   pub grown : after ≡ before ++ gained
   pub are_values : AllByRecursion (IsValueAmong lexed) gained
+
+-- All texts from before stand where they stood.
+abbrev pub Keeps : List (List ℕ) → List (List ℕ) → Type 0
+Keeps before after = (more : List (List ℕ)) × (after ≡ before ++ more)

@@ -8,13 +8,16 @@ use Rattle.unit_text.specs.Points.{code_of}
 use Rattle.unit_text.specs.Units.{text_units}
 use Rattle.script_scanner.specs.declared.braces.Brace.{Brace}
 use Rattle.script_scanner.specs.declared.braces.Brace.TheVariants.{Block, Substitution}
-use Rattle.script_scanner.specs.Blanks.{Blank, blank_at, first_line_length}
+use Rattle.script_scanner.specs.declared.blanks.Blank.{Blank}
+use Rattle.script_scanner.specs.declared.numbers.Numeral.{Numeral}
+use Rattle.script_scanner.specs.declared.parts.Ending.TheVariants.{Quote, Template}
+use Rattle.script_scanner.specs.Blanks.{blank_at, first_line_length}
 use Rattle.script_scanner.specs.Braces.{close_brace, open_brace, in_substitution}
 use Rattle.script_scanner.specs.Marks.{Mark, mark_at}
 use Rattle.script_scanner.specs.Names.{is_name_start, name_length}
-use Rattle.script_scanner.specs.Numbers.{Numeral, numeral_at, is_sound}
-use Rattle.script_scanner.specs.Parts.{Body, body_of, string_step, template_step}
-use Rattle.script_scanner.specs.Words.{Word, word_at}
+use Rattle.script_scanner.specs.Numbers.{numeral_at, is_spoiled_by}
+use Rattle.script_scanner.specs.Parts.{Body, body_of}
+use Rattle.script_scanner.specs.Words.{word_at, word_index}
 
 -- What a token has beside its kind: a text of 16-bit units, a number, or nothing.
 pub data Value : Type 0 where
@@ -29,17 +32,21 @@ pub record Piece : Type 0 where
   pub length : ℕ
 
 -- A name, or a word where it is one.
-abbrev pub name_kind : Option Word → Kind
+abbrev pub name_kind : Option ℕ → Kind
 name_kind None = kind.Name
-name_kind (Some w) = kind.Word w.index
+name_kind (Some i) = kind.Word i
 
 abbrev pub name_piece : List ℕ → Piece
 name_piece codes = let text = text_units (take (name_length codes) codes) in
-    record { kind = name_kind (word_at text); value = Text text; length = name_length codes }
+    record { kind = name_kind (option_map word_index (word_at text)); value = Text text; length = name_length codes }
+
+-- A number, if its value is at most 2^53 - 1 and nothing spoils it.
+abbrev pub valued_piece : Option ℕ → ℕ → Option Piece
+valued_piece None n = None
+valued_piece (Some value) n = Some (record { kind = kind.Number; value = Number value; length = n })
 
 abbrev pub number_piece : Numeral → List ℕ → Option Piece
-number_piece numeral codes = if is_sound numeral codes
-    then Some (record { kind = kind.Number; value = Number numeral.value; length = numeral.length }) else None
+number_piece numeral codes = if is_spoiled_by numeral.is_decimal (drop numeral.length codes) then None else valued_piece numeral.value numeral.length
 
 -- A string, behind its quote.
 abbrev pub string_piece : Option Body → Option Piece
@@ -49,32 +56,33 @@ string_piece (Some body) = Some (record { kind = kind.Str; value = Text body.uni
 -- A part of a template, behind the backquote or `}` that begins it: of the one kind where a backquote ends it, of the
 -- other where a `${` does.
 abbrev pub template_piece : Kind → Kind → Option Body → Option Piece
-template_piece whole open None = None
-template_piece whole open (Some body) = Some (record {
-    kind = if body.closing == 1 then whole else open; value = Text body.units; length = 1 + body.inner + body.closing })
+template_piece whole head None = None
+template_piece whole head (Some body) = Some (record {
+    kind = if body.closing == 1 then whole else head; value = Text body.units; length = 1 + body.inner + body.closing })
 
 abbrev pub mark_piece : Option Mark → Option Piece
 mark_piece None = None
 mark_piece (Some m) = Some (record { kind = kind.Mark m.index; value = Nothing; length = length m.text })
 
--- The longest token at the front of a text that is no blank, under the list of open braces; None where there is none.
-abbrev pub token_at : List Brace → List ℕ → Option Piece
-token_at open [] = None
-token_at open (c ∷ codes) = if is_name_start c then Some (name_piece (c ∷ codes))
-    else (if is_digit c 10 then number_piece (numeral_at c codes) (c ∷ codes)
-    else (if (c == 0x22) || (c == 0x27) then string_piece (body_of (string_step c) codes)
-    else (if c == 0x60 then template_piece kind.TemplateWhole kind.TemplateHead (body_of template_step codes)
-    else (if (c == 0x7D) && in_substitution open then template_piece kind.TemplateTail kind.TemplateMiddle (body_of template_step codes)
+-- The longest token at the front of a text that is no blank; None where there is none. Whether the innermost open brace is
+-- that of a `${` tells what a `}` is.
+unfoldable pub token_at : Bool → List ℕ → Option Piece
+token_at in_template [] = None
+token_at in_template (c ∷ codes) = if is_name_start c then Some (name_piece (c ∷ codes))
+    else (if is_digit c 10 then number_piece (numeral_at (c ∷ codes)) (c ∷ codes)
+    else (if (c == 0x22) || (c == 0x27) then string_piece (body_of (Quote c) codes)
+    else (if c == 0x60 then template_piece kind.TemplateWhole kind.TemplateHead (body_of Template codes)
+    else (if (c == 0x7D) && in_template then template_piece kind.TemplateTail kind.TemplateMiddle (body_of Template codes)
     else mark_piece (mark_at (c ∷ codes))))))
 
 -- The open braces behind a token: the mark `{` and the end `${` open one, the mark `}`, a TemplateMiddle and a
 -- TemplateTail close the innermost.
 abbrev pub braces_after : List Brace → Kind → List Brace
-braces_after open (kind.Mark i) = if i == 0 then open_brace open Block else (if i == 1 then close_brace open else open)
-braces_after open kind.TemplateHead = open_brace open Substitution
-braces_after open kind.TemplateMiddle = open_brace (close_brace open) Substitution
-braces_after open kind.TemplateTail = close_brace open
-braces_after open _ = open
+braces_after braces (kind.Mark i) = if i == 0 then open_brace braces Block else (if i == 1 then close_brace braces else braces)
+braces_after braces kind.TemplateHead = open_brace braces Substitution
+braces_after braces kind.TemplateMiddle = open_brace (close_brace braces) Substitution
+braces_after braces kind.TemplateTail = close_brace braces
+braces_after braces _ = braces
 
 -- A token: its kind and value, the offsets of its first byte and behind its last, and whether a line end stands before it.
 pub record Lexed : Type 0 where
@@ -106,20 +114,20 @@ front_of None (Some piece) = IsToken piece
 front_of None None = IsNeither
 
 abbrev pub front_at : List Brace → List Point → Front
-front_at open points = front_of (blank_at (map code_of points)) (token_at open (map code_of points))
+front_at braces points = front_of (blank_at (map code_of points)) (token_at (in_substitution braces) (map code_of points))
 
 -- The tokens of points, in so many steps at most: blanks are skipped, and the longest token is taken.
 abbrev pub then_tokens : ℕ → List Brace → Bool → List Point → Front → (List Brace → Bool → List Point → List Lexed) → List Lexed
-then_tokens to open after_line points (IsBlank blank) rest = rest open (after_line || blank.breaks) (drop blank.length points)
-then_tokens to open after_line points (IsToken piece) rest =
+then_tokens to braces after_line points (IsBlank blank) rest = rest braces (after_line || blank.breaks) (drop blank.length points)
+then_tokens to braces after_line points (IsToken piece) rest =
     record { kind = piece.kind; value = piece.value; start = place to points; end = place to (drop piece.length points); after_line = after_line }
-    ∷ rest (braces_after open piece.kind) false (drop piece.length points)
-then_tokens to open after_line points IsNeither rest = last_token to after_line points ∷ []
+    ∷ rest (braces_after braces piece.kind) false (drop piece.length points)
+then_tokens to braces after_line points IsNeither rest = last_token to after_line points ∷ []
 
 abbrev pub tokens_within : ℕ → ℕ → List Brace → Bool → List Point → List Lexed
-tokens_within zero to open after_line points = []
-tokens_within (suc fuel) to open after_line points =
-    then_tokens to open after_line points (front_at open points) (λ o a ps. tokens_within fuel to o a ps)
+tokens_within zero to braces after_line points = []
+tokens_within (suc fuel) to braces after_line points =
+    then_tokens to braces after_line points (front_at braces points) (λ o a ps. tokens_within fuel to o a ps)
 
 -- The points that begin from one offset on and before another.
 abbrev pub part : ℕ → ℕ → List Point → List Point
@@ -131,4 +139,4 @@ without_first_line from points = if from == 0 then drop (first_line_length (map 
 
 -- The tokens of the part of a text between two offsets, beginning with no open brace. Each step takes a code point.
 abbrev pub tokens : List Point → ℕ → ℕ → List Lexed
-tokens points from to = let text = without_first_line from (part from to points) in tokens_within (1 + length text) to [] false text
+tokens points from to = let text = without_first_line from (part from to points) in tokens_within (suc (length text)) to [] false text

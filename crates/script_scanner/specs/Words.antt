@@ -1,5 +1,6 @@
 -- Words. ECMA-262, 12th edition, clause 12.6.2: ReservedWord, less `await`, with the words that strict code reserves.
-use Rattle.std.specs.Prelude.{ℕ, List, [], ◌∷◌, Option, Some, None, codes, find, option_map}
+use Rattle.std.specs.Prelude.{ℕ, List, [], ◌∷◌, Option, Some, None, codes, find, filter}
+use Rattle.script_scanner.specs.Blanks.{first_is}
 use Rattle.std.specs.Str.{bytes_eq}
 
 -- A word: its index and its text.
@@ -60,5 +61,12 @@ words =
     word 44 (codes "yield") ∷ []
 
 -- The word of a text, if it is one.
-abbrev pub word_at : List ℕ → Option Word
+unfoldable pub word_at : List ℕ → Option Word
 word_at text = find (λ w. bytes_eq text w.text) words
+
+abbrev pub word_index : Word → ℕ
+word_index w = w.index
+
+-- The same, sought among the words that begin with this letter.
+abbrev pub word_from : ℕ → List ℕ → Option Word
+word_from letter text = find (λ w. bytes_eq text w.text) (filter (λ w. first_is letter w.text) words)

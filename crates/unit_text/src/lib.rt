@@ -62,6 +62,7 @@ pub fn decode(alloc: Global, bytes: &[u8]) -> Result<Vec<Point>, DecodeFault>
     ensures utf8 { OnOk result (IsUtf8 bytes.now) }
     ensures spelled { IfOk result (λ ps. encode_utf8_all (map code_of ps.items) ≡ bytes.now) }
     ensures end_to_end { IfOk result (λ ps. LieEndToEnd 0 ps.items) }
+    ensures few { IfOk result (λ ps. length ps.items ≤ length bytes.now) }
     ensures fault { IfErr result (IsFaultOf bytes.now) }
     ensures longest { SpellLongestFront bytes.now (codes_of bytes.now) }
 {

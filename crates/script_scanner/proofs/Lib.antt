@@ -6,5 +6,6 @@ pub mod NumberLemmas
 pub mod PartLemmas
 pub mod PieceLemmas
 pub mod OrderLemmas
+pub mod Rows
 pub mod ScanLemmas
 pub mod WordLemmas

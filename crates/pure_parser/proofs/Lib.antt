@@ -32,3 +32,4 @@ pub mod StmtFitting
 pub mod StmtNext
 pub mod Tests
 pub mod SoundEverything
+pub mod LocalStmts

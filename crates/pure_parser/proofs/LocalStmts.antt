@@ -16,7 +16,8 @@ use Rattle.script_grammar.specs.Proper.{rank, left_rank, takes_else}
 use Rattle.script_grammar.specs.Tree.{Named, Expr, Init, Each, Stmt, Stmts}
 use Rattle.script_grammar.specs.Tree as tree
 use Rattle.script_grammar.specs.TreeLists.{Bind, Clause, maybe_expr_of, maybe_stmt_of, binds_of, stmts_of, clauses_of}
-use Rattle.pure_parser.specs.Parser.{Parser, Reply, Read, Bad, Deep, head_of, ret, bad, bind, peek, step, when, Turn, Again, Stop, loop, led}
+use Rattle.pure_parser.proofs.Tests.{name_known}
+use Rattle.pure_parser.specs.Parser.{Parser, Reply, Read, Bad, Deep, head_of, rest_of, ret, bad, bind, peek, step, when, Turn, Again, Stop, loop, led}
 use Rattle.pure_parser.specs.Exprs.{Env, AnAssign, expect, name_of, named, peek_two, expr_of, function_of, again}
 use Rattle.pure_parser.specs.Stmts as parser
 use Rattle.pure_parser.specs.Stmts.{Place, AnItem, AStmt, StmtCalls, Block, is_item, is_inside}
@@ -314,3 +315,169 @@ module _ (b : Block) (l : LocalBlock b) (i : Bool) where
   pub local_block : Local (parser.block_stmt b i)
   unfolding parser.block_stmt
   local_block = local_bind (local_braced_from b.stmt l.stmts i) (λ ss. local_ret (tree.Block ss))
+
+-- looking at two lexemes, where nothing may follow the first
+
+two_same : {A : Type 0} (f : Lexeme → Lexeme → Parser A) → ((t u : Lexeme) → Local (f t u)) → ((t : Lexeme) (q : List Lexeme) → Same q (f t (head_of []) (t ∷ [])) (f t (head_of q) (t ∷ q))) → (ts q : List Lexeme) → Same q (peek_two f ts) (peek_two f (ts ++ q))
+two_same f l k [] q = out (omega (arith, (l (head_of []) (head_of [])).shorter [])) ((l (head_of q) (head_of (rest_of q))).shorter q)
+two_same f l k (t ∷ []) q = k t q
+two_same f l k (t ∷ u ∷ ts) q = (l t u).same (t ∷ u ∷ ts) q
+
+pub local_two : {A : Type 0} {f : Lexeme → Lexeme → Parser A} → ((t u : Lexeme) → Local (f t u)) → ((t : Lexeme) (q : List Lexeme) → Same q (f t (head_of []) (t ∷ [])) (f t (head_of q) (t ∷ q))) → Local (peek_two f)
+local_two {f = f} l k = record { shorter = λ ts. (l (head_of ts) (head_of (rest_of ts))).shorter ts; same = two_same f l k }
+
+eats_two_at : {A : Type 0} (f : Lexeme → Lexeme → Parser A) → Ate 0 (f (head_of []) (head_of []) []) → ((t u : Lexeme) (ts : List Lexeme) → Ate (suc (length ts)) (f t u (t ∷ ts))) → (ts : List Lexeme) → Ate (length ts) (peek_two f ts)
+eats_two_at f h g [] = h
+eats_two_at f h g (t ∷ ts) = g t (head_of ts) ts
+
+module _ (b : Block) (l : LocalBlock b) where
+  other : Lexeme → Parser Stmt
+  other t = when (is_word word.FUNCTION t.kind || is_mark mark.OPEN_BRACE t.kind) bad (parser.value_stmt b.exprs)
+
+  local_other : (t : Lexeme) → Local (other t)
+  unfolding other
+  local_other t = local_when (is_word word.FUNCTION t.kind || is_mark mark.OPEN_BRACE t.kind) local_bad (local_value b.exprs l.uses)
+
+  ate_other : (t : Lexeme) (ts : List Lexeme) → Ate (suc (length ts)) (other t (t ∷ ts))
+  unfolding other
+  ate_other t ts = ate_when bad (parser.value_stmt b.exprs) (is_word word.FUNCTION t.kind || is_mark mark.OPEN_BRACE t.kind) t ts tt (ate_each (parser.value_stmt b.exprs) (eats_value b.exprs l.uses) t ts)
+
+  name_other : (t : Lexeme) (ts : List Lexeme) → is_name t.kind ≡ true → other t (t ∷ ts) ≡ parser.value_stmt b.exprs (t ∷ ts)
+  unfolding other
+  name_other t ts h = ap (λ k. when (is_word word.FUNCTION k || is_mark mark.OPEN_BRACE k) bad (parser.value_stmt b.exprs) (t ∷ ts)) (name_known t.kind h)
+
+  label_same : (i : Bool) (t : Lexeme) (q : List Lexeme) → is_name t.kind ≡ true → Same q (parser.value_stmt b.exprs (t ∷ [])) (parser.labelled_of b i (t ∷ q))
+  unfolding parser.labelled_of
+  label_same i t q h = l.lone t q h (λ n. bind (expect mark.COLON) (λ _. bind (b.stmt (AStmt i)) (λ s. ret (tree.Label n s)))) (label_rest b l i)
+
+  lone_by : (i : Bool) (t : Lexeme) (q : List Lexeme) (n c : Bool) → is_name t.kind ≡ n → Same q (when (n && false) (parser.labelled_of b i) (other t) (t ∷ [])) (when (n && c) (parser.labelled_of b i) (other t) (t ∷ q))
+  lone_by i t q false c h = (local_other t).same (t ∷ []) q
+  lone_by i t q true false h = (local_other t).same (t ∷ []) q
+  lone_by i t q true true h = subst (λ r. Same q r (parser.labelled_of b i (t ∷ q))) (sym (name_other t [] h)) (label_same i t q h)
+
+  lone_same : (i : Bool) (t : Lexeme) (q : List Lexeme) → Same q (when (is_name t.kind && false) (parser.labelled_of b i) (other t) (t ∷ [])) (when (is_name t.kind && is_mark mark.COLON (head_of q).kind) (parser.labelled_of b i) (other t) (t ∷ q))
+  lone_same i t q = lone_by i t q (is_name t.kind) (is_mark mark.COLON (head_of q).kind) refl
+
+  local_plain : (i : Bool) → Local (parser.plain_stmt b i)
+  unfolding parser.plain_stmt other
+  local_plain i = local_two (λ t u. local_when (parser.is_label t u) (local_labelled b l i) (local_other t)) (λ t q. lone_same i t q)
+
+  end_other : Ate 0 (parser.value_stmt b.exprs [])
+  end_other = (eats_value b.exprs l.uses).each []
+
+  eats_plain : (i : Bool) → Eats (parser.plain_stmt b i)
+  unfolding parser.plain_stmt other
+  eats_plain i = record { each = eats_two_at (λ t u. when (parser.is_label t u) (parser.labelled_of b i) (other t)) end_other (λ t u ts. ate_when (parser.labelled_of b i) (other t) (parser.is_label t u) t ts (ate_each (parser.labelled_of b i) (eats_labelled b l i) t ts) (ate_other t ts)) }
+
+  -- a statement that begins with a word, or else
+  ate_or : (f g : Parser Stmt) (c : Bool) (t : Lexeme) (ts : List Lexeme) → Local f → Eats g → Ate (suc (length ts)) (when c (step f) g (t ∷ ts))
+  ate_or f g c t ts lf eg = ate_when (step f) g c t ts (ate_step f lf t ts) (ate_each g eg t ts)
+
+  local_jump : (p : Place) → Local (parser.jump_stmt b p)
+  unfolding parser.jump_stmt
+  local_jump p = local_peek (λ t.
+      local_when (is_word word.CONTINUE t.kind) (local_step (local_continue b.exprs l.uses t.start))
+      (local_when (is_word word.BREAK t.kind) (local_step (local_break b.exprs l.uses t.start))
+      (local_when (is_word word.RETURN t.kind && is_inside p) (local_step (local_return b.exprs l.uses))
+      (local_when (is_word word.THROW t.kind) (local_step (local_throw b.exprs l.uses))
+      (local_plain (is_inside p))))))
+
+  throw_or : Place → Lexeme → Parser Stmt
+  throw_or p t = when (is_word word.THROW t.kind) (step (parser.throw_of b.exprs)) (parser.plain_stmt b (is_inside p))
+
+  return_or : Place → Lexeme → Parser Stmt
+  return_or p t = when (is_word word.RETURN t.kind && is_inside p) (step (parser.return_of b.exprs)) (throw_or p t)
+
+  break_or : Place → Lexeme → Parser Stmt
+  break_or p t = when (is_word word.BREAK t.kind) (step (parser.break_of t.start)) (return_or p t)
+
+  eats_jump : (p : Place) → Eats (parser.jump_stmt b p)
+  unfolding parser.jump_stmt throw_or return_or break_or
+  eats_jump p = eats_peek (λ t. when (is_word word.CONTINUE t.kind) (step (parser.continue_of t.start)) (break_or p t)) ((eats_plain (is_inside p)).each [])
+      (λ t ts. ate_when (step (parser.continue_of t.start)) (break_or p t) (is_word word.CONTINUE t.kind) t ts (ate_step (parser.continue_of t.start) (local_continue b.exprs l.uses t.start) t ts)
+      (ate_when (step (parser.break_of t.start)) (return_or p t) (is_word word.BREAK t.kind) t ts (ate_step (parser.break_of t.start) (local_break b.exprs l.uses t.start) t ts)
+      (ate_when (step (parser.return_of b.exprs)) (throw_or p t) (is_word word.RETURN t.kind && is_inside p) t ts (ate_step (parser.return_of b.exprs) (local_return b.exprs l.uses) t ts)
+      (ate_or (parser.throw_of b.exprs) (parser.plain_stmt b (is_inside p)) (is_word word.THROW t.kind) t ts (local_throw b.exprs l.uses) (eats_plain (is_inside p))))))
+
+  local_nested : (p : Place) → Local (parser.nested_stmt b p)
+  unfolding parser.nested_stmt
+  local_nested p = local_peek (λ t.
+      local_when (is_word word.IF t.kind) (local_step (local_if b l (is_inside p)))
+      (local_when (is_word word.WHILE t.kind) (local_step (local_while b l (is_inside p)))
+      (local_when (is_word word.DO t.kind) (local_step (local_do b l (is_inside p)))
+      (local_when (is_word word.FOR t.kind) (local_step (local_for b l (is_inside p)))
+      (local_when (is_word word.SWITCH t.kind) (local_step (local_switch b l (is_inside p)))
+      (local_when (is_word word.TRY t.kind) (local_step (local_try b l (is_inside p)))
+      (local_jump p)))))))
+
+  try_or : Place → Lexeme → Parser Stmt
+  try_or p t = when (is_word word.TRY t.kind) (step (parser.try_of b (is_inside p))) (parser.jump_stmt b p)
+
+  switch_or : Place → Lexeme → Parser Stmt
+  switch_or p t = when (is_word word.SWITCH t.kind) (step (parser.switch_of b (is_inside p))) (try_or p t)
+
+  for_or : Place → Lexeme → Parser Stmt
+  for_or p t = when (is_word word.FOR t.kind) (step (parser.for_of b (is_inside p))) (switch_or p t)
+
+  do_or : Place → Lexeme → Parser Stmt
+  do_or p t = when (is_word word.DO t.kind) (step (parser.do_of b (is_inside p))) (for_or p t)
+
+  while_or : Place → Lexeme → Parser Stmt
+  while_or p t = when (is_word word.WHILE t.kind) (step (parser.while_of b (is_inside p))) (do_or p t)
+
+  eats_nested : (p : Place) → Eats (parser.nested_stmt b p)
+  unfolding parser.nested_stmt try_or switch_or for_or do_or while_or
+  eats_nested p = eats_peek (λ t. when (is_word word.IF t.kind) (step (parser.if_of b (is_inside p))) (while_or p t)) ((eats_jump p).each [])
+      (λ t ts. ate_when (step (parser.if_of b (is_inside p))) (while_or p t) (is_word word.IF t.kind) t ts (ate_step (parser.if_of b (is_inside p)) (local_if b l (is_inside p)) t ts)
+      (ate_when (step (parser.while_of b (is_inside p))) (do_or p t) (is_word word.WHILE t.kind) t ts (ate_step (parser.while_of b (is_inside p)) (local_while b l (is_inside p)) t ts)
+      (ate_when (step (parser.do_of b (is_inside p))) (for_or p t) (is_word word.DO t.kind) t ts (ate_step (parser.do_of b (is_inside p)) (local_do b l (is_inside p)) t ts)
+      (ate_when (step (parser.for_of b (is_inside p))) (switch_or p t) (is_word word.FOR t.kind) t ts (ate_step (parser.for_of b (is_inside p)) (local_for b l (is_inside p)) t ts)
+      (ate_when (step (parser.switch_of b (is_inside p))) (try_or p t) (is_word word.SWITCH t.kind) t ts (ate_step (parser.switch_of b (is_inside p)) (local_switch b l (is_inside p)) t ts)
+      (ate_or (parser.try_of b (is_inside p)) (parser.jump_stmt b p) (is_word word.TRY t.kind) t ts (local_try b l (is_inside p)) (eats_jump p)))))))
+
+  local_declaration : (p : Place) → Local (parser.declaration_stmt b p)
+  unfolding parser.declaration_stmt
+  local_declaration p = local_peek (λ t.
+      local_when (is_word word.VAR t.kind) (local_step (local_binding b.exprs l.uses decl.Var))
+      (local_when (is_word word.LET t.kind && is_item p) (local_step (local_binding b.exprs l.uses decl.Let))
+      (local_when (is_word word.CONST t.kind && is_item p) (local_step (local_binding b.exprs l.uses decl.Const))
+      (local_when (is_word word.FUNCTION t.kind && is_item p) (local_step (local_declared b.exprs l.uses))
+      (local_nested p)))))
+
+  function_or : Place → Lexeme → Parser Stmt
+  function_or p t = when (is_word word.FUNCTION t.kind && is_item p) (step (parser.declared_of b.exprs)) (parser.nested_stmt b p)
+
+  const_or : Place → Lexeme → Parser Stmt
+  const_or p t = when (is_word word.CONST t.kind && is_item p) (step (parser.binding_of b.exprs decl.Const)) (function_or p t)
+
+  let_or : Place → Lexeme → Parser Stmt
+  let_or p t = when (is_word word.LET t.kind && is_item p) (step (parser.binding_of b.exprs decl.Let)) (const_or p t)
+
+  eats_declaration : (p : Place) → Eats (parser.declaration_stmt b p)
+  unfolding parser.declaration_stmt function_or const_or let_or
+  eats_declaration p = eats_peek (λ t. when (is_word word.VAR t.kind) (step (parser.binding_of b.exprs decl.Var)) (let_or p t)) ((eats_nested p).each [])
+      (λ t ts. ate_when (step (parser.binding_of b.exprs decl.Var)) (let_or p t) (is_word word.VAR t.kind) t ts (ate_step (parser.binding_of b.exprs decl.Var) (local_binding b.exprs l.uses decl.Var) t ts)
+      (ate_when (step (parser.binding_of b.exprs decl.Let)) (const_or p t) (is_word word.LET t.kind && is_item p) t ts (ate_step (parser.binding_of b.exprs decl.Let) (local_binding b.exprs l.uses decl.Let) t ts)
+      (ate_when (step (parser.binding_of b.exprs decl.Const)) (function_or p t) (is_word word.CONST t.kind && is_item p) t ts (ate_step (parser.binding_of b.exprs decl.Const) (local_binding b.exprs l.uses decl.Const) t ts)
+      (ate_or (parser.declared_of b.exprs) (parser.nested_stmt b p) (is_word word.FUNCTION t.kind && is_item p) t ts (local_declared b.exprs l.uses) (eats_nested p)))))
+
+  pub local_stmt : (p : Place) → Local (parser.stmt_of b p)
+  unfolding parser.stmt_of
+  local_stmt p = local_peek (λ t.
+      local_when (is_mark mark.OPEN_BRACE t.kind) (local_step (local_block b l (is_inside p)))
+      (local_when (is_mark mark.SEMICOLON t.kind) (local_step (local_ret tree.Empty))
+      (local_when (is_word word.DEBUGGER t.kind) (local_step (local_debugger b.exprs l.uses))
+      (local_declaration p))))
+
+  debugger_or : Place → Lexeme → Parser Stmt
+  debugger_or p t = when (is_word word.DEBUGGER t.kind) (step parser.debugger_of) (parser.declaration_stmt b p)
+
+  empty_or : Place → Lexeme → Parser Stmt
+  empty_or p t = when (is_mark mark.SEMICOLON t.kind) (step (ret tree.Empty)) (debugger_or p t)
+
+  pub eats_stmt : (p : Place) → Eats (parser.stmt_of b p)
+  unfolding parser.stmt_of debugger_or empty_or
+  eats_stmt p = eats_peek (λ t. when (is_mark mark.OPEN_BRACE t.kind) (step (parser.block_stmt b (is_inside p))) (empty_or p t)) ((eats_declaration p).each [])
+      (λ t ts. ate_when (step (parser.block_stmt b (is_inside p))) (empty_or p t) (is_mark mark.OPEN_BRACE t.kind) t ts (ate_step (parser.block_stmt b (is_inside p)) (local_block b l (is_inside p)) t ts)
+      (ate_when (step (ret tree.Empty)) (debugger_or p t) (is_mark mark.SEMICOLON t.kind) t ts (ate_step (ret tree.Empty) (local_ret tree.Empty) t ts)
+      (ate_or parser.debugger_of (parser.declaration_stmt b p) (is_word word.DEBUGGER t.kind) t ts (local_debugger b.exprs l.uses) (eats_declaration p))))

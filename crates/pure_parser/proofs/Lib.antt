@@ -7,6 +7,7 @@ pub mod Fitting
 pub mod Friendly
 pub mod Fronts
 pub mod Local
+pub mod LocalStmts
 pub mod Lone
 pub mod Refuse
 pub mod Rows
@@ -14,6 +15,7 @@ pub mod Sound
 pub mod SoundArrows
 pub mod SoundCalls
 pub mod SoundChains
+pub mod SoundEverything
 pub mod SoundFunctions
 pub mod SoundHeads
 pub mod SoundLevels
@@ -31,5 +33,3 @@ pub mod Stands
 pub mod StmtFitting
 pub mod StmtNext
 pub mod Tests
-pub mod SoundEverything
-pub mod LocalStmts

@@ -1,6 +1,7 @@
 -- Which brackets of a list of tokens match. ECMA-262 has this in its productions alone; as a relation of its own it is
 -- this project's own choice.
-use Rattle.std.specs.Prelude.{ℕ, suc, List, [], ◌∷◌, Bool, true, false, nat_eq, if◌then◌else◌, Option, Some, None, ◌≡◌, ◌<◌, ◌⊎◌, length, take, drop, slice_get, slice_index_or, option_and_then}
+use Rattle.std.specs.Prelude.{ℕ, suc, map, List, [], ◌∷◌, Bool, true, false, nat_eq, if◌then◌else◌, Option, Some, None, ◌≡◌, ◌<◌, ◌⊎◌, length, take, drop, slice_get, slice_index_or, option_and_then}
+use Rattle.script_grammar.specs.declared.token.Token.{Token}
 use Rattle.script_grammar.specs.declared.token.Kind.{Kind}
 use Rattle.script_grammar.specs.declared.token.Kind.TheVariants as kind
 use Rattle.script_grammar.specs.declared.token.mark.TheConstants as mark
@@ -8,6 +9,9 @@ use Rattle.script_grammar.specs.declared.brackets.Bracket.{Bracket}
 use Rattle.script_grammar.specs.declared.brackets.Bracket.TheVariants.{Paren, Square, Brace, Template}
 use Rattle.script_grammar.specs.declared.brackets.BracketPart.{BracketPart}
 use Rattle.script_grammar.specs.declared.brackets.BracketPart.TheVariants.{Opening, Closing, Middle, Other}
+
+abbrev pub kinds_of : List Token → List Kind
+kinds_of = map (λ t. t.kind)
 
 -- what a token does to brackets; a TemplateMiddle closes what a TemplateHead or another TemplateMiddle opened, and opens again
 abbrev pub part_of_mark : ℕ → BracketPart
@@ -36,17 +40,17 @@ is_same _ _ = false
 -- The brackets that are open behind a token, innermost first, from those that are open before it. None: the token closes
 -- a bracket that is not the innermost open one.
 abbrev pub next_open : List Bracket → BracketPart → Option (List Bracket)
-next_open open (Opening b) = Some (b ∷ open)
+next_open stack (Opening b) = Some (b ∷ stack)
 next_open [] (Closing c) = None
-next_open (b ∷ open) (Closing c) = if is_same b c then Some open else None
+next_open (b ∷ stack) (Closing c) = if is_same b c then Some stack else None
 next_open [] Middle = None
-next_open (b ∷ open) Middle = if is_same b Template then Some (b ∷ open) else None
-next_open open Other = Some open
+next_open (b ∷ stack) Middle = if is_same b Template then Some (b ∷ stack) else None
+next_open stack Other = Some stack
 
 -- the same behind a list of tokens
 abbrev pub all_open : List Bracket → List Kind → Option (List Bracket)
-all_open open [] = Some open
-all_open open (k ∷ ks) = option_and_then (λ o. all_open o ks) (next_open open (part_of k))
+all_open stack [] = Some stack
+all_open stack (k ∷ ks) = option_and_then (λ s. all_open s ks) (next_open stack (part_of k))
 
 -- Tokens are balanced where each that closes a bracket closes the innermost open one, and none is open at their end.
 abbrev pub IsBalanced : List Kind → Type 0
@@ -90,9 +94,9 @@ pub record IsPartner (ks : List Kind) (stop t p : ℕ) : Type 0 where
 -- The stop is the first token that closes a bracket which is not the innermost open one, or else the last token.
 pub record IsStop (ks : List Kind) (stop : ℕ) : Type 0 where
   pub within : stop < length ks
-  pub open : List Bracket
-  pub fit : all_open [] (take stop ks) ≡ Some open
-  pub stops : (suc stop ≡ length ks) ⊎ (next_open open (part_at ks stop) ≡ None)
+  pub stack : List Bracket
+  pub fit : all_open [] (take stop ks) ≡ Some stack
+  pub stops : (suc stop ≡ length ks) ⊎ (next_open stack (part_at ks stop) ≡ None)
 
 -- what contracts see of the brackets of a list of tokens: each token's partner, and the stop
 pub record Matching : Type 0 where

@@ -33,3 +33,5 @@ pub mod Stands
 pub mod StmtFitting
 pub mod StmtNext
 pub mod Tests
+pub mod Completes
+pub mod Stops

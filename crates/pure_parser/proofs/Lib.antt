@@ -35,3 +35,4 @@ pub mod StmtNext
 pub mod Tests
 pub mod Completes
 pub mod Stops
+pub mod ExprFronts

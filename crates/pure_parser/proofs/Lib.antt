@@ -36,3 +36,5 @@ pub mod Tests
 pub mod Completes
 pub mod Stops
 pub mod ExprFronts
+pub mod CompleteLoops
+pub mod StmtFronts

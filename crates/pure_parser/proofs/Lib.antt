@@ -38,3 +38,4 @@ pub mod Stops
 pub mod ExprFronts
 pub mod CompleteLoops
 pub mod StmtFronts
+pub mod CompleteStmts

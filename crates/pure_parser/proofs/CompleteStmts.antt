@@ -65,10 +65,10 @@ c_value {limit = limit} {ps = ps} {F = F} {f = f} e c = subst (λ y. Completes l
 pub follows_as : {s r : Stmt} → takes_else r ≡ takes_else s → (t : Lexeme) → Follows s t → Follows r t
 follows_as e t g = record { no_else = λ h. g.no_else (sym e ∙ h); no_colon = g.no_colon }
 
-colon_word : (i : ℕ) (t : Lexeme) → t.kind ≡ kind.Word i → is_mark mark.COLON t.kind ≡ false
+pub colon_word : (i : ℕ) (t : Lexeme) → t.kind ≡ kind.Word i → is_mark mark.COLON t.kind ≡ false
 colon_word i t e = ap (is_mark mark.COLON) e
 
-named_is : (n : Named) (d : ℕ) (t : Lexeme) → t.text ≡ n.text → t.start ≡ n.at → named t ≡ n
+pub named_is : (n : Named) (d : ℕ) (t : Lexeme) → t.text ≡ n.text → t.start ≡ n.at → named t ≡ n
 named_is n d t e h = ap (λ x. record { text = x; at = t.start }) e ∙ ap (λ x. record { text = n.text; at = x }) h
 
 module _ (limit : ℕ) (m : Bodies) (d : ℕ) (low : d ≤ limit) where

@@ -39,3 +39,4 @@ pub mod ExprFronts
 pub mod CompleteLoops
 pub mod StmtFronts
 pub mod CompleteStmts
+pub mod CompleteSimple

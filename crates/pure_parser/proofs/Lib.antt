@@ -40,3 +40,4 @@ pub mod CompleteLoops
 pub mod StmtFronts
 pub mod CompleteStmts
 pub mod CompleteSimple
+pub mod CompleteBinds

@@ -41,3 +41,4 @@ pub mod StmtFronts
 pub mod CompleteStmts
 pub mod CompleteSimple
 pub mod CompleteBinds
+pub mod CompleteSwitch

@@ -42,3 +42,4 @@ pub mod CompleteStmts
 pub mod CompleteSimple
 pub mod CompleteBinds
 pub mod CompleteSwitch
+pub mod CompleteEach

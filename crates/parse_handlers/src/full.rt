@@ -145,7 +145,7 @@ impl Handler for Full {
         ensures { (i : Interpretation) (t : model.Expr) (a : Option part.Args) → IsExpr i callee t → ShowMaybe (ShowArgs (IsExpr i)) args a
             → IfOk result (λ e. IsExpr i e (model.New at t (maybe_args_of a))) }
     {
-        build::new_expr(self.alloc, at, callee, args.map(parts::args))
+        build::new_expr(self.alloc, at, callee, parts::maybe_args(args))
     }
 
     fn make_unary(&mut self, at: u32, op: u8, of: Expr, is_word: bool) -> Result<Expr, AllocError> {

@@ -1,6 +1,6 @@
 //! The parts of a kept tree, made of parts over nodes that are trees.
 
-ghost use Rattle.std.specs.Prelude.{◌≡◌, List, ℕ, IfOk, map};
+ghost use Rattle.std.specs.Prelude.{◌≡◌, List, ℕ, IfOk, map, option_map};
 ghost use Rattle.script_grammar.specs.Interpretation.{Interpretation};
 ghost use Rattle.script_grammar.specs.Shows.{ShowAll};
 ghost use Rattle.script_grammar.specs.TreeOf.{args_of, operand_of, part_of, tail_of, key_of, body_of, param_of, func_of, bind_of, init_of, each_of, clause_of};
@@ -21,6 +21,15 @@ pub fn args(node: NodeArgs<Expr>) -> Args
 {
     let NodeArgs { items, comma } = node;
     Args { items, comma }
+}
+
+pub fn maybe_args(node: Option<NodeArgs<Expr>>) -> Option<Args>
+    ensures { (i : Interpretation) → option_map (args_of i) result ≡ option_map (kept_args i) node }
+{
+    match node {
+        None => None,
+        Some(node) => Some(args(node)),
+    }
 }
 
 fn operand(node: NodeOperand<Expr>) -> Operand

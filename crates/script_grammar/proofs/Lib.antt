@@ -1,3 +1,4 @@
+mod PrintRows
 pub mod ExprEquations
 pub mod StmtEquations
 pub mod PartEquations

@@ -2,6 +2,13 @@ mod CornerRows
 mod DepthRows
 pub mod Agrees
 pub mod Begins
+pub mod Local
+pub mod Tests
+pub mod Friendly
+pub mod Fitting
+pub mod Sound
+pub mod SoundNext
+pub mod Stands
 pub mod Complete
 pub mod Fitting
 pub mod Friendly
@@ -33,3 +40,10 @@ pub mod StmtNext
 pub mod Tests
 pub mod SoundEverything
 pub mod LocalStmts
+pub mod Begins
+pub mod StmtFitting
+pub mod SoundStmtLists
+pub mod StmtNext
+pub mod SoundStmts
+pub mod SoundLoops
+pub mod SoundSwitch

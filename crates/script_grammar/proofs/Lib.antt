@@ -1,4 +1,3 @@
-mod PrintRows
 pub mod ExprEquations
 pub mod StmtEquations
 pub mod PartEquations

@@ -2,18 +2,12 @@ mod CornerRows
 mod DepthRows
 pub mod Agrees
 pub mod Begins
-pub mod Local
-pub mod Tests
-pub mod Friendly
-pub mod Fitting
-pub mod Sound
-pub mod SoundNext
-pub mod Stands
 pub mod Complete
 pub mod Fitting
 pub mod Friendly
 pub mod Fronts
 pub mod Local
+pub mod LocalStmts
 pub mod Lone
 pub mod Refuse
 pub mod Rows
@@ -21,6 +15,7 @@ pub mod Sound
 pub mod SoundArrows
 pub mod SoundCalls
 pub mod SoundChains
+pub mod SoundEverything
 pub mod SoundFunctions
 pub mod SoundHeads
 pub mod SoundLevels

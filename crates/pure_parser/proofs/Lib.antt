@@ -33,12 +33,3 @@ pub mod Stands
 pub mod StmtFitting
 pub mod StmtNext
 pub mod Tests
-pub mod SoundEverything
-pub mod LocalStmts
-pub mod Begins
-pub mod StmtFitting
-pub mod SoundStmtLists
-pub mod StmtNext
-pub mod SoundStmts
-pub mod SoundLoops
-pub mod SoundSwitch

@@ -33,3 +33,4 @@ pub mod Stands
 pub mod StmtFitting
 pub mod StmtNext
 pub mod Tests
+pub mod LocalExprs

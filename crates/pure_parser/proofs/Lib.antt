@@ -34,3 +34,4 @@ pub mod StmtFitting
 pub mod StmtNext
 pub mod Tests
 pub mod LocalExprs
+pub mod LocalArrows

@@ -269,7 +269,7 @@ module _ (v : Env) (l : LocalEnv v) where
   unfolding Exprs.items_from
   items_local = local_bind (l.at (AnAssign true)) (λ e. local_bind (local_loop (more_turn_local true) (more_turn_gains true)) (λ m. local_ret _))
 
-  doomed_local : {A : Type 0} → Local (Exprs.doomed {A = A})
+  pub doomed_local : {A : Type 0} → Local (Exprs.doomed {A = A})
   doomed_local = local_bind (expect_local mark.CLOSE_PAREN) (λ _. local_bad)
 
   pub doomed_rest_local : {A : Type 0} → Local (Exprs.doomed_rest {A = A} v)
@@ -302,7 +302,7 @@ module _ (v : Env) (l : LocalEnv v) where
   lead_item_same t q true h = lead_item_end t q
   lead_item_same t q false h = (local_bind items_local (λ es. local_ret (Stop es))).same (t ∷ []) q
 
-  no_form : (t : Lexeme) → is_param_form t (head_of []) ≡ false
+  pub no_form : (t : Lexeme) → is_param_form t (head_of []) ≡ false
   no_form t = and_none (is_name t.kind)
     where
       and_none : (b : Bool) → (b && false) ≡ false

@@ -35,3 +35,4 @@ pub mod StmtNext
 pub mod Tests
 pub mod LocalExprs
 pub mod LocalArrows
+pub mod Nested

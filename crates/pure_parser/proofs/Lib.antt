@@ -36,3 +36,4 @@ pub mod Tests
 pub mod LocalExprs
 pub mod LocalArrows
 pub mod Nested
+pub mod NestedTrees

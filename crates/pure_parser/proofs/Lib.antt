@@ -37,3 +37,4 @@ pub mod LocalExprs
 pub mod LocalArrows
 pub mod Nested
 pub mod NestedTrees
+pub mod LocalRace

@@ -1,0 +1,2 @@
+mod KeptLists
+mod KeptShown

@@ -212,14 +212,14 @@ module _ (limit : ℕ) (m : Bodies) (d : ℕ) (low : d ≤ limit) (v : Env) (c :
 
 -- `for`
 
-not_mark : (j : ℕ) → begins_mark j ≡ false → (k : Kind) → begins_assign k ≡ true → is_mark j k ≡ false
+pub not_mark : (j : ℕ) → begins_mark j ≡ false → (k : Kind) → begins_assign k ≡ true → is_mark j k ≡ false
 not_mark j h k o = by (bool_cases (is_mark j k))
   where
     by : (is_mark j k ≡ true) ⊎ (is_mark j k ≡ false) → is_mark j k ≡ false
     by (inl e) = absurd (true_false (sym o ∙ ap begins_assign (mark_known j k e) ∙ h))
     by (inr e) = e
 
-not_word : (j : ℕ) → begins_word j ≡ false → (k : Kind) → begins_assign k ≡ true → is_word j k ≡ false
+pub not_word : (j : ℕ) → begins_word j ≡ false → (k : Kind) → begins_assign k ≡ true → is_word j k ≡ false
 not_word j h k o = by (bool_cases (is_word j k))
   where
     by : (is_word j k ≡ true) ⊎ (is_word j k ≡ false) → is_word j k ≡ false

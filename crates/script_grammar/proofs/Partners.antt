@@ -1,18 +1,11 @@
 -- What a walk over the tokens knows of their partners.
-use Rattle.std.proofs.Common.{◌≡◌, ◌≢◌, ◌∙◌, ◌<◌, ◌≤◌, ◌+◌, ◌-◌, ◌⊎◌, inl, inr, ℕ, zero, suc, List, [], ◌∷◌, ◌++◌, Bool, true, false, Option, Some, None, length, take, drop, get_or, set, map, replicate, refl, ap, sym, subst, arith, option_and_then}
-use Rattle.std.proofs.Math.Seq.{take-suc}
+use Rattle.std.proofs.Common.{◌≡◌, ◌≢◌, ◌∙◌, ◌<◌, ◌≤◌, ◌+◌, ◌-◌, ◌⊎◌, inl, inr, ℕ, zero, suc, List, [], ◌∷◌, ◌++◌, Option, Some, None, length, get_or, refl, ap, sym, subst, arith, option_and_then}
 use Rattle.std.proofs.lemmas.Bool.{cases_eq}
-use Rattle.std.proofs.lemmas.List.{get_or-set_same, get_or-set_other, length-set}
 use Rattle.script_grammar.specs.declared.token.Kind.{Kind}
 use Rattle.script_grammar.specs.declared.token.Kind.TheVariants as kind
 use Rattle.script_grammar.specs.declared.brackets.Bracket.{Bracket}
-use Rattle.script_grammar.specs.declared.brackets.Bracket.TheVariants.{Paren, Square, Brace, Template}
-use Rattle.script_grammar.specs.declared.brackets.BracketPart.{BracketPart}
-use Rattle.script_grammar.specs.declared.brackets.BracketPart.TheVariants.{Opening, Closing, Middle, Other}
-use Rattle.script_grammar.specs.declared.brackets.Open.{Open}
-use Rattle.script_grammar.specs.Matching.{part_of, part_at, is_same, next_open, all_open, opened_by, closed_by, between, IsBalanced, Pairs, IsPartner, IsStop, IsMatching, Matching, partner_of}
-use Rattle.script_grammar.specs.BracketWalk.{brackets_of, AllOpen, Walked}
-use Rattle.script_grammar.proofs.Balance.{all_open-more, is_same-eq, closes-none, opens-not_balanced, between-more, between-none, between-split, all_open-append}
+use Rattle.script_grammar.specs.Matching.{part_at, all_open, opened_by, closed_by, between, IsBalanced, IsPartner}
+use Rattle.script_grammar.proofs.Balance.{closes-none, opens-not_balanced, between-split, all_open-append}
 
 abbrev some_is : {A : Type 0} (a : A) → Option A → A
 some_is a None = a

@@ -1,7 +1,6 @@
 -- The steps of a walk over the tokens that matches brackets.
-use Rattle.std.proofs.Common.{◌≡◌, ◌≢◌, ◌∙◌, ◌<◌, ◌≤◌, ◌+◌, ◌⊎◌, inl, inr, ℕ, zero, suc, List, [], ◌∷◌, ◌++◌, Bool, true, false, Option, Some, None, length, take, get_or, set, map, replicate, refl, ap, sym, subst, arith, option_and_then, if◌then◌else◌}
+use Rattle.std.proofs.Common.{◌≡◌, ◌≢◌, ◌∙◌, ◌<◌, ◌⊎◌, inl, inr, ℕ, zero, suc, List, [], ◌∷◌, ◌++◌, true, Option, Some, None, length, take, get_or, set, replicate, refl, ap, sym, subst, arith, if◌then◌else◌}
 use Rattle.std.proofs.Math.Seq.{take-suc}
-use Rattle.std.proofs.Math.ListN.{get_or-eq_default}
 use Rattle.std.proofs.lemmas.Bool.{cases_eq}
 use Rattle.std.proofs.lemmas.List.{get_or-set_same, get_or-set_other, length-set, length-replicate}
 use Rattle.script_grammar.specs.declared.token.Kind.{Kind}
@@ -10,7 +9,7 @@ use Rattle.script_grammar.specs.declared.brackets.Bracket.{Bracket}
 use Rattle.script_grammar.specs.declared.brackets.Bracket.TheVariants.{Template}
 use Rattle.script_grammar.specs.declared.brackets.BracketPart.TheVariants.{Opening, Closing, Middle, Other}
 use Rattle.script_grammar.specs.declared.brackets.Open.{Open}
-use Rattle.script_grammar.specs.Matching.{part_of, part_at, is_same, next_open, all_open, opened_by, closed_by, between, IsBalanced, Pairs, IsPartner, IsStop, IsMatching, Matching, partner_of}
+use Rattle.script_grammar.specs.Matching.{part_at, is_same, next_open, all_open, opened_by, closed_by, between, IsBalanced, Pairs, IsPartner, IsMatching}
 use Rattle.script_grammar.specs.BracketWalk.{brackets_of, AllOpen, Walked}
 use Rattle.script_grammar.proofs.Balance.{all_open-more, is_same-eq, between-more, between-none}
 use Rattle.script_grammar.proofs.Partners.{opener-unique, closer-not_before, partner-later, partner-earlier, partner-same}

@@ -1,5 +1,5 @@
 -- One file: what is printed is the text of its verdict, which is the only one.
-use Rattle.std.proofs.Common.{◌≡◌, ℕ, ◌+◌, ◌<◌, ◌≤◌, Bool, true, false, List, [], ◌∷◌, ◌++◌, length, Option, Some, None, Vec, map, cond, nat_eq, nat_le, refl, ap, sym, ◌∙◌, subst, append-nil, arith}
+use Rattle.std.proofs.Common.{◌≡◌, ℕ, ◌+◌, ◌<◌, ◌≤◌, Bool, true, false, List, [], ◌∷◌, ◌++◌, length, Option, Some, None, Vec, map, cond, nat_eq, nat_le, refl, ap, sym, ◌∙◌, subst, arith}
 use Rattle.std.specs.declared.alloc.Global.{Global}
 use Rattle.script_grammar.specs.declared.token.Token.{Token}
 use Rattle.script_grammar.specs.Tree.{Expr, Operands, no_operands, more_operands, Stmt, Stmts, no_stmts, more_stmts}
@@ -7,7 +7,7 @@ use Rattle.script_grammar.specs.Tree as tree
 use Rattle.bytecode_buf.specs.declared.opcode.Op.TheVariants as op
 use Rattle.bytecode_buf.specs.Width.{is_jump, width_of}
 use Rattle.bytecode_buf.specs.Layout.{Numbered}
-use Rattle.bytecode_buf.specs.Command.{Command, plain, counted, named, command_of, command_at, listed_from, Listed}
+use Rattle.bytecode_buf.specs.Command.{Command, plain, counted, command_of, command_at, listed_from, Listed}
 use Rattle.outside.specs.Loops.{IsWholeWithin}
 use Rattle.compile_session.specs.declared.parser.Statement.{Statement}
 use Rattle.compile_session.specs.BuiltTokens.{tokens_of, seen_as}
@@ -83,12 +83,16 @@ is_listed name bytes texts tokens seen_tokens statements seen_statements code se
   where
     script : Stmts
     script = stmts_of texts statements
+
     built : IsBuiltScript (tokens_of bytes) script
     built = read-sound (tokens_of bytes) script (ap read_stmts (sym scanned) ∙ ap (λ (ts : List Token). read_stmts (seen texts ts)) (sym same_tokens) ∙ parsed)
+
     stands : map (command_of texts) emits.numbered ≡ script_code script
     stands = emits.stands texts ∙ ap (λ (ss : List Statement). script_code (stmts_of texts ss)) same_statements
+
     lines : listing (listed_from texts 0 emits.numbered) ≡ listing (placed_from 0 (script_code script))
     lines = ap listing (listed_from-placed texts emits.numbered 0) ∙ ap (λ (cs : List Command). listing (placed_from 0 cs)) stands
+
     printed : out ≡ file_text name bytes (IsListed script)
     printed =
         appends emits.numbered emits.fit (plain_instructions texts emits.numbered (subst ArePlainCommands (sym stands) (plain_script script built.built))) (same_code ∙ emits.bytes)
@@ -121,6 +125,7 @@ settles_long name text file read none whole printed = record { verdict = IsTooLo
   where
     long : most_bytes < length file
     long = let P : Option (Vec ℕ Global) → Type 0 = λ r. IsWholeWithin file most_bytes r in subst P none whole
+
     only : (other : Verdict) → IsVerdict 0 file other → other ≡ IsTooLong
     only (IsListed script) is = absurd (omega (arith, long, is.0))
     only IsTooLong is = refl
@@ -139,6 +144,7 @@ settles_not_built name text file seen_bytes read bytes listed is same is_listing
         let there : seen_bytes ≡ file = same ∙ (whole_of file read bytes is whole).0 in
         let Q : List ℕ → Type 0 = λ l. IsBuiltScript (tokens_of l) script in
         subst P none is_listing script (subst Q (sym there) built)
+
     only : (other : Verdict) → IsVerdict 0 file other → other ≡ IsNotBuilt
     only (IsListed script) v = absurd (never script v.1)
     only IsTooLong v = absurd (omega (arith, v, (whole_of file read bytes is whole).1))
@@ -149,19 +155,22 @@ settles_listed name file seen_bytes text read bytes listed is same is_listing so
   where
     P : Option (Vec ℕ Global) → Type 0
     P r = IsListing name seen_bytes r
+
     there : seen_bytes ≡ file
     there = same ∙ (whole_of file read bytes is whole).0
+
     settle : (script : Stmts) × IsBuiltScript (tokens_of seen_bytes) script × (text.items ≡ file_text name seen_bytes (IsListed script)) → Settles name file text.items false
     settle got = record {
       verdict = IsListed got.0;
       is = (omega (arith, (whole_of file read bytes is whole).1), built);
       printed = got.2 ∙ ap (λ (l : List ℕ). file_text name l (IsListed got.0)) there;
       refusal = refl;
-      only = only
+      only = only;
     }
       where
         built : IsBuiltScript (tokens_of file) got.0
         built = let Q : List ℕ → Type 0 = λ l. IsBuiltScript (tokens_of l) got.0 in subst Q there got.1
+
         only : (other : Verdict) → IsVerdict 0 file other → other ≡ IsListed got.0
         only (IsListed script) v = let first = read-complete (tokens_of file) script v.1 in let second = read-complete (tokens_of file) got.0 built in let e : Some script ≡ Some got.0 = sym first ∙ second in let same_script : script ≡ got.0 = cc in ap IsListed same_script
         only IsTooLong v = absurd (omega (arith, v, (whole_of file read bytes is whole).1))

@@ -1,10 +1,10 @@
 -- The loop that lists a code.
-use Rattle.std.proofs.Common.{◌≡◌, ℕ, ◌+◌, ◌<◌, ◌≤◌, Bool, true, false, List, [], ◌∷◌, ◌++◌, length, drop, Option, Some, None, option_map, pos, refl, ap, sym, ◌∙◌, subst, append_assoc, append-nil, arith, length-append, flat_map, get_or}
+use Rattle.std.proofs.Common.{◌≡◌, ℕ, ◌+◌, ◌≤◌, Bool, false, List, [], ◌∷◌, ◌++◌, length, drop, Some, None, option_map, pos, refl, ap, sym, ◌∙◌, append_assoc, append-nil, arith, length-append}
 use Rattle.std.proofs.Math.Seq.{drop-append_seam}
 use Rattle.bytecode_buf.specs.declared.instruction.Instr.{Instr}
 use Rattle.bytecode_buf.specs.Width.{is_jump, width_of}
-use Rattle.bytecode_buf.specs.Layout.{Numbered, Fits, AllFit, laid, layout, decoded, instr_at, instr_by, ReadsLaid}
-use Rattle.bytecode_buf.specs.Command.{command_at, command_of, listed_from, Listed}
+use Rattle.bytecode_buf.specs.Layout.{Numbered, AllFit, laid, layout, decoded, instr_at, instr_by, ReadsLaid}
+use Rattle.bytecode_buf.specs.Command.{command_at, command_of, listed_from}
 use Rattle.bytecode_buf.proofs.ReadBack.{length-laid}
 use Rattle.compile_session.specs.Listing.{listing, line, listed_as, ArePlain, AppendsListing}
 
@@ -48,15 +48,18 @@ next_state texts code start now new line_bytes at index instr is before (i ∷ r
   fit = fit.1;
   plain = plain.1;
   few = omega (arith, few, ap (λ (x : Instr). x.next) instr_is);
-  text = text_now
+  text = text_now;
 }
   where
     whole : code ≡ (before ++ laid i) ++ layout rest
     whole = split ∙ sym (append_assoc before (laid i) (layout rest))
+
     instr_is : instr ≡ record { op = i.op; a = i.a; b = i.b; to = pos 0; next = at + width_of i.op }
     instr_is = plain_instr at i instr plain.0 (laid_there before (layout rest) i fit.0 place whole)
+
     line_now : line_bytes ≡ line (record { at = at; command = command_at at (command_of texts i) })
     line_now = line_is (ap (λ (x : Instr). is_jump x.op) instr_is ∙ plain.0) ∙ ap (λ (x : Instr). line (listed_as texts at x)) instr_is
+
     text_now : new ++ listing (listed_from texts instr.next rest) ≡ start ++ listing (listed_from texts 0 is)
     text_now =
         ap (λ (l : List ℕ). l ++ listing (listed_from texts instr.next rest)) new_is
@@ -67,7 +70,7 @@ next_state texts code start now new line_bytes at index instr is before (i ∷ r
 
 pub ListsOn-next : (texts : List (List ℕ)) (code start now new line_bytes : List ℕ) (at index : ℕ) (instr : Instr) → ListsOn texts code start now at index → Some instr ≡ option_map (instr_at at) (decoded (drop at code)) → ReadsLaid code at (Some instr) → (is_jump instr.op ≡ false → line_bytes ≡ line (listed_as texts at instr)) → new ≡ now ++ line_bytes → ListsOn texts code start new instr.next (index + 1)
 ListsOn-next texts code start now new line_bytes at index instr lists read laid_there line_is new_is = record {
-  on = λ is fit plain laid_out. let s = lists.on is fit plain laid_out in next_state texts code start now new line_bytes at index instr is s.before s.rest s.place s.split s.fit s.plain s.few s.text read laid_there line_is new_is
+  on = λ is fit plain laid_out. let s = lists.on is fit plain laid_out in next_state texts code start now new line_bytes at index instr is s.before s.rest s.place s.split s.fit s.plain s.few s.text read laid_there line_is new_is;
 }
 
 -- nothing more is read

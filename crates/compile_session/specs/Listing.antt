@@ -1,10 +1,10 @@
 -- The text of a code, this project's own choice: a line for each instruction.
-use Rattle.std.specs.Prelude.{◌≡◌, ℕ, ◌+◌, ◌-◌, ◌*◌, ◌/◌, ◌%◌, Bool, true, false, not, ◌&&◌, nat_eq, nat_le, List, [], ◌∷◌, ◌++◌, length, map, replicate, codes, flat_map, if◌then◌else◌}
+use Rattle.std.specs.Prelude.{◌≡◌, ℕ, ◌+◌, ◌-◌, ◌/◌, ◌%◌, Bool, false, not, ◌&&◌, nat_eq, nat_le, List, [], ◌∷◌, ◌++◌, length, replicate, flat_map, if◌then◌else◌}
 use Rattle.std.specs.Fmt.{decimal}
 use Rattle.bytecode_buf.specs.declared.instruction.Instr.{Instr}
 use Rattle.bytecode_buf.specs.Width.{is_jump}
 use Rattle.bytecode_buf.specs.Layout.{Numbered, AllFit, layout}
-use Rattle.bytecode_buf.specs.Command.{Operand, Nothing, Number, Text, Aliased, Distance, Target, Command, Listed, command_at, command_of, listed_from}
+use Rattle.bytecode_buf.specs.Command.{Operand, Nothing, Number, Text, Aliased, Distance, Target, Listed, command_at, command_of, listed_from}
 use Rattle.compile_session.specs.OpNames.{name_of}
 
 -- a number in at least five digits

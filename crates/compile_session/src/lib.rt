@@ -12,9 +12,9 @@ mod session;
 mod status;
 mod words;
 
-pub use session::run;
-pub use status::Status;
 pub use outside::{
     FileShelf, FirmShelf, FirmSink, Gate, MapShelf, OpenGate, OutSink, Sheet, Shelf, ShelfRefusal,
     Sink, SinkRefusal, Tally, VecSink,
 };
+pub use session::run;
+pub use status::Status;

@@ -157,12 +157,7 @@ fn operand_text(
 }
 
 /// The line of an instruction at an offset.
-fn line_of(
-    alloc: Global,
-    at: usize,
-    instr: Instr,
-    texts: &[Text],
-) -> Result<Vec<u8>, AllocError>
+fn line_of(alloc: Global, at: usize, instr: Instr, texts: &[Text]) -> Result<Vec<u8>, AllocError>
     ensures { IfOk result (λ line. is_jump instr.op ≡ false → line.items ≡ listing.line (listed_as texts.now at instr)) }
 {
     let operands = operand_text(alloc, instr.op.row().shape, instr, texts)?;

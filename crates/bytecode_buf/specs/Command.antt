@@ -1,5 +1,5 @@
 -- Instructions with texts in place of atoms, and the list of instructions that a code is. This project's own choice.
-use Rattle.std.specs.Prelude.{ℕ, ◌+◌, ◌%◌, ◌^◌, List, [], ◌∷◌, slice_index_or}
+use Rattle.std.specs.Prelude.{◌≡◌, ℕ, ◌+◌, ◌%◌, ◌^◌, List, [], ◌∷◌, slice_index_or}
 use Rattle.bytecode_buf.specs.declared.opcode.Op.{Op}
 use Rattle.bytecode_buf.specs.declared.opcode.Shape.{Shape}
 use Rattle.bytecode_buf.specs.declared.opcode.Shape.TheVariants as shape
@@ -83,3 +83,15 @@ listed_from texts at (i ∷ is) = record { at = at; command = command_at at (com
 -- its target's offset, whether or not an instruction starts there.
 abbrev pub listed : List (List ℕ) → List ℕ → List Listed
 listed texts code = listed_from texts 0 (instructions code)
+
+-- the list that commands with distances are, from an offset on
+abbrev pub placed_from : ℕ → List Command → List Listed
+placed_from at [] = []
+placed_from at (c ∷ cs) = record { at = at; command = command_at at c } ∷ placed_from (at + width_of c.op) cs
+
+abbrev pub placed : List Command → List Listed
+placed commands = placed_from 0 commands
+
+-- bytes stand for these commands
+abbrev pub ShowsCommands : List (List ℕ) → List ℕ → List Command → Type 0
+ShowsCommands texts code commands = listed texts code ≡ placed commands

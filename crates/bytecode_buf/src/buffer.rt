@@ -1,5 +1,5 @@
 // Code that grows by instructions.
-ghost use Rattle.std.specs.Prelude.{◌≡◌, ℕ, ◌+◌, ◌^◌, ◌<◌, ◌≤◌, ◌++◌, [], List, length, true, false, OnOk, OnErr, IfOk};
+ghost use Rattle.std.specs.Prelude.{◌≡◌, ℕ, ◌+◌, ◌^◌, ◌<◌, ◌≤◌, ◌++◌, [], List, length, true, false, OnOk, OnErr, IfOk, IsTrue, ◌↔◌};
 ghost use Rattle.bytecode_buf.specs.Bytes.{le_bytes, written};
 ghost use Rattle.bytecode_buf.specs.Layout.{laid, distance_bits};
 ghost use Rattle.bytecode_buf.specs.Width.{first_of, second_of, is_jump};
@@ -38,6 +38,13 @@ impl CodeBuf {
         ensures { result ≡ length self.now }
     {
         self.bytes.len()
+    }
+
+    /// Whether no instruction was appended.
+    pub fn is_empty(&self) -> bool
+        ensures { IsTrue result ↔ (self.now ≡ []) }
+    {
+        self.bytes.is_empty()
     }
 
     /// The bytes.

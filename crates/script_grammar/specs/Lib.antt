@@ -11,3 +11,5 @@ pub mod Print
 pub mod Proper
 pub mod Script
 pub mod Fault
+pub mod Matching
+pub mod BracketWalk

@@ -5,6 +5,8 @@
 //! of the model, how they print, and which lists of tokens are a script.
 #![tactic(auto)]
 
+pub mod brackets;
+pub mod build;
 pub mod handler;
 pub mod node;
 pub mod token;

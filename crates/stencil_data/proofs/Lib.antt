@@ -1,1 +1,3 @@
 pub mod ChainWalk
+pub mod ResolveRows
+pub mod SlotRows

@@ -2,6 +2,7 @@ pub mod ChainFalls
 pub mod Fits
 pub mod LinkView
 pub mod Links
+pub mod LinksOutside
 pub mod MergedView
 pub mod Named
 pub mod Resolve

@@ -3,7 +3,7 @@
 -- * a binding that an inner function finds has a slot of the scope's environment, counted from 0;
 -- * a parameter else has its argument's index, and a callee name the callee slot;
 -- * all others have slots of the function's frame, from the first one that the scopes around leave free.
-use Rattle.std.specs.Prelude.{ℕ, ◌+◌, Bool, true, false, not, ◌&&◌, if◌then◌else◌, List, [], ◌∷◌, count_by}
+use Rattle.std.specs.Prelude.{ℕ, ◌+◌, Bool, true, false, if◌then◌else◌, List, [], ◌∷◌, count_by}
 use Rattle.stencil_data.specs.declared.scopes.ScopeKind.{ScopeKind}
 use Rattle.stencil_data.specs.declared.scopes.BindKind.{BindKind}
 use Rattle.stencil_data.specs.declared.scopes.BindKind.TheVariants as bind

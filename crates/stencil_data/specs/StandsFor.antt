@@ -4,7 +4,7 @@
 --
 -- What a code stands for is a parameter, `shows texts bytes code`, since instructions are no matter of
 -- this crate.
-use Rattle.std.specs.Prelude.{◌≡◌, ℕ, ◌<◌, nat_lt, slice_index_or, List, [], ◌∷◌, map, length, All, IfSome, Option, Some, None, option_map}
+use Rattle.std.specs.Prelude.{◌≡◌, ℕ, ◌<◌, nat_lt, slice_index_or, List, [], ◌∷◌, map, length, IfSome, Option, Some, None, option_map}
 use Rattle.stencil_data.specs.declared.chains.LinkName.{LinkName}
 use Rattle.stencil_data.specs.declared.records.ClosedName.{ClosedName}
 use Rattle.stencil_data.specs.declared.scopes.Binding.{Binding}

@@ -1,5 +1,6 @@
 //! Chains: the scopes around a place of the source, as a function that is compiled on its own needs them.
-ghost use Rattle.std.specs.Prelude.{◌≡◌, ◌↔◌, [], ◌∷◌, false, IfOk, IsTrue, MatchOption, ◌<◌, length, drop, slice_get, option_copied};
+ghost use Rattle.std.specs.Prelude.{◌≡◌, ◌↔◌, [], ◌∷◌, false, IfOk, IfSome, IsTrue, MatchOption, ◌<◌, length, drop, slice_get, option_copied};
+ghost use Rattle.stencil_data.specs.LinksOutside.{links_outside};
 
 use crate::scopes::{BindKind, ScopeKind, Slot};
 use crate::texts::Text;
@@ -16,7 +17,7 @@ pub struct LinkName {
 }
 
 /// One scope of a chain. `env` tells whether it has an environment.
-#[derive(Debug, Drop)]
+#[derive(Debug, Clone, Drop)]
 pub struct Link {
     pub kind: ScopeKind,
     pub env: bool,
@@ -144,6 +145,15 @@ impl Chain {
                 },
             }
         }
+    }
+
+    /// The innermost link, and the chain of the links outside it, if there are any. It takes no memory.
+    pub fn split_innermost(&self) -> (&Link, Option<&Chain>)
+        ensures all { self.now ≡ result.0.now ∷ links_outside result.1 }
+        ensures outside { IfSome result.1 (λ outer. 0 < length outer.now) }
+    {
+        let first: &Link = &self.first;
+        (first, self.outer())
     }
 
     fn outer(&self) -> Option<&Chain>

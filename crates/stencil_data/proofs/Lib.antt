@@ -1,3 +1,4 @@
 pub mod ChainWalk
+pub mod ResolveFits
 pub mod ResolveRows
 pub mod SlotRows

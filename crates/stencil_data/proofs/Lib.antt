@@ -2,3 +2,4 @@ pub mod ChainWalk
 pub mod ResolveFits
 pub mod ResolveRows
 pub mod SlotRows
+pub mod StandsForRows

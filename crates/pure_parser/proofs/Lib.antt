@@ -49,3 +49,6 @@ pub mod CompleteLoops
 pub mod StmtFronts
 pub mod CompleteStmts
 pub mod CompleteSimple
+pub mod LocalExprs
+pub mod LocalArrows
+pub mod Nested

@@ -1,2 +1,4 @@
 pub mod Counts
 pub mod Steps
+pub mod Moves
+pub mod Working

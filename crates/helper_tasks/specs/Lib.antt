@@ -3,3 +3,5 @@ pub mod Count
 pub mod Rule
 pub mod Handles
 pub mod Jobs
+pub mod Hands
+pub mod Desks

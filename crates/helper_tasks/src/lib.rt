@@ -9,9 +9,12 @@
 
 mod deque;
 mod gate;
+mod handles;
+mod helper;
 mod injector;
 mod job;
 mod rule;
+mod workplace;
 
 pub use gate::{Gate, MeetGate, OpenGate};
 pub use job::Job;

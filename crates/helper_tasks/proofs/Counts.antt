@@ -1,5 +1,5 @@
 -- Sums and counts over lists.
-use Rattle.std.proofs.Common.{◌≡◌, ℕ, zero, suc, ◌+◌, ◌<◌, ◌≤◌, eqb, cond, List, [], ◌∷◌, ◌++◌, length, set, refl, ap, sym, subst, arith}
+use Rattle.std.proofs.Common.{◌≡◌, ℕ, zero, suc, ◌+◌, ◌<◌, ◌≤◌, eqb, cond, List, [], ◌∷◌, ◌++◌, length, get_or, set, refl, ap, sym, subst, arith}
 use mathlib.Core.Option.{some, some-injective, some-ne-none}
 use lib.ListN.{get_elem?}
 use Rattle.helper_tasks.specs.Count.{times, total, Each}
@@ -75,3 +75,8 @@ module _ {A : Type 0} where
   pub each-map : (P Q : A → Type 0) (xs : List A) → ((a : A) → P a → Q a) → Each P xs → Each Q xs
   each-map P Q [] to all = tt
   each-map P Q (x ∷ xs) to all = (to x all.0, each-map P Q xs to all.1)
+
+  pub each-index : (P : A → Type 0) (xs : List A) (i : ℕ) (d : A) → i < length xs → Each P xs → P (get_or xs i d)
+  each-index P [] i d lt all = absurd (omega arith)
+  each-index P (x ∷ xs) zero d lt all = all.0
+  each-index P (x ∷ xs) (suc i) d lt all = each-index P xs i d (omega arith) all.1

@@ -2,3 +2,4 @@ pub mod Counts
 pub mod Steps
 pub mod Moves
 pub mod Working
+pub mod Crewing

@@ -5,3 +5,4 @@ pub mod Handles
 pub mod Jobs
 pub mod Hands
 pub mod Desks
+pub mod Crew

@@ -7,13 +7,16 @@
 //! The crate stands on `crossbeam_deque` alone. Whoever has work that splits into numbered tasks stands on it.
 #![tactic(auto)]
 
+mod crew;
 mod deque;
 mod gate;
 mod handles;
 mod helper;
 mod injector;
 mod job;
+mod place;
 mod rule;
+mod settle;
 mod workplace;
 
 pub use gate::{Gate, MeetGate, OpenGate};

@@ -80,3 +80,7 @@ module _ {A : Type 0} where
   each-index P [] i d lt all = absurd (omega arith)
   each-index P (x ∷ xs) zero d lt all = all.0
   each-index P (x ∷ xs) (suc i) d lt all = each-index P xs i d (omega arith) all.1
+
+  pub no_items : (xs : List A) → length xs ≡ 0 → xs ≡ []
+  no_items [] e = refl
+  no_items (x ∷ xs) e = absurd (omega arith)

@@ -3,3 +3,5 @@ pub mod Steps
 pub mod Moves
 pub mod Working
 pub mod Crewing
+pub mod Placing
+pub mod Settling

@@ -1,5 +1,6 @@
 -- What the workers of one call have, before they start and after they ended. It is this project's own choice.
-use Rattle.std.specs.Prelude.{◌≡◌, ℕ, zero, suc, ◌+◌, ◌-◌, ◌<◌, ◌≤◌, List, [], ◌∷◌, ◌++◌, length, map, drop, take, replicate, slice_set, Option, Some, None}
+use Rattle.std.specs.Prelude.{◌≡◌, ℕ, zero, suc, ◌+◌, ◌-◌, ◌<◌, ◌≤◌, List, [], ◌∷◌, ◌++◌, length, map, drop, take, replicate, slice_set, Option, Some, None, Result, IfOk}
+use Rattle.std.specs.declared.alloc.AllocError.{AllocError}
 use Rattle.helper_tasks.specs.declared.rule.Dealt.{Dealt}
 use Rattle.helper_tasks.specs.declared.helper.Made.{Made}
 use Rattle.helper_tasks.specs.declared.helper.Desk.{Desk}
@@ -95,6 +96,17 @@ module _ {O : Type 0} where
   -- so many empty slots
   abbrev pub empty_slots : ℕ → List (Option O)
   empty_slots n = replicate n None
+
+module _ {S O N : Type 0} (fits : S → Type 0) (gives : ℕ → O → Type 0) (queue : Place) (order : List ℕ) where
+  -- a worker that can begin
+  pub record StartsIn (h : Helper S O N) : Type 0 where
+    pub ready : Ready fits gives queue h
+    pub rest_in : h.rest ≤ length order
+
+module _ {S O N : Type 0} (fits : S → Type 0) (gives : ℕ → O → Type 0) (ran : S → List ℕ) (queue : Place) (order : List ℕ) where
+  -- what a worker did from its start to its end, where no task was refused
+  abbrev pub Served : Helper S O N → Result (Helper S O N) AllocError → Type 0
+  Served h r = IfOk r (λ (k : Helper S O N). Works fits gives ran queue h k (drop h.rest order) [])
 
 -- tasks left a deque or the injector, and were run at the desk
 module _ {S O : Type 0} (fits : S → Type 0) (gives : ℕ → O → Type 0) (ran : S → List ℕ) where

@@ -16,6 +16,7 @@ mod injector;
 mod job;
 mod place;
 mod rule;
+mod run;
 mod settle;
 mod workplace;
 

@@ -1,5 +1,5 @@
 // The call that runs a job's tasks.
-ghost use Rattle.std.specs.Prelude.{◌≡◌, ℕ, ◌+◌, ◌<◌, ◌≤◌, ◌^◌, List, All, IfOk, Ok, drop, length, map};
+ghost use Rattle.std.specs.Prelude.{◌≡◌, ℕ, ◌+◌, ◌<◌, ◌≤◌, ◌^◌, List, All, IfOk, Ok, drop, length, map, slice_index_or};
 ghost use Rattle.helper_tasks.specs.Count.{EachOnceBelow, Each};
 ghost use Rattle.helper_tasks.specs.Jobs.{GainedOnce, GivesEach, IsOrderOf};
 ghost use Rattle.helper_tasks.specs.Desks.{Ready, Works};
@@ -30,7 +30,8 @@ fn serve_all<J: Job, G: Gate, N: Numbering + Send + Sync, R: Threads + Wait + Sy
     requires numbered { N.bound ≡ J.tasks place.now.job.now }
     requires tasks { Each (λ (x : ℕ). x < N.bound) order.now }
     requires helpers { All (StartsIn (J.fits place.now.job.now) (J.gives place.now.job.now) place.now.queue.now order.now) helpers.items }
-    ensures { IfOk result (λ v. Paired (Served (J.fits place.now.job.now) (J.gives place.now.job.now) J.ran place.now.queue.now order.now) helpers.items v.items) }
+    ensures len { IfOk result (λ v. length v.items ≡ length helpers.items) }
+    ensures each { IfOk result (λ v. (i : ℕ) (h : _) (r : _) → i < length helpers.items → Served (J.fits place.now.job.now) (J.gives place.now.job.now) J.ran place.now.queue.now order.now (slice_index_or helpers.items i h) (slice_index_or v.items i r)) }
 {
     thread::map_vec(
         rt,

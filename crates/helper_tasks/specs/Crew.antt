@@ -126,6 +126,16 @@ module _ {S O N : Type 0} (fits : S → Type 0) (gives : ℕ → O → Type 0) (
     pub fetches : (h.handles.fetcher.dealt.parts ≡ 1) × (h.handles.fetcher.dealt.pushed ≡ [])
     pub desk_in_order : InOrder fits gives h.desk
 
+module _ {S O N : Type 0} (at : List Place) (queue : Place) (workers : ℕ) (order : List ℕ) where
+  -- a worker that has a look at each of these deques, and has not begun
+  pub record Fresh (h : Helper S O N) : Type 0 where
+    pub number_in : h.handles.number < workers
+    pub own_left : h.handles.own.dealt ≡ dealt (64 - workers) [] []
+    pub new_looks : h.handles.looks.items ≡ map new_look at
+    pub new_fetcher : h.handles.fetcher ≡ reach_at queue (dealt 1 [] [])
+    pub nothing_made : h.desk.made.items ≡ []
+    pub rest_at : h.rest ≤ length order
+
 module _ {S O N : Type 0} (queue : Place) (workers : ℕ) (order : List ℕ) where
   -- a worker that was just hired
   pub record Hired (h : Helper S O N) : Type 0 where

@@ -3,7 +3,7 @@ ghost use Rattle.std.specs.Prelude.{◌≡◌, ℕ, ◌+◌, ◌-◌, ◌<◌, �
 ghost use Rattle.helper_tasks.specs.Count.{times, total, Each};
 ghost use Rattle.helper_tasks.specs.Rule.{dealt};
 ghost use Rattle.helper_tasks.specs.Handles.{reach_at};
-ghost use Rattle.helper_tasks.specs.Crew.{Hired, aspect, deque_of, new_look, gave_part, alone};
+ghost use Rattle.helper_tasks.specs.Crew.{Fresh, Hired, aspect, deque_of, new_look, gave_part, alone};
 
 use crate::deque::Look;
 use crate::helper::Helper;
@@ -12,8 +12,8 @@ use crate::rule::Numbering;
 use std::alloc::{AllocError, Global};
 use std::sync::Wait;
 
-/// Pushes the tasks in this order, up to the first that the queue refuses, and answers how many it pushed.
-pub fn push_all<N: Numbering>(
+// Pushes the tasks in this order, up to the first that the queue refuses, and answers how many it pushed.
+fn push_all<N: Numbering>(
     rt: &impl Wait,
     queue: &Queue<N>,
     all: &mut Fetcher,
@@ -32,8 +32,8 @@ pub fn push_all<N: Numbering>(
     order.len()
 }
 
-/// A worker for each share. The tasks of the order from `pushed` on are the first worker's alone.
-pub fn hire<S: Drop, O: Drop, N: Numbering>(
+// A worker for each share. The tasks of the order from `pushed` on are the first worker's alone.
+fn hire<S: Drop, O: Drop, N: Numbering>(
     alloc: Global,
     shares: Vec<S>,
     queue: &Queue<N>,
@@ -77,8 +77,8 @@ fn look_at_all<S, O, N: Numbering>(
     Ok(looks)
 }
 
-/// Gives each worker a look at each deque.
-pub fn give_looks<S: Drop, O: Drop, N: Numbering>(
+// Gives each worker a look at each deque.
+fn give_looks<S: Drop, O: Drop, N: Numbering>(
     alloc: Global,
     helpers: &mut [Helper<S, O, N>],
 ) -> Result<(), AllocError>
@@ -93,4 +93,27 @@ pub fn give_looks<S: Drop, O: Drop, N: Numbering>(
         helpers[at].handles.looks = looks;
     }
     Ok(())
+}
+
+/// Pushes the tasks, and makes the workers of a call: one for each share, with a look at each deque.
+pub fn staff<S: Drop, O: Drop, N: Numbering>(
+    rt: &impl Wait,
+    alloc: Global,
+    order: &[u32],
+    shares: Vec<S>,
+    queue: &Queue<N>,
+    all: &mut Fetcher,
+) -> Result<Vec<Helper<S, O, N>>, AllocError>
+    requires tasks { Each (λ (x : ℕ). x < N.bound) order.now }
+    requires shares { (0 < length shares.items) × (length shares.items ≤ 16) }
+    requires all { all.old ≡ reach_at queue.now (dealt 64 [] []) }
+    ensures all { IfOk result (λ v. all.new ≡ reach_at queue.now (dealt (64 - length v.items) all.new.dealt.pushed [])) }
+    ensures tasks { IfOk result (λ v. (x : ℕ) → times x all.new.dealt.pushed + total (alone order.now x) v.items ≡ times x order.now) }
+    ensures shares { IfOk result (λ v. map (λ h. h.desk.share) v.items ≡ shares.items) }
+    ensures fresh { IfOk result (λ v. Each (Fresh (map deque_of v.items) queue.now (length v.items) order.now) v.items) }
+{
+    let pushed = push_all(rt, queue, all, order);
+    let mut helpers = hire(alloc, shares, queue, all, order, pushed)?;
+    give_looks(alloc, &mut helpers)?;
+    Ok(helpers)
 }

@@ -22,3 +22,4 @@ mod workplace;
 
 pub use gate::{Gate, MeetGate, OpenGate};
 pub use job::Job;
+pub use run::run_tasks;

@@ -1,9 +1,10 @@
 // What is done once all workers have ended: their looks go back, and what may be left in a deque or the injector is run.
 ghost use Rattle.std.specs.Prelude.{◌≡◌, ℕ, ◌+◌, ◌-◌, ◌<◌, ◌≤◌, List, [], ◌++◌, IfOk, length, map};
 ghost use Rattle.helper_tasks.specs.Count.{times, total, Each};
-ghost use Rattle.helper_tasks.specs.Rule.{TookAll};
+ghost use Rattle.helper_tasks.specs.Rule.{dealt, TookAll};
+ghost use Rattle.helper_tasks.specs.Handles.{reach_at};
 ghost use Rattle.helper_tasks.specs.Hands.{places};
-ghost use Rattle.helper_tasks.specs.Desks.{InOrder, Lists};
+ghost use Rattle.helper_tasks.specs.Desks.{InOrder, Lists, Ready};
 ghost use Rattle.helper_tasks.specs.Crew.{Looking, Dismissible, Drained, Paired, deque_of, desk_of, fetcher_of, came_to, left_by, fetched, popped, ran_at, all_took_in};
 
 use crate::deque::{Look, Own};
@@ -34,8 +35,8 @@ fn bring_back<S: Drop, O: Drop, N: Numbering>(
     }
 }
 
-/// Gives all looks back, so that each worker has all parts of its deque again.
-pub fn return_looks<S: Drop, O: Drop, N: Numbering>(alloc: Global, helpers: &mut [Helper<S, O, N>])
+// Gives all looks back, so that each worker has all parts of its deque again.
+fn return_looks<S: Drop, O: Drop, N: Numbering>(alloc: Global, helpers: &mut [Helper<S, O, N>])
     requires count { length helpers.old ≤ 16 }
     requires looking { Each (Looking (map deque_of helpers.old) (64 - length helpers.old)) helpers.old }
     ensures parts { Each (λ h. h.handles.own.dealt.parts ≡ 64) helpers.new }
@@ -74,8 +75,8 @@ impl<'a, J: Job, G: Gate, N: Numbering> Workplace<'a, J, G, N> {
         unreachable!()
     }
 
-    /// Runs what is left in the injector.
-    pub fn drain_queue(
+    // Runs what is left in the injector.
+    fn drain_queue(
         &self,
         rt: &impl Wait,
         all: &mut Fetcher,
@@ -97,8 +98,8 @@ impl<'a, J: Job, G: Gate, N: Numbering> Workplace<'a, J, G, N> {
         unreachable!()
     }
 
-    /// Empties each worker's deque, and takes its part of the injector back.
-    pub fn dismiss(
+    // Empties each worker's deque, and takes its part of the injector back.
+    fn dismiss(
         &self,
         rt: &impl Wait,
         helpers: Vec<Helper<J::Share, J::Out, N>>,
@@ -126,6 +127,28 @@ impl<'a, J: Job, G: Gate, N: Numbering> Workplace<'a, J, G, N> {
             self.queue.absorb(all, fetcher);
             desks.push(desk)?;
         }
+        Ok(desks)
+    }
+
+    /// What the workers' desks have, once all looks came back and nothing is left in a deque or the injector.
+    pub fn settle(
+        &self,
+        rt: &impl Wait,
+        mut helpers: Vec<Helper<J::Share, J::Out, N>>,
+        mut all: Fetcher,
+    ) -> Result<Vec<Desk<J::Share, J::Out>>, AllocError>
+        requires numbered { N.bound ≡ J.tasks self.now.job.now }
+        requires count { (0 < length helpers.items) × (length helpers.items ≤ 16) }
+        requires all { all ≡ reach_at self.now.queue.now (dealt (64 - length helpers.items) all.dealt.pushed []) }
+        requires looking { Each (Looking (map deque_of helpers.items) (64 - length helpers.items)) helpers.items }
+        requires ready { Each (Ready (J.fits self.now.job.now) (J.gives self.now.job.now) self.now.queue.now) helpers.items }
+        ensures desks { IfOk result (λ v. Each (InOrder (J.fits self.now.job.now) (J.gives self.now.job.now)) v.items) }
+        ensures lists { IfOk result (λ v. (starts : List (List ℕ)) → Paired (Lists J.ran) starts (map desk_of helpers.items) → Paired (Lists J.ran) starts v.items) }
+        ensures ran { IfOk result (λ v. (x : ℕ) → total (ran_at x) v.items + total (came_to x) helpers.items ≡ total (left_by x) helpers.items + times x all.dealt.pushed) }
+    {
+        return_looks(self.alloc, &mut helpers);
+        let mut desks = self.dismiss(rt, helpers, &mut all)?;
+        self.drain_queue(rt, &mut all, &mut desks[0])?;
         Ok(desks)
     }
 }

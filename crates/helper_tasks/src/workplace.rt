@@ -22,6 +22,17 @@ pub struct Workplace<'a, J: Job, G: Gate, N: Numbering> {
     pub queue: &'a Queue<N>,
 }
 
+impl<'a, J: Job, G: Gate, N: Numbering> Drop for Workplace<'a, J, G, N> {
+    fn drop(self) {
+        let Self {
+            alloc: _,
+            job: _,
+            gate: _,
+            queue: _,
+        } = self;
+    }
+}
+
 impl<'a, J: Job, G: Gate, N: Numbering> Workplace<'a, J, G, N> {
     /// Runs a task with the desk's share, and keeps what it gave.
     pub fn run(&self, desk: &mut Desk<J::Share, J::Out>, task: u32) -> Result<(), AllocError>

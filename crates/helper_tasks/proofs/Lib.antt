@@ -5,3 +5,4 @@ pub mod Working
 pub mod Crewing
 pub mod Placing
 pub mod Settling
+pub mod Finishing

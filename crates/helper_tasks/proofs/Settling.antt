@@ -18,13 +18,13 @@ use Rattle.helper_tasks.proofs.Counts.{times-append, total-append, total-set, to
 use Rattle.helper_tasks.proofs.Crewing.{each-mapped, each-unmapped, map_after}
 
 module _ {A : Type 0} where
-  total-put : (f : A → ℕ) (xs : List A) (i : ℕ) (w d : A) → i < length xs → total f (set xs i w) + f (get_or xs i d) ≡ total f xs + f w
+  pub total-put : (f : A → ℕ) (xs : List A) (i : ℕ) (w d : A) → i < length xs → total f (set xs i w) + f (get_or xs i d) ≡ total f xs + f w
   total-put f [] i w d lt = absurd (omega arith)
   total-put f (x ∷ xs) zero w d lt = omega arith
   total-put f (x ∷ xs) (suc i) w d lt = let r = total-put f xs i w d (omega arith) in omega arith
 
   -- a fact on what a map keeps
-  along : {B : Type 0} (f : A → B) (Q : B → Type 0) (xs ys : List A) → map f xs ≡ map f ys → Each (λ a. Q (f a)) ys → Each (λ a. Q (f a)) xs
+  pub along : {B : Type 0} (f : A → B) (Q : B → Type 0) (xs ys : List A) → map f xs ≡ map f ys → Each (λ a. Q (f a)) ys → Each (λ a. Q (f a)) xs
   along f Q xs ys e all = each-unmapped f Q xs (subst (Each Q) (sym e) (each-mapped f Q ys all))
 
   drop_here : (P : A → Type 0) (xs : List A) (i : ℕ) (d : A) → i < length xs → Each P (drop i xs) → P (get_or xs i d)

@@ -109,6 +109,7 @@ impl<'a, J: Job, G: Gate, N: Numbering> Workplace<'a, J, G, N> {
         requires queue { all.old.injector ≡ self.now.queue.now }
         requires part { 0 < all.old.dealt.parts }
         requires helpers { Each (Dismissible (J.fits self.now.job.now) (J.gives self.now.job.now) self.now.queue.now) helpers.items }
+        ensures count { IfOk result (λ v. length v.items ≡ length helpers.items) }
         ensures all { IfOk result (λ _. (all.new.injector ≡ self.now.queue.now) × (all.new.dealt.parts ≡ all.old.dealt.parts + length helpers.items) × (all.new.dealt.pushed ≡ all.old.dealt.pushed)) }
         ensures fetched { IfOk result (λ _. (x : ℕ) → times x all.new.dealt.taken ≡ times x all.old.dealt.taken + total (fetched x) helpers.items) }
         ensures desks { IfOk result (λ v. Each (InOrder (J.fits self.now.job.now) (J.gives self.now.job.now)) v.items) }

@@ -1,4 +1,4 @@
-use Rattle.std.proofs.Common.{◌≡◌, ℕ, ◌+◌, ◌++◌, List, [], length, map, rules, refl, ap, sym, ◌∙◌, subst, arith}
+use Rattle.std.proofs.Common.{◌≡◌, ℕ, ◌+◌, ◌++◌, List, [], length, map, rules, refl, ap, sym, ◌∙◌, subst, arith, length-append, ◌∷◌}
 use Rattle.std.proofs.lemmas.List.{append-nil}
 use Rattle.helper_tasks.specs.Count.{times, total}
 use Rattle.helper_tasks.specs.Desks.{Lists}
@@ -28,6 +28,7 @@ loop-helper-preserved g c =
       (λ starts p. dismiss_paired _ _ _ c.args.self.now.queue.now starts _ _ h _ _ _ _ _ step more drained (inv.8 starts p)),
       (λ x. dismiss_ran _ _ _ _ x _ _ h _ _ _ _ _ step more fit.0 drained empty (inv.9 x)),
       dismiss_some (g.J.Job.fits c.args.self.now.job.now) (g.J.Job.gives c.args.self.now.job.now) g.J.Job.ran _ c.loop-helper.all c.absorb.new.fetcher h joined inv.10,
+      (let n = inv.11 in let a = ap length step in let b = ap length more in let m = length-append c.loop-helper.desks.items (c.drain.new.desk ∷ []) in omega arith),
     )
 
 pub returns-clause-fetched : goal.returns-clause-fetched

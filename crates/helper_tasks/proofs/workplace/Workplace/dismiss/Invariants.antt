@@ -18,3 +18,4 @@ invariant-loop-helper g l =
     × ((x : ℕ) → total (ran_at x) l.desks.items + total (popped x) l.fn.helpers.items + total (left_by x) l.helper-iterator.rest.items
         ≡ total (left_by x) l.fn.helpers.items + total (popped x) l.helper-iterator.rest.items)
     × (0 < l.all.dealt.parts)
+    × (length l.desks.items + length l.helper-iterator.rest.items ≡ length l.fn.helpers.items)

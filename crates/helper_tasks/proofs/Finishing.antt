@@ -1,6 +1,8 @@
 -- From the workers' start to the answer of the call.
-use Rattle.std.proofs.Common.{◌≡◌, ℕ, zero, suc, ◌+◌, ◌-◌, ◌<◌, ◌≤◌, Bool, true, false, eqb, ltb, cond, List, [], ◌∷◌, ◌++◌, length, map, take, drop, get_or, set, All, Result, Ok, IfOk, refl, ap, sym, ◌∙◌, subst, arith}
+use Rattle.std.proofs.Common.{◌≡◌, ℕ, zero, suc, ◌+◌, ◌-◌, ◌<◌, ◌≤◌, Bool, true, false, eqb, ltb, cond, List, [], ◌∷◌, ◌++◌, length, map, take, drop, get_or, set, All, Option, Some, Result, Ok, Err, IfOk, refl, ap, sym, ◌∙◌, subst, arith}
 use Rattle.std.specs.declared.alloc.AllocError.{AllocError}
+use Rattle.std.specs.declared.vec.Vec.{Vec}
+use Rattle.std.specs.declared.alloc.Global.{Global}
 use Rattle.std.proofs.Math.Seq.{take-append_seam}
 use Rattle.std.proofs.lemmas.List.{take-append-drop, map-append, append-nil, length-map}
 use Rattle.std.proofs.lemmas.Bool.Decides.{nat_tests}
@@ -9,14 +11,15 @@ use Rattle.helper_tasks.specs.declared.helper.Made.{Made}
 use Rattle.helper_tasks.specs.declared.helper.Desk.{Desk}
 use Rattle.helper_tasks.specs.declared.helper.Helper.{Helper}
 use Rattle.helper_tasks.specs.Count.{times, total, once_below, Each, EachOnceBelow}
-use Rattle.helper_tasks.specs.Jobs.{Gain, GainedOnce}
+use Rattle.helper_tasks.specs.Jobs.{Gain, GainedOnce, GivesEach}
 use Rattle.helper_tasks.specs.Rule.{dealt, TookAll}
 use Rattle.helper_tasks.specs.Handles.{End, Place, Reach, end_at, reach_at}
 use Rattle.helper_tasks.specs.Hands.{IsLook, stole, places, Equipped, came, went}
 use Rattle.helper_tasks.specs.Desks.{tasks_of, InOrder, Lists, Ready, Works}
-use Rattle.helper_tasks.specs.Crew.{Fresh, Hired, Looking, Dismissible, Drained, Paired, Served, StartsIn, aspect, alone, new_look, deque_of, desk_of, fetcher_of, came_to, left_by, fetched, popped, ran_at, all_made}
+use Rattle.helper_tasks.specs.Crew.{Fresh, Hired, Looking, Dismissible, Drained, Paired, Served, StartsIn, aspect, alone, new_look, deque_of, desk_of, fetcher_of, came_to, left_by, fetched, popped, ran_at, all_made, placed, empty_slots}
 use Rattle.helper_tasks.proofs.Counts.{times-append, each-append, each-index, each-map}
 use Rattle.helper_tasks.proofs.Crewing.{map_after, each-mapped, each-unmapped}
+use Rattle.helper_tasks.proofs.Placing.{outs_length, outs_given}
 use Rattle.helper_tasks.proofs.Settling.{along, total-put}
 
 module _ {A : Type 0} where
@@ -296,3 +299,49 @@ paired_length R [] [] p = refl
 paired_length R [] (b ∷ bs) p = elim p [ ]
 paired_length R (a ∷ as') [] p = elim p [ ]
 paired_length R (a ∷ as') (b ∷ bs) p = ap suc (paired_length R as' bs p.1)
+
+module _ {S O N : Type 0} (fits : S → Type 0) (gives : ℕ → O → Type 0) (ran : S → List ℕ) (queue : Place) (order : List ℕ) where
+  -- the workers ran each task once
+  pub run_once : (hs ks : List (Helper S O N)) (ds : List (Desk S O)) (pushed : List ℕ) (tasks : ℕ) → Each (Fresh (map deque_of hs) queue (length hs) order) hs → Paired (Done fits gives ran queue order) hs ks
+      → ((x : ℕ) → times x pushed + total (alone order x) hs ≡ times x order) → ((x : ℕ) → total (ran_at x) ds + total (came_to x) ks ≡ total (left_by x) ks + times x pushed)
+      → length order ≡ tasks → EachOnceBelow tasks order → EachOnceBelow (length order) (tasks_of (all_made ds))
+  run_once hs ks ds pushed tasks fresh done split all size once x =
+    let a = made_total x ds in
+    let b = split x in
+    let c = all x in
+    let d = done_left fits gives ran queue order x (map deque_of hs) (length hs) hs ks fresh done in
+    let e = once x in
+    let f = ap (once_below x) size in
+    omega arith
+
+  pub run_looking : (hs ks : List (Helper S O N)) → Each (Fresh (map deque_of hs) queue (length hs) order) hs → Paired (Done fits gives ran queue order) hs ks → Each (Looking (map deque_of ks) (64 - length ks)) ks
+  run_looking hs ks fresh done =
+    let at = done_places fits gives ran queue order hs ks done in
+    let n = done_length fits gives ran queue order hs ks done in
+    subst (λ (p : List Place × ℕ). Each (Looking p.0 (64 - p.1)) ks) (λ j. (sym at j, sym n j)) (done_looking fits gives ran queue order (map deque_of hs) (length hs) hs ks fresh done)
+
+  pub run_lists : (hs ks : List (Helper S O N)) (ds : List (Desk S O)) (shares : List S) → Each (Fresh (map deque_of hs) queue (length hs) order) hs → Paired (Done fits gives ran queue order) hs ks
+      → map (λ (h : Helper S O N). h.desk.share) hs ≡ shares → ((starts : List (List ℕ)) → Paired (Lists ran) starts (map desk_of ks) → Paired (Lists ran) starts ds) → Paired (Lists ran) (map ran shares) ds
+  run_lists hs ks ds shares fresh done e lists =
+    lists (map ran shares) (subst (λ (s : List (List ℕ)). Paired (Lists ran) s (map desk_of ks)) (sym (map_after ran (λ (h : Helper S O N). h.desk.share) hs) ∙ ap (map ran) e) (done_lists fits gives ran queue order (map deque_of hs) (length hs) hs ks fresh done))
+
+module _ {S O E : Type 0} where
+  pub answer_outs : (gives : ℕ → O → Type 0) (n m : ℕ) (ds : List (Desk S O)) (r : Result (Vec O Global × Vec S Global) E) → n ≡ m → Each (λ (k : Made O). gives k.task k.out) (all_made ds)
+      → IfOk r (λ r. map (λ (x : O). Some x) r.0.items ≡ placed (empty_slots n) (all_made ds)) → IfOk r (λ r. (length r.0.items ≡ m) × GivesEach gives r.0.items)
+  answer_outs gives n m ds (Err e) en given p = tt
+  answer_outs gives n m ds (Ok r) en given p = (outs_length n (all_made ds) r.0.items p ∙ en, outs_given gives n (all_made ds) r.0.items p given)
+
+  pub answer_count : (ran : S → List ℕ) (ds : List (Desk S O)) (shares : List S) (r : Result (Vec O Global × Vec S Global) E) → Paired (Lists ran) (map ran shares) ds
+      → IfOk r (λ r. r.1.items ≡ map (λ (d : Desk S O). d.share) ds) → IfOk r (λ r. length r.1.items ≡ length shares)
+  answer_count ran ds shares (Err e) q p = tt
+  answer_count ran ds shares (Ok r) q p = ap length p ∙ (length-map ds (λ (d : Desk S O). d.share) ∙ (paired_length (Lists ran) (map ran shares) ds q ∙ length-map shares ran))
+
+  pub answer_shares : (fits : S → Type 0) (gives : ℕ → O → Type 0) (ds : List (Desk S O)) (r : Result (Vec O Global × Vec S Global) E) → Each (InOrder fits gives) ds
+      → IfOk r (λ r. r.1.items ≡ map (λ (d : Desk S O). d.share) ds) → IfOk r (λ r. All fits r.1.items)
+  answer_shares fits gives ds (Err e) all p = tt
+  answer_shares fits gives ds (Ok r) all p = shares_fit fits gives ds r.1.items p all
+
+  pub answer_lists : (ran : S → List ℕ) (n m : ℕ) (ds : List (Desk S O)) (shares : List S) (r : Result (Vec O Global × Vec S Global) E) → n ≡ m → Paired (Lists ran) (map ran shares) ds → EachOnceBelow n (tasks_of (all_made ds))
+      → IfOk r (λ r. r.1.items ≡ map (λ (d : Desk S O). d.share) ds) → IfOk r (λ r. GainedOnce ran shares r.1.items m)
+  answer_lists ran n m ds shares (Err e) en q once p = tt
+  answer_lists ran n m ds shares (Ok r) en q once p = lists_gained ran n m shares r.1.items ds en p q once

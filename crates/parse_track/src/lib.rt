@@ -13,6 +13,8 @@ mod names;
 mod offsets;
 mod rules;
 mod clashing;
+mod jumps;
+mod errors;
 mod scopes;
 mod closed;
 mod closed_names;

@@ -64,7 +64,7 @@ clashes_same heads (leaf l t) f g e =
     ∙ ap (smaller (clash_all heads g (declared_by is_var l))) (clashes_same heads t f g e)
 clashes_same heads (inner k at i t) f g e =
     ap (λ (o : Option ℕ). smaller o (clashes heads f t))
-      (clashes_same heads i (opened heads k i f) (opened heads k i g) (opened_same (opens heads k) (directly is_lexical i) (base k f) (base k g) (base_same (stops_vars k) f g e)))
+    (clashes_same heads i (opened heads k i f) (opened heads k i g) (opened_same (opens heads k) (directly is_lexical i) (base k f) (base k g) (base_same (stops_vars k) f g e)))
     ∙ ap (smaller (clashes heads (opened heads k i g) i)) (clashes_same heads t f g e)
 
 -- an item, and then the others
@@ -81,26 +81,26 @@ pub clash_step : (heads : Bool) (parts : List Part) (inside : ℕ → Told ℕ) 
     → ((y : ℕ) → before y ≡ start y) × (smaller first (clashes heads start (told_items parts inside (map item_of (drop index items)))) ≡ all)
     → ((y : ℕ) → now y ≡ start y) × (smaller next (clashes heads start (told_items parts inside (map item_of (drop (index + 1) items)))) ≡ all)
 clash_step heads parts inside items index x start before now first here next all d e n h =
-    let rest : Told ℕ = told_items parts inside (map item_of (drop (index + 1) items)) in
-    ( (λ y. e.1 y ∙ h.0 y)
-    , ap (λ (o : Option ℕ). smaller o (clashes heads start rest)) n
-      ∙ (sym (smaller_assoc first here (clashes heads start rest))
-      ∙ (ap (λ (o : Option ℕ). smaller first (smaller o (clashes heads start rest))) (e.0 ∙ clashes_same heads (told_items parts inside (item_of x ∷ [])) before start h.0)
-      ∙ (ap (smaller first) (sym (clashes_cons heads start parts inside (item_of x) (map item_of (drop (index + 1) items)))
+    let rest : Told ℕ = told_items parts inside (map item_of (drop (index + 1) items)) in (
+      (λ y. e.1 y ∙ h.0 y),
+      ap (λ (o : Option ℕ). smaller o (clashes heads start rest)) n
+          ∙ (sym (smaller_assoc first here (clashes heads start rest))
+          ∙ (ap (λ (o : Option ℕ). smaller first (smaller o (clashes heads start rest))) (e.0 ∙ clashes_same heads (told_items parts inside (item_of x ∷ [])) before start h.0)
+          ∙ (ap (smaller first) (sym (clashes_cons heads start parts inside (item_of x) (map item_of (drop (index + 1) items)))
           ∙ ap (λ (ys : List row.Item). clashes heads start (told_items parts inside (map item_of ys))) (sym d))
-      ∙ h.1)))
+          ∙ h.1))),
     )
 
 pub clash_end : (heads : Bool) (parts : List Part) (room n : ℕ) (items left : List row.Item) (start now : Firsts) (first : Option ℕ) → left ≡ []
     → ((y : ℕ) → now y ≡ start y) × (smaller first (clashes heads start (told_items parts (told_region (room - 1) parts) (map item_of left))) ≡ clashes heads start (told_items parts (told_region (room - 1) parts) (map item_of items)))
     → map item_of items ≡ items_at room parts n → IsClash heads start now (told_region room parts n) first
-clash_end heads parts room n items left start now first e h f =
-    ( sym (smaller_none first)
+clash_end heads parts room n items left start now first e h f = (
+  sym (smaller_none first)
       ∙ (ap (λ (ys : List row.Item). smaller first (clashes heads start (told_items parts (told_region (room - 1) parts) (map item_of ys)))) (sym e)
       ∙ (h.1 ∙ (ap (λ (is : List Item). clashes heads start (told_items parts (told_region (room - 1) parts) is)) f
-      ∙ ap (clashes heads start) (sym (region_tells room parts n)))))
-    , h.0
-    )
+      ∙ ap (clashes heads start) (sym (region_tells room parts n))))),
+  h.0,
+)
 
 -- a region in which lexical names are opened
 pub opened_clash : (heads b : Bool) (t : Told ℕ) (xs : List (Name ℕ)) (f g : Firsts) (first : Option ℕ) → b ≡ true → ((y : ℕ) → g y ≡ open_all xs f y) → first ≡ clashes heads g t
@@ -133,5 +133,5 @@ outer_clash_step heads parts inside rows index x first here now all d e n h =
     ∙ (sym (smaller_assoc first here (clashes heads no_firsts (told_items parts inside rest)))
     ∙ (ap (λ (o : Option ℕ). smaller first (smaller o (clashes heads no_firsts (told_items parts inside rest)))) e
     ∙ (ap (smaller first) (sym (outer_cons heads no_firsts parts inside index x.around rest)
-        ∙ ap (λ (ys : List Row). clashes heads no_firsts (told_items parts inside (log.outermost index (map row_of ys)))) (sym d))
+    ∙ ap (λ (ys : List Row). clashes heads no_firsts (told_items parts inside (log.outermost index (map row_of ys)))) (sym d))
     ∙ h)))

@@ -47,10 +47,11 @@ jumps_cons around parts inside (log.Inner m) xs =
     ap (λ (ys : List ℕ). own ++ (ys ++ wrong_jumps nat_eq around (told_items parts inside xs))) (sym (append-nil below))
     ∙ sym (append_assoc own (below ++ []) (wrong_jumps nat_eq around (told_items parts inside xs)))
   where
-  own : List ℕ
-  own = wrong_label nat_eq around (kind_of (slice_get parts m))
-  below : List ℕ
-  below = wrong_jumps nat_eq (within (kind_of (slice_get parts m)) (inside m) around) (inside m)
+    own : List ℕ
+    own = wrong_label nat_eq around (kind_of (slice_get parts m))
+
+    below : List ℕ
+    below = wrong_jumps nat_eq (within (kind_of (slice_get parts m)) (inside m) around) (inside m)
 
 pub jump_step : (parts : List Part) (inside : ℕ → Told ℕ) (items : List row.Item) (index : ℕ) (x : row.Item) (start before now : Around ℕ) (first here next all : Option ℕ)
     → drop index items ≡ x ∷ drop (index + 1) items
@@ -58,36 +59,36 @@ pub jump_step : (parts : List Part) (inside : ℕ → Told ℕ) (items : List ro
     → (before ≡ start) × (smaller first (smallest (wrong_jumps nat_eq start (told_items parts inside (map item_of (drop index items))))) ≡ all)
     → (now ≡ start) × (smaller next (smallest (wrong_jumps nat_eq start (told_items parts inside (map item_of (drop (index + 1) items))))) ≡ all)
 jump_step parts inside items index x start before now first here next all d e n h =
-    let rest : Told ℕ = told_items parts inside (map item_of (drop (index + 1) items)) in
-    ( e.1 ∙ h.0
-    , ap (λ (o : Option ℕ). smaller o (smallest (wrong_jumps nat_eq start rest))) n
-      ∙ (sym (smaller_assoc first here (smallest (wrong_jumps nat_eq start rest)))
-      ∙ (ap (λ (o : Option ℕ). smaller first (smaller o (smallest (wrong_jumps nat_eq start rest)))) (e.0 ∙ ap (λ (a : Around ℕ). smallest (wrong_jumps nat_eq a (told_items parts inside (item_of x ∷ [])))) h.0)
-      ∙ (ap (smaller first) (sym (smallest-append (wrong_jumps nat_eq start (told_items parts inside (item_of x ∷ []))) (wrong_jumps nat_eq start rest))
+    let rest : Told ℕ = told_items parts inside (map item_of (drop (index + 1) items)) in (
+      e.1 ∙ h.0,
+      ap (λ (o : Option ℕ). smaller o (smallest (wrong_jumps nat_eq start rest))) n
+          ∙ (sym (smaller_assoc first here (smallest (wrong_jumps nat_eq start rest)))
+          ∙ (ap (λ (o : Option ℕ). smaller first (smaller o (smallest (wrong_jumps nat_eq start rest)))) (e.0 ∙ ap (λ (a : Around ℕ). smallest (wrong_jumps nat_eq a (told_items parts inside (item_of x ∷ [])))) h.0)
+          ∙ (ap (smaller first) (sym (smallest-append (wrong_jumps nat_eq start (told_items parts inside (item_of x ∷ []))) (wrong_jumps nat_eq start rest))
           ∙ (ap smallest (sym (jumps_cons start parts inside (item_of x) (map item_of (drop (index + 1) items))))
           ∙ ap (λ (ys : List row.Item). smallest (wrong_jumps nat_eq start (told_items parts inside (map item_of ys)))) (sym d)))
-      ∙ h.1)))
+          ∙ h.1))),
     )
 
 pub jump_end : (parts : List Part) (room n : ℕ) (items left : List row.Item) (start now : Around ℕ) (first : Option ℕ) → left ≡ []
     → (now ≡ start) × (smaller first (smallest (wrong_jumps nat_eq start (told_items parts (told_region (room - 1) parts) (map item_of left)))) ≡ smallest (wrong_jumps nat_eq start (told_items parts (told_region (room - 1) parts) (map item_of items))))
     → map item_of items ≡ items_at room parts n → AreWrongJumps start start now (told_region room parts n) first
-jump_end parts room n items left start now first e h f =
-    ( sym (smaller_none first)
+jump_end parts room n items left start now first e h f = (
+  sym (smaller_none first)
       ∙ (ap (λ (ys : List row.Item). smaller first (smallest (wrong_jumps nat_eq start (told_items parts (told_region (room - 1) parts) (map item_of ys))))) (sym e)
       ∙ (h.1 ∙ (ap (λ (is : List Item). smallest (wrong_jumps nat_eq start (told_items parts (told_region (room - 1) parts) is))) f
-      ∙ ap (λ (t : Told ℕ). smallest (wrong_jumps nat_eq start t)) (sym (region_tells room parts n)))))
-    , h.0
-    )
+      ∙ ap (λ (t : Told ℕ). smallest (wrong_jumps nat_eq start t)) (sym (region_tells room parts n))))),
+  h.0,
+)
 
 pub jump_inner : (k code : Region ℕ) (i : Told ℕ) (around now : Around ℕ) (own inside first : Option ℕ) → code ≡ k → own ≡ smallest (wrong_label nat_eq around code) → AreWrongJumps (within code i around) around now i inside → first ≡ smaller own inside
     → (first ≡ smallest (wrong_label nat_eq around k ++ (wrong_jumps nat_eq (within k i around) i ++ []))) × (now ≡ around)
-jump_inner k code i around now own inside first c e f n =
-    ( n ∙ (ap (λ (o : Option ℕ). smaller o inside) (e ∙ ap (λ (x : Region ℕ). smallest (wrong_label nat_eq around x)) c)
+jump_inner k code i around now own inside first c e f n = (
+  n ∙ (ap (λ (o : Option ℕ). smaller o inside) (e ∙ ap (λ (x : Region ℕ). smallest (wrong_label nat_eq around x)) c)
       ∙ (ap (smaller (smallest (wrong_label nat_eq around k))) (f.0 ∙ (ap (λ (x : Region ℕ). smallest (wrong_jumps nat_eq (within x i around) i)) c ∙ ap smallest (sym (append-nil (wrong_jumps nat_eq (within k i around) i)))))
-      ∙ sym (smallest-append (wrong_label nat_eq around k) (wrong_jumps nat_eq (within k i around) i ++ []))))
-    , f.1
-    )
+      ∙ sym (smallest-append (wrong_label nat_eq around k) (wrong_jumps nat_eq (within k i around) i ++ [])))),
+  f.1,
+)
 
 outer_cons : (around : Around ℕ) (parts : List Part) (inside : ℕ → Told ℕ) (n : ℕ) (outer : Option ℕ) (xs : List Item)
     → wrong_jumps nat_eq around (told_items parts inside (log.outermost_if n outer ++ xs)) ≡ wrong_jumps nat_eq around (told_items parts inside (log.outermost_if n outer)) ++ wrong_jumps nat_eq around (told_items parts inside xs)
@@ -105,6 +106,6 @@ outer_jump_step parts inside rows index x first here now all d e n h =
     ∙ (sym (smaller_assoc first here (smallest (wrong_jumps nat_eq nothing_around (told_items parts inside rest))))
     ∙ (ap (λ (o : Option ℕ). smaller first (smaller o (smallest (wrong_jumps nat_eq nothing_around (told_items parts inside rest))))) e
     ∙ (ap (smaller first) (sym (smallest-append (wrong_jumps nat_eq nothing_around (told_items parts inside (log.outermost_if index x.around))) (wrong_jumps nat_eq nothing_around (told_items parts inside rest)))
-        ∙ (ap smallest (sym (outer_cons nothing_around parts inside index x.around rest))
-        ∙ ap (λ (ys : List Row). smallest (wrong_jumps nat_eq nothing_around (told_items parts inside (log.outermost index (map row_of ys))))) (sym d)))
+    ∙ (ap smallest (sym (outer_cons nothing_around parts inside index x.around rest))
+    ∙ ap (λ (ys : List Row). smallest (wrong_jumps nat_eq nothing_around (told_items parts inside (log.outermost index (map row_of ys))))) (sym d)))
     ∙ h)))

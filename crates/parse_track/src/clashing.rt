@@ -35,7 +35,11 @@ fn clash(firsts: &BTreeMap<u32, u32>, heads: bool, name: Ident) -> Option<u32>
     match firsts.get(&name.atom) {
         None => None,
         Some(first) => {
-            if heads { Some(name.at) } else { Some(name.at.max(*first)) }
+            if heads {
+                Some(name.at)
+            } else {
+                Some(name.at.max(*first))
+            }
         }
     }
 }
@@ -70,7 +74,14 @@ fn open_names(firsts: &mut BTreeMap<u32, u32>, names: &[Ident]) -> Result<(), Al
 
 /// The first clash in what an item tells.
 #[cycle(clashing)]
-fn clash_in_item(alloc: Global, rows: &[Row], room: usize, heads: bool, item: Item, firsts: &mut BTreeMap<u32, u32>) -> Result<Option<u32>, AllocError>
+fn clash_in_item(
+    alloc: Global,
+    rows: &[Row],
+    room: usize,
+    heads: bool,
+    item: Item,
+    firsts: &mut BTreeMap<u32, u32>,
+) -> Result<Option<u32>, AllocError>
     ensures { IfOk result (IsClash heads (get nat_cmp firsts.old) (get nat_cmp firsts.new) (told_items (map row_of rows.now) (told_region room (map row_of rows.now)) (item_of item ∷ []))) }
 {
     match item {
@@ -92,7 +103,14 @@ fn clash_in_item(alloc: Global, rows: &[Row], room: usize, heads: bool, item: It
 
 /// The first clash inside a region out of which no var name hoists.
 #[cycle(clashing)]
-fn clash_in_function(alloc: Global, rows: &[Row], room: usize, heads: bool, kind: Region, region: u32) -> Result<Option<u32>, AllocError>
+fn clash_in_function(
+    alloc: Global,
+    rows: &[Row],
+    room: usize,
+    heads: bool,
+    kind: Region,
+    region: u32,
+) -> Result<Option<u32>, AllocError>
     ensures { IfOk result (λ first. first ≡ clashes heads (cond (opens heads (region_of kind)) (open_all (directly is_lexical (told_region room (map row_of rows.now) region)) no_firsts) no_firsts) (told_region room (map row_of rows.now) region)) }
 {
     let mut firsts = no_names(alloc);
@@ -108,7 +126,15 @@ fn clash_in_function(alloc: Global, rows: &[Row], room: usize, heads: bool, kind
 
 /// The first clash inside a region out of which var names hoist.
 #[cycle(clashing)]
-fn clash_in_open(alloc: Global, rows: &[Row], room: usize, heads: bool, kind: Region, region: u32, firsts: &mut BTreeMap<u32, u32>) -> Result<Option<u32>, AllocError>
+fn clash_in_open(
+    alloc: Global,
+    rows: &[Row],
+    room: usize,
+    heads: bool,
+    kind: Region,
+    region: u32,
+    firsts: &mut BTreeMap<u32, u32>,
+) -> Result<Option<u32>, AllocError>
     ensures { IfOk result (λ first. (first ≡ clashes heads (cond (opens heads (region_of kind)) (open_all (directly is_lexical (told_region room (map row_of rows.now) region)) (get nat_cmp firsts.old)) (get nat_cmp firsts.old)) (told_region room (map row_of rows.now) region)) × ((y : ℕ) → get nat_cmp firsts.new y ≡ get nat_cmp firsts.old y)) }
 {
     if !opens(heads, kind) {
@@ -125,7 +151,14 @@ fn clash_in_open(alloc: Global, rows: &[Row], room: usize, heads: bool, kind: Re
 
 /// The first clash in what a region tells.
 #[cycle(clashing)]
-fn clash_in(alloc: Global, rows: &[Row], room: usize, heads: bool, region: u32, firsts: &mut BTreeMap<u32, u32>) -> Result<Option<u32>, AllocError>
+fn clash_in(
+    alloc: Global,
+    rows: &[Row],
+    room: usize,
+    heads: bool,
+    region: u32,
+    firsts: &mut BTreeMap<u32, u32>,
+) -> Result<Option<u32>, AllocError>
     ensures { IfOk result (IsClash heads (get nat_cmp firsts.old) (get nat_cmp firsts.new) (told_region room (map row_of rows.now) region)) }
 {
     let mut first = None;
@@ -138,14 +171,27 @@ fn clash_in(alloc: Global, rows: &[Row], room: usize, heads: bool, region: u32, 
 }
 
 /// The first clash in an outermost region.
-fn clash_in_outermost(alloc: Global, rows: &[Row], heads: bool, region: u32, around: Option<u32>) -> Result<Option<u32>, AllocError>
+fn clash_in_outermost(
+    alloc: Global,
+    rows: &[Row],
+    heads: bool,
+    region: u32,
+    around: Option<u32>,
+) -> Result<Option<u32>, AllocError>
     ensures { IfOk result (λ first. first ≡ clashes heads no_firsts (told_items (map row_of rows.now) (told_region (length rows.now) (map row_of rows.now)) (outermost_if region around))) }
 {
     match around {
         Some(_) => Ok(None),
         None => {
             let mut firsts = no_names(alloc);
-            let first = clash_in_item(alloc, rows, rows.len(), heads, Item::Inner(region), &mut firsts)?;
+            let first = clash_in_item(
+                alloc,
+                rows,
+                rows.len(),
+                heads,
+                Item::Inner(region),
+                &mut firsts,
+            )?;
             Ok(first)
         }
     }

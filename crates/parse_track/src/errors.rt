@@ -21,7 +21,11 @@ pub fn sooner_early(x: Option<Early>, y: Option<Early>) -> Option<Early>
         (None, y) => y,
         (x, None) => x,
         (Some(a), Some(b)) => {
-            if b.offset < a.offset || (b.offset == a.offset && b.rule < a.rule) { y } else { x }
+            if b.offset < a.offset || (b.offset == a.offset && b.rule < a.rule) {
+                y
+            } else {
+                x
+            }
         }
     }
 }
@@ -37,7 +41,12 @@ fn error_of(rule: u8, offset: Option<u32>) -> Option<Early>
 }
 
 /// The first early error of a rule that looks at one region.
-fn error_of_rule(alloc: Global, known: &Known, rows: &[Row], rule: RegionRule) -> Result<Option<Early>, AllocError>
+fn error_of_rule(
+    alloc: Global,
+    known: &Known,
+    rows: &[Row],
+    rule: RegionRule,
+) -> Result<Option<Early>, AllocError>
     requires { length rows.now ≤ 2 ^ 32 - 2 }
     ensures { IfOk result (λ error. error ≡ rule_error rule (known_names known.now) (told_of (map row_of rows.now))) }
 {
@@ -58,11 +67,20 @@ fn error_of_clash(alloc: Global, rows: &[Row], heads: bool) -> Result<Option<Ear
     ensures { IfOk result (λ error. error ≡ clash_error heads (told_of (map row_of rows.now))) }
 {
     let first = first_clash(alloc, rows, heads)?;
-    if heads { Ok(error_of(3, first)) } else { Ok(error_of(2, first)) }
+    if heads {
+        Ok(error_of(3, first))
+    } else {
+        Ok(error_of(2, first))
+    }
 }
 
 /// The first early error of all rules, where the first of those that were noted is `noted`.
-pub fn first_error(alloc: Global, known: &Known, rows: &[Row], noted: Option<Early>) -> Result<Option<Early>, AllocError>
+pub fn first_error(
+    alloc: Global,
+    known: &Known,
+    rows: &[Row],
+    noted: Option<Early>,
+) -> Result<Option<Early>, AllocError>
     requires { length rows.now ≤ 2 ^ 32 - 2 }
     ensures { IfOk result (λ error. error ≡ first_error nat_eq (known_names known.now) noted (told_of (map row_of rows.now))) }
 {

@@ -73,7 +73,11 @@ fn wrong_label(targets: &Targets, kind: Region) -> Option<u32>
 {
     match kind {
         Region::Label(name) => {
-            if is_among(&targets.labels, name.atom) { Some(name.at) } else { None }
+            if is_among(&targets.labels, name.atom) {
+                Some(name.at)
+            } else {
+                None
+            }
         }
         Region::Script => None,
         Region::Function => None,
@@ -146,7 +150,13 @@ fn is_loop(rows: &[Row], room: usize, region: u32) -> bool
 
 /// The first wrong jump in what an item tells.
 #[cycle(jumping)]
-fn jumps_in_item(alloc: Global, rows: &[Row], room: usize, item: Item, targets: &mut Targets) -> Result<Option<u32>, AllocError>
+fn jumps_in_item(
+    alloc: Global,
+    rows: &[Row],
+    room: usize,
+    item: Item,
+    targets: &mut Targets,
+) -> Result<Option<u32>, AllocError>
     ensures { IfOk result (AreWrongJumps (around_of targets.old) (around_of targets.old) (around_of targets.new) (told_items (map row_of rows.now) (told_region room (map row_of rows.now)) (item_of item ∷ []))) }
 {
     match item {
@@ -165,7 +175,14 @@ fn jumps_in_item(alloc: Global, rows: &[Row], room: usize, item: Item, targets: 
 
 /// The first wrong jump inside a region of this kind.
 #[cycle(jumping)]
-fn jumps_inside(alloc: Global, rows: &[Row], room: usize, kind: Region, region: u32, targets: &mut Targets) -> Result<Option<u32>, AllocError>
+fn jumps_inside(
+    alloc: Global,
+    rows: &[Row],
+    room: usize,
+    kind: Region,
+    region: u32,
+    targets: &mut Targets,
+) -> Result<Option<u32>, AllocError>
     ensures { IfOk result (AreWrongJumps (within (region_of kind) (told_region room (map row_of rows.now) region) (around_of targets.old)) (around_of targets.old) (around_of targets.new) (told_region room (map row_of rows.now) region)) }
 {
     match kind {
@@ -185,7 +202,12 @@ fn jumps_inside(alloc: Global, rows: &[Row], room: usize, kind: Region, region: 
 
 /// The first wrong jump inside a function or a script, where nothing is around.
 #[cycle(jumping)]
-fn jumps_in_function(alloc: Global, rows: &[Row], room: usize, region: u32) -> Result<Option<u32>, AllocError>
+fn jumps_in_function(
+    alloc: Global,
+    rows: &[Row],
+    room: usize,
+    region: u32,
+) -> Result<Option<u32>, AllocError>
     ensures { IfOk result (λ first. first ≡ smallest (wrong_jumps nat_eq nothing_around (told_region room (map row_of rows.now) region))) }
 {
     let mut targets = Targets::new(alloc);
@@ -195,7 +217,13 @@ fn jumps_in_function(alloc: Global, rows: &[Row], room: usize, region: u32) -> R
 
 /// The first wrong jump inside a loop.
 #[cycle(jumping)]
-fn jumps_in_loop(alloc: Global, rows: &[Row], room: usize, region: u32, targets: &mut Targets) -> Result<Option<u32>, AllocError>
+fn jumps_in_loop(
+    alloc: Global,
+    rows: &[Row],
+    room: usize,
+    region: u32,
+    targets: &mut Targets,
+) -> Result<Option<u32>, AllocError>
     ensures { IfOk result (AreWrongJumps (record (around_of targets.old) { loop = true; leaves = true }) (around_of targets.old) (around_of targets.new) (told_region room (map row_of rows.now) region)) }
 {
     let in_loop = targets.in_loop;
@@ -210,7 +238,13 @@ fn jumps_in_loop(alloc: Global, rows: &[Row], room: usize, region: u32, targets:
 
 /// The first wrong jump inside a switch.
 #[cycle(jumping)]
-fn jumps_in_switch(alloc: Global, rows: &[Row], room: usize, region: u32, targets: &mut Targets) -> Result<Option<u32>, AllocError>
+fn jumps_in_switch(
+    alloc: Global,
+    rows: &[Row],
+    room: usize,
+    region: u32,
+    targets: &mut Targets,
+) -> Result<Option<u32>, AllocError>
     ensures { IfOk result (AreWrongJumps (record (around_of targets.old) { leaves = true }) (around_of targets.old) (around_of targets.new) (told_region room (map row_of rows.now) region)) }
 {
     let leaves = targets.leaves;
@@ -222,7 +256,14 @@ fn jumps_in_switch(alloc: Global, rows: &[Row], room: usize, region: u32, target
 
 /// The first wrong jump behind a label.
 #[cycle(jumping)]
-fn jumps_in_label(alloc: Global, rows: &[Row], room: usize, name: Ident, region: u32, targets: &mut Targets) -> Result<Option<u32>, AllocError>
+fn jumps_in_label(
+    alloc: Global,
+    rows: &[Row],
+    room: usize,
+    name: Ident,
+    region: u32,
+    targets: &mut Targets,
+) -> Result<Option<u32>, AllocError>
     ensures { IfOk result (AreWrongJumps (within (LabelRegion (name_of name)) (told_region room (map row_of rows.now) region) (around_of targets.old)) (around_of targets.old) (around_of targets.new) (told_region room (map row_of rows.now) region)) }
 {
     let labels = targets.labels.len();
@@ -236,7 +277,13 @@ fn jumps_in_label(alloc: Global, rows: &[Row], room: usize, name: Ident, region:
 
 /// The first wrong jump in what a region tells.
 #[cycle(jumping)]
-fn jumps_in(alloc: Global, rows: &[Row], room: usize, region: u32, targets: &mut Targets) -> Result<Option<u32>, AllocError>
+fn jumps_in(
+    alloc: Global,
+    rows: &[Row],
+    room: usize,
+    region: u32,
+    targets: &mut Targets,
+) -> Result<Option<u32>, AllocError>
     ensures { IfOk result (AreWrongJumps (around_of targets.old) (around_of targets.old) (around_of targets.new) (told_region room (map row_of rows.now) region)) }
 {
     let mut first = None;
@@ -249,7 +296,12 @@ fn jumps_in(alloc: Global, rows: &[Row], room: usize, region: u32, targets: &mut
 }
 
 /// The first wrong jump in an outermost region.
-fn jumps_in_outermost(alloc: Global, rows: &[Row], region: u32, around: Option<u32>) -> Result<Option<u32>, AllocError>
+fn jumps_in_outermost(
+    alloc: Global,
+    rows: &[Row],
+    region: u32,
+    around: Option<u32>,
+) -> Result<Option<u32>, AllocError>
     ensures { IfOk result (λ first. first ≡ smallest (wrong_jumps nat_eq nothing_around (told_items (map row_of rows.now) (told_region (length rows.now) (map row_of rows.now)) (outermost_if region around)))) }
 {
     match around {

@@ -47,9 +47,9 @@ impl Model for Track {
     ghost use Rattle.std.specs.Prelude.{map};
     ghost use Rattle.parse_track.specs.Log.{Log};
     ghost use Rattle.parse_track.specs.EarlyErrors.{first_error};
-ghost use Rattle.parse_track.specs.ClosedNames.{closed};
-ghost use Rattle.parse_track.specs.Scopes.{bounds_of};
-ghost use Rattle.parse_track.specs.Rows.{row_of, IsInOrder};
+    ghost use Rattle.parse_track.specs.ClosedNames.{closed};
+    ghost use Rattle.parse_track.specs.Scopes.{bounds_of};
+    ghost use Rattle.parse_track.specs.Rows.{row_of, IsInOrder};
 
     ghost Value = { Log };
 
@@ -183,7 +183,11 @@ fn next_number(rows: &[Row]) -> Result<u32, AllocError>
     ensures { IfOk result (λ n. (n ≡ length rows.now) × (n < 2 ^ 32 - 2)) }
 {
     let count = rows.len();
-    if count < u32::MAX as usize - 1 { Ok(count as u32) } else { Err(AllocError) }
+    if count < u32::MAX as usize - 1 {
+        Ok(count as u32)
+    } else {
+        Err(AllocError)
+    }
 }
 
 /// The region around this one.

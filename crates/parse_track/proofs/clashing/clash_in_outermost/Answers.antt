@@ -10,6 +10,6 @@ use Rattle.parse_track.proofs.clashing.clash_in_outermost.Goals as goal
 pub returns-in_ok-first-in-None : goal.returns-in_ok-first-in-None
 returns-in_ok-first-in-None c =
     rw c.in-None.is
-      (c.in_ok-first-in-None.ensures.0
-      ∙ clashes_same c.args.heads (told_items (map row_of c.args.rows.now) (told_region (length c.args.rows.now) (map row_of c.args.rows.now)) (Inner c.args.region ∷ []))
-          (get nat_cmp c.no_names-firsts.result) no_firsts c.no_names-firsts.ensures)
+    (c.in_ok-first-in-None.ensures.0
+    ∙ clashes_same c.args.heads (told_items (map row_of c.args.rows.now) (told_region (length c.args.rows.now) (map row_of c.args.rows.now)) (Inner c.args.region ∷ []))
+    (get nat_cmp c.no_names-firsts.result) no_firsts c.no_names-firsts.ensures)

@@ -10,8 +10,8 @@ use Rattle.parse_track.proofs.clashing.open_names.Goals as goal
 pub loop-name-preserved : goal.loop-name-preserved
 loop-name-preserved c =
     open_step c.args.names.now c.loop-name.name-index (record { atom = 0; at = 0 }) (get nat_cmp c.loop-name.firsts) (get nat_cmp c.insert.new.self) _ (omega arith)
-      (λ y. put_at (get_or c.args.names.now c.loop-name.name-index (record { atom = 0; at = 0 })).atom y c.first_with-first.result
-        (get_or c.args.names.now c.loop-name.name-index (record { atom = 0; at = 0 })).at (get nat_cmp c.loop-name.firsts) (get nat_cmp c.insert.new.self y)
-        (nat_eq (get_or c.args.names.now c.loop-name.name-index (record { atom = 0; at = 0 })).atom y) refl
-        (grind (arith, common_steps)) c.first_with-first.ensures)
-      c.loop-name.invariant
+    (λ y. put_at (get_or c.args.names.now c.loop-name.name-index (record { atom = 0; at = 0 })).atom y c.first_with-first.result
+    (get_or c.args.names.now c.loop-name.name-index (record { atom = 0; at = 0 })).at (get nat_cmp c.loop-name.firsts) (get nat_cmp c.insert.new.self y)
+    (nat_eq (get_or c.args.names.now c.loop-name.name-index (record { atom = 0; at = 0 })).atom y) refl
+    (grind (arith, common_steps)) c.first_with-first.ensures)
+    c.loop-name.invariant

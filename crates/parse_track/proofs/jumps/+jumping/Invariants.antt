@@ -30,4 +30,4 @@ abbrev pub invariant-jumps_in-loop-item : goal.invariant-jumps_in-loop-item
 invariant-jumps_in-loop-item l =
     (around_of l.targets ≡ around_of l.fn.targets)
     × (smaller l.first (smallest (wrong_jumps nat_eq (around_of l.fn.targets) (told_items (map row_of l.rows) (told_region (l.room - 1) (map row_of l.rows)) (map item_of (drop l.item-index l.items)))))
-      ≡ smallest (wrong_jumps nat_eq (around_of l.fn.targets) (told_items (map row_of l.rows) (told_region (l.room - 1) (map row_of l.rows)) (map item_of l.items))))
+    ≡ smallest (wrong_jumps nat_eq (around_of l.fn.targets) (told_items (map row_of l.rows) (told_region (l.room - 1) (map row_of l.rows)) (map item_of l.items))))

@@ -6,6 +6,7 @@ pub mod Complete
 pub mod CompleteBinds
 pub mod CompleteEach
 pub mod CompleteLoops
+pub mod CompleteParts
 pub mod CompleteSimple
 pub mod CompleteStmts
 pub mod CompleteSwitch
@@ -48,4 +49,3 @@ pub mod StmtFronts
 pub mod StmtNext
 pub mod Stops
 pub mod Tests
-pub mod CompleteParts

@@ -38,3 +38,4 @@ pub mod LocalArrows
 pub mod Nested
 pub mod NestedTrees
 pub mod LocalRace
+pub mod LocalHeads

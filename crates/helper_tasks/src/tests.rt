@@ -117,9 +117,18 @@ fn are_right<R: Threads + Wait + Sync>(
 #[test]
 fn squares_stand_in_their_places(rt: HostRuntime) -> Result<(), Fail> {
     for count in [0, 1, 7, 64, 10_000] {
-        assert!(rt; are_right(&rt, rt.alloc(), 1, count)?, "one worker, {count} tasks");
-        assert!(rt; are_right(&rt, rt.alloc(), 2, count)?, "two workers, {count} tasks");
-        assert!(rt; are_right(&rt, rt.alloc(), 16, count)?, "16 workers, {count} tasks");
+        assert!(rt;
+            are_right(&rt, rt.alloc(), 1, count)?,
+            "one worker, {count} tasks"
+        );
+        assert!(rt;
+            are_right(&rt, rt.alloc(), 2, count)?,
+            "two workers, {count} tasks"
+        );
+        assert!(rt;
+            are_right(&rt, rt.alloc(), 16, count)?,
+            "16 workers, {count} tasks"
+        );
     }
     Ok(())
 }

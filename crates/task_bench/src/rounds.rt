@@ -72,5 +72,6 @@ pub fn no_tasks_yet(alloc: Global, workers: usize) -> Result<Vec<Vec<u32>>, Allo
 
 /// The sum modulo 2^64.
 pub fn sum(outs: &[u64]) -> u64 {
-    outs.iter().fold(0, |total, out| u64::wrapping_add(total, *out))
+    outs.iter()
+        .fold(0, |total, out| u64::wrapping_add(total, *out))
 }

@@ -1,0 +1,3 @@
+pub mod Pigeons
+pub mod Steps
+pub mod Probes

@@ -1,0 +1,4 @@
+pub mod DeskView
+pub mod Rule
+pub mod Views
+pub mod Words

@@ -1,0 +1,4 @@
+pub mod AppendLemmas
+pub mod Bytes
+pub mod Decode
+pub mod ReadBack

@@ -1,0 +1,10 @@
+pub mod Appends
+pub mod Bytes
+pub mod Command
+pub mod Emits
+pub mod InRange
+pub mod Layout
+pub mod Machine
+pub mod Pieces
+pub mod Table
+pub mod Width

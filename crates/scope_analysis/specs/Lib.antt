@@ -1,0 +1,4 @@
+pub mod Declared
+pub mod Functions
+pub mod Scopes
+pub mod Uses

@@ -1,0 +1,15 @@
+pub mod Interpretation
+pub mod Lexeme
+pub mod Shows
+pub mod Tree
+pub mod TreeLists
+pub mod TreeOf
+pub mod Kinds
+pub mod Pieces
+pub mod Endings
+pub mod Print
+pub mod Proper
+pub mod Script
+pub mod Fault
+pub mod Matching
+pub mod BracketWalk

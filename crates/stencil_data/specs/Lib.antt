@@ -1,0 +1,11 @@
+pub mod ChainFalls
+pub mod Fits
+pub mod LinkView
+pub mod Links
+pub mod LinksOutside
+pub mod MergedView
+pub mod Named
+pub mod Resolve
+pub mod Slots
+pub mod StandsFor
+pub mod Views

@@ -1,6 +1,7 @@
 -- Lexemes before which any semicolon may be left unwritten.
 use Rattle.std.proofs.Common.{◌≡◌, List, [], ◌∷◌, ◌||◌, ◌&&◌, not, Bool, true, false, refl, sym, ap, ◌∙◌}
 use Rattle.script_grammar.specs.declared.token.Kind.{Kind}
+use Rattle.script_grammar.specs.declared.token.Kind.TheVariants as kind
 use Rattle.script_grammar.specs.declared.token.mark.TheConstants as mark
 use Rattle.script_grammar.specs.Lexeme.{Lexeme}
 use Rattle.script_grammar.specs.Kinds.{is_mark, is_end, is_binary, is_whole, is_head, is_assign_mark}
@@ -16,6 +17,11 @@ first_of (t ∷ ts) n = t
 -- whatever continues some statement continues one that ends with an operand
 pub record Friendly (t : Lexeme) : Type 0 where
   pub omits : may_omit Operand t ≡ true
+
+-- a number on a line of its own, which begins the ends that mend expressions
+pub record Starter (t : Lexeme) : Type 0 where
+  pub friendly : Friendly t
+  pub number : t.kind ≡ kind.Number
 
 pub end_friendly : Friendly end_lexeme
 end_friendly = record { omits = refl }

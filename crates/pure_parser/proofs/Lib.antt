@@ -1,8 +1,48 @@
+mod CornerRows
+mod DepthRows
+pub mod Agrees
+pub mod Begins
 pub mod Local
 pub mod Tests
 pub mod Friendly
+pub mod Fitting
 pub mod Sound
 pub mod SoundNext
+pub mod Stands
+pub mod Complete
+pub mod Fitting
+pub mod Friendly
+pub mod Fronts
+pub mod Local
+pub mod Lone
+pub mod Refuse
 pub mod Rows
-mod CornerRows
-mod DepthRows
+pub mod Sound
+pub mod SoundArrows
+pub mod SoundCalls
+pub mod SoundChains
+pub mod SoundFunctions
+pub mod SoundHeads
+pub mod SoundLevels
+pub mod SoundLists
+pub mod SoundLoops
+pub mod SoundNext
+pub mod SoundObjects
+pub mod SoundParts
+pub mod SoundScripts
+pub mod SoundStmtLists
+pub mod SoundStmts
+pub mod SoundSwitch
+pub mod Spanned
+pub mod Stands
+pub mod StmtFitting
+pub mod StmtNext
+pub mod Tests
+pub mod SoundEverything
+pub mod Begins
+pub mod StmtFitting
+pub mod SoundStmtLists
+pub mod StmtNext
+pub mod SoundStmts
+pub mod SoundLoops
+pub mod SoundSwitch

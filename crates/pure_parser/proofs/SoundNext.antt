@@ -6,6 +6,7 @@ use Rattle.script_grammar.specs.declared.token.Kind.{Kind}
 use Rattle.script_grammar.specs.declared.token.Kind.TheVariants as kind
 use Rattle.script_grammar.specs.Lexeme.{Lexeme}
 use Rattle.pure_parser.specs.Parser.{Recorded, Reply, Read, Bad, Deep, Parser, head_of, rest_of, put_before, noted, after, ret, bad, deep, bind, peek, step, when, no_room, Turn, Again, Stop, turned, turns, loop, Many, stopped, begun, end_lexeme}
+use Rattle.pure_parser.specs.Exprs.{peek_two}
 use Rattle.pure_parser.proofs.Friendly.{Friendly, Spot, AtFront, Inside, first_of, end_friendly}
 use Rattle.pure_parser.proofs.Sound.{Sound, Behind}
 use Rattle.pure_parser.proofs.Sound as plain
@@ -53,7 +54,7 @@ pub record SoundNext {A : Type 0} (p : Spot) (R : List Lexeme → A → Lexeme �
   pub at : (ts : List Lexeme) → Outcome p R ts (f ts)
 
 -- some lexemes that are read before any friendly one
-pub record Some {A : Type 0} (p : Spot) (R : List Lexeme → A → Lexeme → Type 0) : Type 0 where
+pub record Mended {A : Type 0} (p : Spot) (R : List Lexeme → A → Lexeme → Type 0) : Type 0 where
   pub end : List Lexeme
   pub of : A
   pub starts : Starts p [] end
@@ -117,7 +118,7 @@ starts_end AtFront [] e v h k = λ n f. subst Friendly (sym (first_append e v n)
 
 -- conversions
 
-outcome_next : {A : Type 0} (p : Spot) (E : List Lexeme → A → Type 0) (ts : List Lexeme) (r : Reply A) → plain.Outcome p E ts r → Outcome p (Plain E) ts r
+outcome_next : {A : Type 0} (p : Spot) (E : List Lexeme → A → Type 0) (ts : List Lexeme) (r : Reply A) → plain.Outcome p E E ts r → Outcome p (Plain E) ts r
 outcome_next p E ts (Read a rs us) o = record { front = o.front; split = o.split; is = λ n f. o.is }
 outcome_next p E ts (Bad rs us) o = record { front = o.front; split = o.split; end = o.end; of = o.of; starts = starts_next p o.front o.end o.starts; is = λ n f. o.is }
   where
@@ -125,14 +126,14 @@ outcome_next p E ts (Bad rs us) o = record { front = o.front; split = o.split; e
     starts_next Inside w e h = tt
     starts_next AtFront (t ∷ w) e h = tt
     starts_next AtFront [] [] h = absurd h
-    starts_next AtFront [] (t ∷ e) h = λ n f. h
+    starts_next AtFront [] (t ∷ e) h = λ n f. h.friendly
 outcome_next p E ts (Deep rs us) o = record { front = o.front; split = o.split; token = o.token; behind = o.behind; first = o.first; end = o.end; of = o.of; is = λ n f. o.is }
 
 -- what does not depend on the lexeme behind it, among what does
 pub next_of : {A : Type 0} {p : Spot} {E : List Lexeme → A → Type 0} {f : Parser A} → Sound p E f → SoundNext p (Plain E) f
 next_of {p = p} {E = E} {f = f} s = record { at = λ ts. outcome_next p E ts (f ts) (s.at ts) }
 
-outcome_plain : {A : Type 0} (E : List Lexeme → A → Type 0) (ts : List Lexeme) (r : Reply A) → Outcome Inside (Plain E) ts r → plain.Outcome Inside E ts r
+outcome_plain : {A : Type 0} (E : List Lexeme → A → Type 0) (ts : List Lexeme) (r : Reply A) → Outcome Inside (Plain E) ts r → plain.Outcome Inside E E ts r
 outcome_plain E ts (Read a rs us) o = record { front = o.front; split = o.split; some = tt; is = o.is (head_of us) (stands refl) }
 outcome_plain E ts (Bad rs us) o = record { front = o.front; split = o.split; end = o.end; of = o.of; starts = tt; is = o.is end_lexeme end_friendly }
 outcome_plain E ts (Deep rs us) o = record { front = o.front; split = o.split; token = o.token; behind = o.behind; first = o.first; end = o.end; of = o.of; is = o.is end_lexeme end_friendly }
@@ -280,10 +281,10 @@ module _ {A B : Type 0} (p : Spot) (E : List Lexeme → A → Type 0) (R : List 
   starts_past Inside w e v h = tt
   starts_past AtFront (t ∷ w) e v h = tt
   starts_past AtFront [] [] v h = absurd h
-  starts_past AtFront [] (t ∷ e) v h = λ n f. h
+  starts_past AtFront [] (t ∷ e) v h = λ n f. h.friendly
 
   module _ (f : A → Parser B) (g : (w : List Lexeme) (a : A) → E w a → SoundNext Inside (Past w R) (f a)) where
-    past_after : (ts : List Lexeme) (r : Reply A) → plain.Outcome p E ts r → Outcome p R ts (after r f)
+    past_after : (ts : List Lexeme) (r : Reply A) → plain.Outcome p E E ts r → Outcome p R ts (after r f)
     past_after ts (Read a rs us) o = outcome_noted p R ts rs (f a us) (past o.front ts us o.some o.split (f a us) ((g o.front a o.is).at us))
     past_after ts (Bad rs us) o =
         let s = tail_of (o.front ++ o.end) (f o.of []) ((g (o.front ++ o.end) o.of o.is).at []) in
@@ -295,21 +296,25 @@ module _ {A B : Type 0} (p : Spot) (E : List Lexeme → A → Type 0) (R : List 
 pub past_bind : {A B : Type 0} {p : Spot} {E : List Lexeme → A → Type 0} {R : List Lexeme → B → Lexeme → Type 0} {m : Parser A} {f : A → Parser B} → Sound p E m → ((w : List Lexeme) (a : A) → E w a → SoundNext Inside (Past w R) (f a)) → SoundNext p R (bind m f)
 past_bind {p = p} {E = E} {R = R} {m = m} {f = f} s g = record { at = λ ts. past_after p E R f g ts (m ts) (s.at ts) }
 
+-- a parser at lexemes that begin with this one
+pub record NextAt {A : Type 0} (p : Spot) (R : List Lexeme → A → Lexeme → Type 0) (t : Lexeme) (f : Parser A) : Type 0 where
+  pub first : (ts : List Lexeme) → Outcome p R (t ∷ ts) (f (t ∷ ts))
+
+-- the first part at lexemes that begin with this one
+pub past_at : {A B : Type 0} {p : Spot} {E : List Lexeme → A → Type 0} {R : List Lexeme → B → Lexeme → Type 0} {t : Lexeme} {m : Parser A} {f : A → Parser B} → plain.SoundAt p E t m → ((w : List Lexeme) (a : A) → E w a → SoundNext Inside (Past w R) (f a)) → NextAt p R t (bind m f)
+past_at {p = p} {E = E} {R = R} {t = t} {m = m} {f = f} s g = record { first = λ ts. past_after p E R f g (t ∷ ts) (m (t ∷ ts)) (s.first ts) }
+
 -- leaves
 
 pub next_ret : {A : Type 0} {p : Spot} {R : List Lexeme → A → Lexeme → Type 0} {a : A} → ((n : Lexeme) → R [] a n) → SoundNext p R (ret a)
 next_ret h = record { at = λ ts. record { front = []; split = refl; is = λ n f. h n } }
 
-pub next_bad : {A : Type 0} {p : Spot} {R : List Lexeme → A → Lexeme → Type 0} → Some p R → SoundNext p R (bad {A = A})
+pub next_bad : {A : Type 0} {p : Spot} {R : List Lexeme → A → Lexeme → Type 0} → Mended p R → SoundNext p R (bad {A = A})
 next_bad s = record { at = λ ts. record { front = []; split = refl; end = s.end; of = s.of; starts = s.starts; is = s.is } }
 
 -- what is read is made into another value
 pub next_made : {A B : Type 0} {p : Spot} {Q : List Lexeme → A → Lexeme → Type 0} {R : List Lexeme → B → Lexeme → Type 0} {m : Parser A} (g : A → B) → SoundNext p Q m → ((w : List Lexeme) (a : A) (n : Lexeme) → Q w a n → R w (g a) n) → SoundNext p R (bind m (λ a. ret (g a)))
 next_made {R = R} g s h = next_bind s (λ w a. next_ret (λ n q. subst (λ x. R x (g a) n) (sym (append-nil w)) (h w a n q)))
-
--- a parser at lexemes that begin with this one
-pub record NextAt {A : Type 0} (p : Spot) (R : List Lexeme → A → Lexeme → Type 0) (t : Lexeme) (f : Parser A) : Type 0 where
-  pub first : (ts : List Lexeme) → Outcome p R (t ∷ ts) (f (t ∷ ts))
 
 pub next_at : {A : Type 0} {p : Spot} {R : List Lexeme → A → Lexeme → Type 0} {f : Parser A} (t : Lexeme) → SoundNext p R f → NextAt p R t f
 next_at t s = record { first = λ ts. s.at (t ∷ ts) }
@@ -340,6 +345,29 @@ next_peek_at p R f s e (t ∷ ts) = (s t).first ts
 pub next_peek : {A : Type 0} {p : Spot} {R : List Lexeme → A → Lexeme → Type 0} {f : Lexeme → Parser A} → ((t : Lexeme) → NextAt p R t (f t)) → SoundNext p R (f (head_of [])) → SoundNext p R (peek f)
 next_peek {p = p} {R = R} {f = f} s e = record { at = next_peek_at p R f s e }
 
+next_look_at : {A : Type 0} (p : Spot) (R : List Lexeme → A → Lexeme → Type 0) (f : Lexeme → Parser A) → ((t : Lexeme) → NextAt p R t (f t)) → Outcome p R [] (f (head_of []) []) → (ts : List Lexeme) → Outcome p R ts (peek f ts)
+next_look_at p R f s e [] = e
+next_look_at p R f s e (t ∷ ts) = (s t).first ts
+
+-- the same, where what is done depends on the lexeme
+pub next_look : {A : Type 0} {p : Spot} {R : List Lexeme → A → Lexeme → Type 0} {f : Lexeme → Parser A} → ((t : Lexeme) → NextAt p R t (f t)) → Outcome p R [] (f (head_of []) []) → SoundNext p R (peek f)
+next_look {p = p} {R = R} {f = f} s e = record { at = next_look_at p R f s e }
+
+next_look_two_at : {A : Type 0} (p : Spot) (R : List Lexeme → A → Lexeme → Type 0) (f : Lexeme → Lexeme → Parser A) → ((t u : Lexeme) → NextAt p R t (f t u)) → Outcome p R [] (f (head_of []) (head_of []) []) → (ts : List Lexeme) → Outcome p R ts (peek_two f ts)
+next_look_two_at p R f s e [] = e
+next_look_two_at p R f s e (t ∷ ts) = (s t (head_of ts)).first ts
+
+pub next_look_two : {A : Type 0} {p : Spot} {R : List Lexeme → A → Lexeme → Type 0} {f : Lexeme → Lexeme → Parser A} → ((t u : Lexeme) → NextAt p R t (f t u)) → Outcome p R [] (f (head_of []) (head_of []) []) → SoundNext p R (peek_two f)
+next_look_two {p = p} {R = R} {f = f} s e = record { at = next_look_two_at p R f s e }
+
+next_two_at : {A : Type 0} (p : Spot) (R : List Lexeme → A → Lexeme → Type 0) (f : Lexeme → Lexeme → Parser A) → ((t u : Lexeme) → NextAt p R t (f t u)) → SoundNext p R (f (head_of []) (head_of [])) → (ts : List Lexeme) → Outcome p R ts (peek_two f ts)
+next_two_at p R f s e [] = e.at []
+next_two_at p R f s e (t ∷ ts) = (s t (head_of ts)).first ts
+
+-- looks at the first two lexemes
+pub next_peek_two : {A : Type 0} {p : Spot} {R : List Lexeme → A → Lexeme → Type 0} {f : Lexeme → Lexeme → Parser A} → ((t u : Lexeme) → NextAt p R t (f t u)) → SoundNext p R (f (head_of []) (head_of [])) → SoundNext p R (peek_two f)
+next_peek_two {p = p} {R = R} {f = f} s e = record { at = next_two_at p R f s e }
+
 at_bool : {A : Type 0} (p : Spot) (R : List Lexeme → A → Lexeme → Type 0) (t : Lexeme) (f g : Parser A) (b c : Bool) → c ≡ b → (b ≡ true → NextAt p R t f) → (b ≡ false → NextAt p R t g) → NextAt p R t (when c f g)
 at_bool p R t f g true c e h k = subst (λ x. NextAt p R t (when x f g)) (sym e) (h refl)
 at_bool p R t f g false c e h k = subst (λ x. NextAt p R t (when x f g)) (sym e) (k refl)
@@ -355,12 +383,12 @@ pub next_when : {A : Type 0} {p : Spot} {R : List Lexeme → A → Lexeme → Ty
 next_when {p = p} {R = R} {f = f} {g = g} b h k = next_bool p R f g b b refl h k
 
 -- without room: what begins so is completed by some end
-no_room_first : {A : Type 0} (p : Spot) (R : List Lexeme → A → Lexeme → Type 0) (begins : Kind → Bool) → begins kind.End ≡ false → Some p R → ((t : Lexeme) → begins t.kind ≡ true → Some Inside (Past (t ∷ []) R)) → (ts : List Lexeme) (b : Bool) → begins (head_of ts).kind ≡ b → Outcome p R ts (when {A = A} b deep bad ts)
+no_room_first : {A : Type 0} (p : Spot) (R : List Lexeme → A → Lexeme → Type 0) (begins : Kind → Bool) → begins kind.End ≡ false → Mended p R → ((t : Lexeme) → begins t.kind ≡ true → Mended Inside (Past (t ∷ []) R)) → (ts : List Lexeme) (b : Bool) → begins (head_of ts).kind ≡ b → Outcome p R ts (when {A = A} b deep bad ts)
 no_room_first p R begins z s h ts false e = (next_bad s).at ts
 no_room_first p R begins z s h [] true e = absurd (cc)
 no_room_first p R begins z s h (t ∷ ts) true e = let k = h t e in (at_deep {p = p} {R = R} t k.end k.of k.is).first ts
 
-pub next_no_room : {A : Type 0} {p : Spot} {R : List Lexeme → A → Lexeme → Type 0} (begins : Kind → Bool) → begins kind.End ≡ false → Some p R → ((t : Lexeme) → begins t.kind ≡ true → Some Inside (Past (t ∷ []) R)) → SoundNext p R (no_room {A = A} begins)
+pub next_no_room : {A : Type 0} {p : Spot} {R : List Lexeme → A → Lexeme → Type 0} (begins : Kind → Bool) → begins kind.End ≡ false → Mended p R → ((t : Lexeme) → begins t.kind ≡ true → Mended Inside (Past (t ∷ []) R)) → SoundNext p R (no_room {A = A} begins)
 next_no_room {p = p} {R = R} begins z s h = record { at = λ ts. no_room_first p R begins z s h ts (begins (head_of ts).kind) refl }
 
 -- a loop at the front: what one turn reads, and what all read
@@ -368,7 +396,7 @@ module _ {A B : Type 0} (Q : List Lexeme → Turn A B → Lexeme → Type 0) (R 
     (s : SoundNext AtFront Q turn)
     (stop : (w : List Lexeme) (b : B) (n : Lexeme) → Q w (Stop b) n → R w (stopped b) n)
     (go : (w v : List Lexeme) (a : A) (m : Many A B) (n : Lexeme) → Q w (Again a) (first_of v n) → R v m n → R (w ++ v) (begun a m) n)
-    (some : Some AtFront R) where
+    (some : Mended AtFront R) where
   turned_next : (f : Parser (Many A B)) → SoundNext AtFront R f → (w : List Lexeme) (t : Turn A B) → SoundNext AtFront (Joined Q w t R) (turned f t)
   turned_next f l w (Again a) = next_made (begun a) l (λ v m n r q. go w v a m n q r)
   turned_next f l w (Stop b) = next_ret (λ n q. subst (λ x. R x (stopped b) n) (sym (append-nil w)) (stop w b n q))

@@ -454,16 +454,20 @@ is_chain_head e = nat_le (rank e) 1
 abbrev pub chain_of : Parser (Turn Tail (Unit {0})) → Expr → Parser Expr
 chain_of turn e = when (is_chain_head e) (bind (loop turn) (λ m. ret (chain_case e m.items))) (ret e)
 
--- what `new` makes
-unfoldable pub callee_of : Env → Parser Expr
-callee_of v = bind (new_or_prim v false) (chain_of (member_turn v))
-
--- behind the callee of a `new` that starts there
+-- arguments, or none
 unfoldable pub new_args : Env → Parser (Option Args)
 new_args v = peek (λ t. when (is_mark mark.OPEN_PAREN t.kind) (step (bind (args_of v) (λ a. ret (Some a)))) (ret None))
 
+-- What `new` makes, where the word starts there: members of what may begin a chain, and arguments; or a `new` without
+-- arguments, behind which none stand.
+unfoldable pub new_from : Env → ℕ → Expr → Parser Expr
+new_from v at e =
+    when (is_chain_head e)
+    (bind (loop (member_turn v)) (λ m. bind (new_args v) (λ a. ret (tree.New at (chain_case e m.items) (maybe_args_of a)))))
+    (ret (tree.New at e (maybe_args_of None)))
+
 unfoldable pub new_of : Env → Parser Expr
-new_of v = peek (λ t. when (is_word word.NEW t.kind) (step (bind (callee_of v) (λ c. bind (new_args v) (λ a. ret (tree.New t.start c (maybe_args_of a)))))) bad)
+new_of v = peek (λ t. when (is_word word.NEW t.kind) (step (bind (new_or_prim v false) (new_from v t.start))) bad)
 
 -- a LeftHandSideExpression
 unfoldable pub left_of : Env → Bool → Parser Expr

@@ -86,9 +86,12 @@ stmt_turn stmt inside = peek (λ t. when (ends_items t.kind) (ret (Stop tt)) (bi
 unfoldable pub stmts_from : StmtCalls → Bool → Parser (List Stmt)
 stmts_from stmt inside = bind (loop (stmt_turn stmt inside)) (λ m. ret m.items)
 
--- statements in braces
+-- statements in braces, behind the first brace
+unfoldable pub braced_from : StmtCalls → Bool → Parser Stmts
+braced_from stmt inside = bind (stmts_from stmt inside) (λ ss. bind (expect mark.CLOSE_BRACE) (λ _. ret (stmts_of ss)))
+
 unfoldable pub braced_of : StmtCalls → Bool → Parser Stmts
-braced_of stmt inside = bind (expect mark.OPEN_BRACE) (λ _. bind (stmts_from stmt inside) (λ ss. bind (expect mark.CLOSE_BRACE) (λ _. ret (stmts_of ss))))
+braced_of stmt inside = bind (expect mark.OPEN_BRACE) (λ _. braced_from stmt inside)
 
 -- names with their initializers, with or without the operator `in`
 
@@ -278,14 +281,15 @@ labelled_of b inside = bind b.label (λ n. bind (expect mark.COLON) (λ _. bind 
 abbrev pub is_label : Lexeme → Lexeme → Bool
 is_label t u = is_name t.kind && is_mark mark.COLON u.kind
 
--- one that begins with no word of a statement: `function` begins no expression statement
+-- one that begins with no word of a statement: neither `function` nor `{` begins an expression statement
 unfoldable pub plain_stmt : Block → Bool → Parser Stmt
 plain_stmt b inside = peek_two (λ t u.
     when (is_label t u) (labelled_of b inside)
-    (when (is_word word.FUNCTION t.kind) bad (value_stmt b.exprs)))
+    (when (is_word word.FUNCTION t.kind || is_mark mark.OPEN_BRACE t.kind) bad (value_stmt b.exprs)))
 
+-- a block, behind its brace
 unfoldable pub block_stmt : Block → Bool → Parser Stmt
-block_stmt b inside = bind (braced_of b.stmt inside) (λ ss. ret (tree.Block ss))
+block_stmt b inside = bind (braced_from b.stmt inside) (λ ss. ret (tree.Block ss))
 
 unfoldable pub jump_stmt : Block → Place → Parser Stmt
 jump_stmt b p = peek (λ t.
@@ -315,7 +319,7 @@ declaration_stmt b p = peek (λ t.
 
 unfoldable pub stmt_of : Block → Place → Parser Stmt
 stmt_of b p = peek (λ t.
-    when (is_mark mark.OPEN_BRACE t.kind) (block_stmt b (is_inside p))
+    when (is_mark mark.OPEN_BRACE t.kind) (step (block_stmt b (is_inside p)))
     (when (is_mark mark.SEMICOLON t.kind) (step (ret tree.Empty))
     (when (is_word word.DEBUGGER t.kind) (step debugger_of)
     (declaration_stmt b p))))

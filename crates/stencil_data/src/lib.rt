@@ -18,6 +18,8 @@ pub mod functions;
 pub mod records;
 pub mod scopes;
 pub mod stencils;
+#[cfg(test)]
+mod tests;
 pub mod texts;
 
 pub use chains::{Chain, Link, LinkName};

@@ -1,0 +1,7 @@
+pub mod ScanLemmas
+pub mod ParseLemmas
+pub mod ScriptLemmas
+pub mod EmitLemmas
+pub mod ListLemmas
+pub mod FileLemmas
+pub mod RunLemmas

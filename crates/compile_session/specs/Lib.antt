@@ -1,0 +1,13 @@
+pub mod ReservedWords
+pub mod BuiltTokens
+pub mod Atoms
+pub mod Built
+pub mod ReadBuilt
+pub mod Statements
+pub mod Words
+pub mod Code
+pub mod Emission
+pub mod OpNames
+pub mod Listing
+pub mod Verdict
+pub mod Answers

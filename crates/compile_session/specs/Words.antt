@@ -1,0 +1,20 @@
+-- The words of the command, this project's own choice: `code` and the name of one file. Further commands, options and
+-- more files will be further equations.
+use Rattle.std.specs.Prelude.{ℕ, Bool, true, false, not, ◌&&◌, nat_eq, List, [], ◌∷◌, Option, Some, None, codes, if◌then◌else◌}
+use Rattle.std.specs.Str.{bytes_eq}
+
+abbrev pub is_code : List ℕ → Bool
+is_code word = bytes_eq word (codes "code")
+
+-- a file name is not empty and does not begin with `-`
+abbrev pub is_file_name : List ℕ → Bool
+is_file_name [] = false
+is_file_name (first ∷ rest) = not (nat_eq first 45)
+
+abbrev pub is_command : List ℕ → List ℕ → Bool
+is_command command name = is_code command && is_file_name name
+
+-- the names of the files to compile, where the words have the form
+abbrev pub files_of : List (List ℕ) → Option (List (List ℕ))
+files_of (command ∷ name ∷ []) = if is_command command name then Some (name ∷ []) else None
+files_of _ = None

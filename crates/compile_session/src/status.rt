@@ -1,0 +1,18 @@
+//! How a command ends.
+
+/// The status of a command; the program ends with its number.
+#[derive(Clone, Copy, Debug, PartialEq, Eq)]
+pub enum Status {
+    /// The words are good, no file is refused and all was written.
+    Done,
+    /// Some file is refused, and all was written.
+    Refused,
+    /// The words have no form; nothing was read or written.
+    BadWords,
+    /// The shelf failed; nothing was written.
+    ReadFault,
+    /// The sink failed; what was written is a front of the output.
+    WriteFault,
+    /// Memory was wanting; what was written is a front of the output.
+    NoMemory,
+}

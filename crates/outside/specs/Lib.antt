@@ -1,0 +1,6 @@
+pub mod Shelf
+pub mod Sink
+pub mod Files
+pub mod OpenFiles
+pub mod Tally
+pub mod Loops

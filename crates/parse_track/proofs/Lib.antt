@@ -1,0 +1,16 @@
+pub mod Log
+pub mod Order
+pub mod Entering
+mod Examples
+pub mod Walk
+pub mod Marks
+pub mod Items
+pub mod Distinct
+pub mod Binding
+pub mod Visiting
+pub mod Marking
+pub mod Closing
+pub mod Smallest
+pub mod Clashes
+pub mod Seeking
+pub mod FirstClash

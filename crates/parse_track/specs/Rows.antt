@@ -1,0 +1,44 @@
+-- How the rows that a track keeps stand for the parts of its log.
+use Rattle.std.specs.Prelude.{ℕ, zero, suc, ◌+◌, ◌<◌, ◌≤◌, ◌^◌, ◌-◌, ◌≡◌, Option, None, Some, List, [], ◌∷◌, length, slice_get, map, IfSome}
+use Rattle.parse_track.specs.declared.track.Item.{Item as Told}
+use Rattle.parse_track.specs.declared.track.Item.TheVariants as code
+use Rattle.parse_track.specs.declared.track.Row.{Row}
+use Rattle.parse_track.specs.Told as told
+use Rattle.parse_track.specs.Log.{Item, Leaf, Inner, Part, name_of, label_of, items_of}
+
+abbrev pub item_of : Told → Item
+item_of (code.Declared how name) = Leaf (told.Declared how (name_of name))
+item_of (code.Used atom) = Leaf (told.Used atom)
+item_of (code.Jumped word at label) = Leaf (told.Jumped word at (label_of label))
+item_of (code.Inner n) = Inner n
+
+abbrev pub row_of : Row → Part
+row_of row = record { kind = row.kind; at = row.at; around = row.around; items = map item_of row.items.items }
+
+-- A region inside has a higher number than the region around it, and is a region.
+abbrev pub IsInside : ℕ → ℕ → Item → Type 0
+IsInside n count (Leaf _) = Unit {0}
+IsInside n count (Inner m) = (n < m) × (m < count)
+
+abbrev pub AreInside : ℕ → ℕ → List Item → Type 0
+AreInside n count [] = Unit {0}
+AreInside n count (item ∷ items) = IsInside n count item × AreInside n count items
+
+abbrev pub IsAround : ℕ → Option ℕ → Type 0
+IsAround n None = Unit {0}
+IsAround n (Some m) = m < n
+
+-- each region from number n on
+abbrev pub AreInOrder : ℕ → ℕ → List Part → Type 0
+AreInOrder n count [] = Unit {0}
+AreInOrder n count (part ∷ parts) = AreInside n count part.items × (IsAround n part.around × AreInOrder (n + 1) count parts)
+
+pub record IsInOrder (parts : List Part) (present : Option ℕ) : Type 0 where
+  pub order : AreInOrder 0 (length parts) parts
+  pub inside : IfSome present (λ n. n < length parts)
+  pub few : length parts ≤ 2 ^ 32 - 2
+
+-- what stands in a region, where so many regions may stand one in another
+abbrev pub items_at : ℕ → List Part → ℕ → List Item
+items_at zero parts n = []
+items_at (suc room) parts n = items_of (slice_get parts n)

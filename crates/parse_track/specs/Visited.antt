@@ -1,0 +1,29 @@
+-- What a visit of the code leaves behind, in the words of the walk.
+use Rattle.std.specs.Prelude.{ℕ, ◌≡◌, ◌+◌, ◌++◌, Bool, Option, List, length, nat_eq}
+use Rattle.std.specs.Ordering.{nat_cmp}
+use Rattle.std.specs.BTreeMap.{get}
+use Rattle.parse_track.specs.declared.closed.Around.{Around}
+use Rattle.parse_track.specs.declared.closed.Found.{Found}
+use Rattle.parse_track.specs.Told.{Told, KnownNames}
+use Rattle.parse_track.specs.ClosedNames.{Bound, bindings, scope_count}
+use Rattle.parse_track.specs.Scopes.{bounds_of}
+use Rattle.parse_track.specs.Walk.{Tops, walk}
+
+-- the bindings so far, the places that were hit, to what each name is bound, and the number of the next scope
+pub record Stand : Type 0 where
+  pub bound : List (Bound ℕ)
+  pub hits : List ℕ
+  pub tops : Tops
+  pub scope : ℕ
+
+pub record Visits (known : KnownNames ℕ) (named : Bool) (func : Option ℕ) (depth : ℕ) (before now : Stand) (t : Told ℕ) : Type 0 where
+  pub binds : now.bound ≡ before.bound ++ bindings nat_eq known named func before.scope t
+  pub hits : now.hits ≡ before.hits ++ walk known named before.tops (length before.bound) depth t
+  pub same : (y : ℕ) → now.tops y ≡ before.tops y
+  pub next : now.scope ≡ before.scope + scope_count nat_eq known named t
+
+abbrev pub stand_of : Found → ℕ → Stand
+stand_of found scope = record { bound = bounds_of found.bound.items; hits = found.hits.items; tops = get nat_cmp found.env; scope = scope }
+
+abbrev pub IsVisited : KnownNames ℕ → Around → ℕ → Found → Found → ℕ → Told ℕ → Type 0
+IsVisited known around scope before now next t = Visits known around.named around.func around.depth (stand_of before scope) (stand_of now next) t

@@ -1,0 +1,357 @@
+//! The names that inner functions close over, by one walk from the outside in.
+
+ghost use Rattle.std.specs.Prelude.{◌≡◌, ◌<◌, ◌≤◌, ◌+◌, ◌^◌, ◌++◌, ◌∷◌, [], ℕ, Option, List, Bool, false, length, slice_get, cond, Some, None, IfOk, OnOk, map, nat_eq};
+ghost use Rattle.std.specs.Ordering.{nat_cmp};
+ghost use Rattle.std.specs.BTreeMap.{get};
+ghost use Rattle.parse_track.specs.EarlyErrors.{has};
+ghost use Rattle.parse_track.specs.RegionNames.{is_lambda};
+ghost use Rattle.parse_track.specs.ClosedNames.{begins, joined, bound_in, bound_by, first_at, at_of};
+ghost use Rattle.parse_track.specs.Told.{Told};
+ghost use Rattle.parse_track.specs.Log.{Inner, region_of, kind_of, known_names, told_items, told_region};
+ghost use Rattle.parse_track.specs.Log.{at_of as offset_of};
+ghost use Rattle.parse_track.specs.Rows.{item_of, row_of};
+ghost use Rattle.parse_track.specs.Scopes.{items_of_lists, bound_of, bounds_of};
+ghost use Rattle.parse_track.specs.Walk.{bind_all, hit, deeper};
+ghost use Rattle.parse_track.specs.Visited.{IsVisited};
+
+use crate::region::{ClosedAt, Known, Region};
+use crate::names::items_at;
+use crate::scopes::scopes_of;
+use crate::track::{Item, Row};
+use std::alloc::{AllocError, Global};
+use std::collections::BTreeMap;
+
+/// The innermost binding of a name: its place among all bindings, and how many functions are around its scope.
+#[derive(Clone, Copy, Debug)]
+pub struct Top {
+    pub place: usize,
+    pub depth: usize,
+}
+
+/// The bindings to which these names were bound.
+pub fn look_up<V: Copy>(alloc: Global, env: &BTreeMap<u32, V>, names: &[u32]) -> Result<Vec<Option<V>>, AllocError>
+    ensures { IfOk result (λ saved. saved.items ≡ map (get nat_cmp env.now) names.now) }
+{
+    names.iter().map(|name| env.get(name).copied()).collect(alloc)
+}
+
+/// Binds these names, the first at this place.
+fn bind(env: &mut BTreeMap<u32, Top>, names: &[u32], place: usize, depth: usize) -> Result<(), AllocError>
+    requires { place + length names.now < 2 ^ 64 }
+    ensures { OnOk result ((y : ℕ) → get nat_cmp env.new y ≡ bind_all depth place names.now (get nat_cmp env.old) y) }
+{
+    for (index, name) in names.iter().enumerate() {
+        env.insert(
+            *name,
+            Top {
+                place: place + index,
+                depth,
+            },
+        )?;
+    }
+    Ok(())
+}
+
+/// Binds these names to what they were bound to.
+pub fn put_back<V: Copy>(env: &mut BTreeMap<u32, V>, names: &[u32], saved: &[Option<V>]) -> Result<(), AllocError>
+    requires { length names.now ≡ length saved.now }
+    ensures { (tops : ℕ → Option V) → saved.now ≡ map tops names.now → ((y : ℕ) → has nat_eq y names.now ≡ false → get nat_cmp env.old y ≡ tops y) → OnOk result ((y : ℕ) → get nat_cmp env.new y ≡ tops y) }
+{
+    for (name, top) in names.iter().zip(saved) {
+        match top {
+            Some(top) => {
+                env.insert(*name, *top)?;
+            }
+            None => {
+                env.remove(name);
+            }
+        }
+    }
+    Ok(())
+}
+
+/// The names of these scopes, one behind the other.
+fn join(alloc: Global, scopes: &[Vec<u32>]) -> Result<Vec<u32>, AllocError>
+    ensures { IfOk result (λ names. names.items ≡ joined (items_of_lists scopes.now)) }
+{
+    let mut names = Vec::new(alloc);
+    for scope in scopes {
+        names.extend_from_slice(scope)?;
+    }
+    Ok(names)
+}
+
+/// Adds the bindings of a scope.
+fn push_scope(bound: &mut Vec<ClosedAt>, func: Option<u32>, scope: u32, names: &[u32]) -> Result<(), AllocError>
+    ensures { OnOk result (bounds_of bound.new.items ≡ bounds_of bound.old.items ++ bound_in func scope names.now) }
+{
+    for name in names {
+        bound.push(ClosedAt {
+            func,
+            scope,
+            atom: *name,
+        })?;
+    }
+    Ok(())
+}
+
+/// Adds the bindings of these scopes, of which the first has the number `from`.
+fn push_scopes(bound: &mut Vec<ClosedAt>, func: Option<u32>, from: u32, scopes: &[Vec<u32>]) -> Result<(), AllocError>
+    requires { from + length scopes.now < 2 ^ 32 }
+    ensures { OnOk result (bounds_of bound.new.items ≡ bounds_of bound.old.items ++ bound_by func from (items_of_lists scopes.now)) }
+{
+    for (index, scope) in scopes.iter().enumerate() {
+        push_scope(bound, func, from + index as u32, scope)?;
+    }
+    Ok(())
+}
+
+/// What a walk has found: to what each name is bound at present, the bindings so far, and the places of those that
+/// inner functions close over.
+#[derive(Drop)]
+pub struct Found {
+    pub env: BTreeMap<u32, Top>,
+    pub bound: Vec<ClosedAt>,
+    pub hits: Vec<usize>,
+}
+
+impl Found {
+    /// Nothing is found yet.
+    pub fn new(alloc: Global) -> Found
+        ensures env { (y : ℕ) → get nat_cmp result.env y ≡ None }
+        ensures bound { result.bound.items ≡ [] }
+        ensures hits { result.hits.items ≡ [] }
+    {
+        Found {
+            env: BTreeMap::new(alloc),
+            bound: Vec::new(alloc),
+            hits: Vec::new(alloc),
+        }
+    }
+}
+
+/// What is around a region: whether it stands directly in that of its function's name, the offset where its function begins,
+/// None for the script, and how many functions are around it.
+#[derive(Clone, Copy, Debug)]
+pub struct Around {
+    pub named: bool,
+    pub func: Option<u32>,
+    pub depth: usize,
+}
+
+impl Around {
+    /// What is around an outermost region: nothing.
+    pub fn script() -> Around
+        ensures { result ≡ record { named = false; func = None; depth = 0 } }
+    {
+        Around {
+            named: false,
+            func: None,
+            depth: 0,
+        }
+    }
+}
+
+/// How many bindings there are.
+pub fn count(bound: &[ClosedAt]) -> usize
+    ensures { result ≡ length bound.now }
+{
+    bound.len()
+}
+
+/// The number of the first scope of a region: 0 where a function begins there.
+fn first_scope(begun: bool, scope: u32) -> u32
+    ensures { result ≡ cond begun 0 scope }
+{
+    if begun { 0 } else { scope }
+}
+
+/// The number of the next scope behind a region, whose own end at `end`.
+fn scope_behind(begun: bool, scope: u32, end: u32) -> u32
+    ensures { result ≡ cond begun scope end }
+{
+    if begun { scope } else { end }
+}
+
+/// The number behind those of these scopes, of which the first has the number `from`.
+fn next_scope(from: u32, scopes: &[Vec<u32>]) -> Result<u32, AllocError>
+    ensures { IfOk result (λ next. (next ≡ from + length scopes.now) × (next < 2 ^ 32)) }
+{
+    let next = from as usize + scopes.len();
+    if next <= u32::MAX as usize { Ok(next as u32) } else { Err(AllocError) }
+}
+
+/// A use of a name hits its innermost binding, where that is of a function further out.
+fn visit_use(found: &mut Found, name: u32, depth: usize) -> Result<(), AllocError>
+    ensures hits { OnOk result (found.new.hits.items ≡ found.old.hits.items ++ hit (get nat_cmp found.old.env name) depth) }
+    ensures env { found.new.env ≡ found.old.env }
+    ensures bound { found.new.bound ≡ found.old.bound }
+{
+    if let Some(top) = found.env.get(&name) {
+        if top.depth < depth {
+            found.hits.push(top.place)?;
+        }
+    }
+    Ok(())
+}
+
+/// Whether a region is that of a function's name.
+fn is_lambda(region: Region) -> bool
+    ensures { result ≡ is_lambda (region_of region) }
+{
+    matches!(region, Region::Lambda(_))
+}
+
+/// Whether a function begins at a region.
+fn begins(named: bool, region: Region) -> bool
+    ensures { result ≡ begins named (region_of region) }
+{
+    match region {
+        Region::Lambda(_) => true,
+        Region::Function | Region::Arrow => !named,
+        _ => false,
+    }
+}
+
+/// What a region of this number is.
+pub fn kind_at(rows: &[Row], region: u32) -> Region
+    ensures { region_of result ≡ kind_of (slice_get (map row_of rows.now) region) }
+{
+    match rows.get(region as usize) {
+        Some(row) => row.kind,
+        None => Region::Block,
+    }
+}
+
+/// Where a region of this number begins.
+fn offset_of(rows: &[Row], region: u32) -> u32
+    ensures { result ≡ offset_of (slice_get (map row_of rows.now) region) }
+{
+    match rows.get(region as usize) {
+        Some(row) => row.at,
+        None => 0,
+    }
+}
+
+/// Where the first region among these items begins, `at` where there is none.
+fn first_at(rows: &[Row], items: &[Item], at: u32) -> u32
+    ensures { (inside : ℕ → Told ℕ) → result ≡ first_at at (told_items (map row_of rows.now) inside (map item_of items.now)) }
+{
+    for item in items {
+        if let Item::Inner(region) = item {
+            return offset_of(rows, *region);
+        }
+    }
+    at
+}
+
+/// Where the function begins that begins at this region.
+fn function_at(rows: &[Row], room: usize, kind: Region, region: u32) -> u32
+    ensures { result ≡ at_of (region_of kind) (offset_of (slice_get (map row_of rows.now) region)) (told_region room (map row_of rows.now) region) }
+{
+    let at = offset_of(rows, region);
+    if is_lambda(kind) { first_at(rows, items_at(rows, room, region), at) } else { at }
+}
+
+/// What is around the parts of a region.
+fn around_inside(rows: &[Row], room: usize, kind: Region, region: u32, around: Around) -> Around
+    requires { around.depth + room + 1 < 2 ^ 64 }
+    ensures named { result.named ≡ is_lambda (region_of kind) }
+    ensures func { result.func ≡ cond (begins around.named (region_of kind)) (Some (at_of (region_of kind) (offset_of (slice_get (map row_of rows.now) region)) (told_region room (map row_of rows.now) region))) around.func }
+    ensures depth { result.depth ≡ deeper (begins around.named (region_of kind)) around.depth }
+{
+    let named = is_lambda(kind);
+    if begins(around.named, kind) {
+        let func = function_at(rows, room, kind, region);
+        return Around {
+            named,
+            func: Some(func),
+            depth: around.depth + 1,
+        };
+    }
+    Around {
+        named,
+        func: around.func,
+        depth: around.depth,
+    }
+}
+
+/// Visits an item: the binding that a use hits, or all of a region inside.
+#[cycle(visiting)]
+fn visit_item(
+    alloc: Global,
+    known: &Known,
+    rows: &[Row],
+    room: usize,
+    item: Item,
+    around: Around,
+    scope: u32,
+    found: &mut Found,
+) -> Result<u32, AllocError>
+    requires { around.depth + room + 1 < 2 ^ 64 }
+    ensures { IfOk result (λ next. IsVisited (known_names known.now) around scope found.old found.new next (told_items (map row_of rows.now) (told_region room (map row_of rows.now)) (item_of item ∷ []))) }
+{
+    match item {
+        Item::Declared(_, _) => Ok(scope),
+        Item::Jumped(_, _, _) => Ok(scope),
+        Item::Used(name) => {
+            visit_use(found, name, around.depth)?;
+            Ok(scope)
+        }
+        Item::Inner(region) => visit_inner(alloc, known, rows, room, region, around, scope, found),
+    }
+}
+
+/// Visits a region inside: binds its names, visits what stands in it, and binds its names to what they were bound to.
+#[cycle(visiting)]
+pub fn visit_inner(
+    alloc: Global,
+    known: &Known,
+    rows: &[Row],
+    room: usize,
+    region: u32,
+    around: Around,
+    scope: u32,
+    found: &mut Found,
+) -> Result<u32, AllocError>
+    requires { around.depth + room + 1 < 2 ^ 64 }
+    ensures { IfOk result (λ next. IsVisited (known_names known.now) around scope found.old found.new next (told_items (map row_of rows.now) (told_region room (map row_of rows.now)) (Inner region ∷ []))) }
+{
+    let kind = kind_at(rows, region);
+    let scopes = scopes_of(alloc, known, rows, room, kind, region)?;
+    let names = join(alloc, &scopes)?;
+    let inside = around_inside(rows, room, kind, region, around);
+    let begun = begins(around.named, kind);
+    let from = first_scope(begun, scope);
+    let next = next_scope(from, &scopes)?;
+    let place = count(&found.bound);
+    let saved = look_up(alloc, &found.env, &names)?;
+    bind(&mut found.env, &names, place, inside.depth)?;
+    push_scopes(&mut found.bound, inside.func, from, &scopes)?;
+    let end = visit(alloc, known, rows, room, region, inside, next, found)?;
+    put_back(&mut found.env, &names, &saved)?;
+    let behind = scope_behind(begun, scope, end);
+    Ok(behind)
+}
+
+/// Visits what stands in a region, and answers the number of the next scope.
+#[cycle(visiting)]
+fn visit(
+    alloc: Global,
+    known: &Known,
+    rows: &[Row],
+    room: usize,
+    region: u32,
+    around: Around,
+    scope: u32,
+    found: &mut Found,
+) -> Result<u32, AllocError>
+    requires { around.depth + room < 2 ^ 64 }
+    ensures { IfOk result (λ next. IsVisited (known_names known.now) around scope found.old found.new next (told_region room (map row_of rows.now) region)) }
+{
+    let mut next = scope;
+    for item in items_at(rows, room, region) {
+        next = visit_item(alloc, known, rows, room - 1, *item, around, next, found)?;
+    }
+    Ok(next)
+}

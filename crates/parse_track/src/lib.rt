@@ -1,0 +1,18 @@
+//! What a parser tells of a script while it reads it, and what follows from it: the first early error of those that
+//! speak of names, regions and jumps, and the names that inner functions close over.
+//!
+//! It stands on script_grammar. A parser enters and leaves regions, and tells each name that is declared or used and each
+//! jump once, in any order of function bodies; lazy compiling takes the closed names into the record of a function. The
+//! main contract is that of `Track::finish`: over the tree of regions that was told, the definitions of
+//! `specs/EarlyErrors.antt` and `specs/ClosedNames.antt`.
+#![tactic(auto)]
+
+pub mod region;
+pub mod track;
+mod names;
+mod offsets;
+mod rules;
+mod clashing;
+mod scopes;
+mod closed;
+mod closed_names;

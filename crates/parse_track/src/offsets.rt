@@ -1,0 +1,79 @@
+//! The smallest of some offsets, and the offsets of names that clash.
+
+ghost use Rattle.std.specs.Prelude.{◌≡◌, [], ℕ, cond, None, Some, IfOk, OnOk, map, nat_eq};
+ghost use Rattle.std.specs.Ordering.{nat_cmp};
+ghost use Rattle.std.specs.BTreeSet.{contains};
+ghost use Rattle.parse_track.specs.EarlyErrors.{smaller, smallest, repeated, also_in, reserved, has_name};
+ghost use Rattle.parse_track.specs.Log.{name_of, known_names};
+
+use crate::region::Known;
+use script_grammar::tree::Ident;
+use std::alloc::{AllocError, Global};
+use std::collections::BTreeSet;
+
+/// The smaller of two offsets, where there is one.
+pub fn lesser(x: Option<u32>, y: Option<u32>) -> Option<u32>
+    ensures { result ≡ smaller x y }
+{
+    match (x, y) {
+        (None, y) => y,
+        (Some(a), None) => Some(a),
+        (Some(a), Some(b)) => Some(a.min(b)),
+    }
+}
+
+/// The smaller of an offset, where there is one, and of this one, where names clash.
+pub fn lesser_if(first: Option<u32>, clash: bool, at: u32) -> Option<u32>
+    ensures { result ≡ cond clash (smaller first (Some at)) first }
+{
+    if clash { lesser(first, Some(at)) } else { first }
+}
+
+/// The smallest offset of a name that stands before it too.
+pub fn first_repeated(alloc: Global, names: &[Ident]) -> Result<Option<u32>, AllocError>
+    ensures { IfOk result (λ first. first ≡ smallest (repeated nat_eq [] (map name_of names.now))) }
+{
+    let mut seen = BTreeSet::new(alloc);
+    let mut first = None;
+    for name in names {
+        let is_new = seen.insert(name.atom)?;
+        first = lesser_if(first, !is_new, name.at);
+    }
+    Ok(first)
+}
+
+/// The atoms of these names.
+fn atom_set(alloc: Global, names: &[Ident]) -> Result<BTreeSet<u32>, AllocError>
+    ensures { IfOk result (λ atoms. (q : ℕ) → contains nat_cmp atoms q ≡ has_name nat_eq q (map name_of names.now)) }
+{
+    let mut atoms = BTreeSet::new(alloc);
+    for name in names {
+        atoms.insert(name.atom)?;
+    }
+    Ok(atoms)
+}
+
+/// The smallest offset of a name of the second list that the first has.
+pub fn first_also(alloc: Global, xs: &[Ident], ys: &[Ident]) -> Result<Option<u32>, AllocError>
+    ensures { IfOk result (λ first. first ≡ smallest (also_in nat_eq (map name_of xs.now) (map name_of ys.now))) }
+{
+    let atoms = atom_set(alloc, xs)?;
+    let mut first = None;
+    for name in ys {
+        first = lesser_if(first, atoms.contains(&name.atom), name.at);
+    }
+    Ok(first)
+}
+
+/// The smallest offset of a name that may not be bound.
+pub fn first_reserved(known: &Known, names: &[Ident]) -> Option<u32>
+    ensures { result ≡ smallest (reserved nat_eq (known_names known.now) (map name_of names.now)) }
+{
+    let mut first = None;
+    for name in names {
+        if name.atom == known.eval || name.atom == known.arguments {
+            first = lesser(first, Some(name.at));
+        }
+    }
+    first
+}

@@ -1,0 +1,193 @@
+//! The log of what is told.
+
+ghost use Rattle.std.specs.Prelude.{◌≡◌, ◌<◌, ◌≤◌, ◌+◌, ◌^◌, ◌-◌, ◌⊎◌, length, map, IsSome, IfSome, IfOk, OnOk, OnErr, Some, None, []};
+ghost use Rattle.parse_track.specs.Told.{Declared, Used, Jumped};
+ghost use Rattle.parse_track.specs.Log.{name_of, label_of, with_leaf, entered, left, noting, tell, around_at};
+ghost use Rattle.parse_track.specs.EarlyErrors.{sooner};
+ghost use Rattle.parse_track.specs.Rows.{item_of, row_of};
+
+use crate::region::{Declare, Early, Jump, Known, Region};
+use script_grammar::tree::Ident;
+use std::alloc::{AllocError, Global};
+use std::marker::Model;
+
+/// What stands in a region; an Inner is the number of a region inside.
+#[derive(Clone, Copy, Debug)]
+pub enum Item {
+    Declared(Declare, Ident),
+    Used(u32),
+    Jumped(Jump, u32, Option<Ident>),
+    Inner(u32),
+}
+
+/// A region by its number: what it is, where it begins, the region around it, and what stands in it.
+#[derive(Drop)]
+pub struct Row {
+    pub kind: Region,
+    pub at: u32,
+    pub around: Option<u32>,
+    pub items: Vec<Item>,
+}
+
+/// The log of what is told of a script.
+#[derive(Drop)]
+pub struct Track {
+    alloc: Global,
+    known: Known,
+    rows: Vec<Row>,
+    present: Option<u32>,
+    noted: Option<Early>,
+}
+
+impl Model for Track {
+    ghost use Rattle.std.specs.Prelude.{map};
+    ghost use Rattle.parse_track.specs.Log.{Log};
+    ghost use Rattle.parse_track.specs.EarlyErrors.{sooner};
+ghost use Rattle.parse_track.specs.Rows.{row_of, IsInOrder};
+
+    ghost Value = { Log };
+
+    ghost view = { λ t. record { known = t.known; parts = map row_of t.rows.items; present = t.present; noted = t.noted } };
+
+    ghost invariant = { λ t. IsInOrder (map row_of t.rows.items) t.present };
+}
+
+/// The item joins what stands in the present region.
+fn add_item(rows: &mut Vec<Row>, present: Option<u32>, item: Item) -> Result<(), AllocError>
+    requires { IfSome present (λ n. n < length rows.old.items) }
+    ensures told { OnOk result (map row_of rows.new.items ≡ tell present (item_of item) (map row_of rows.old.items)) }
+    ensures either { (map row_of rows.new.items ≡ tell present (item_of item) (map row_of rows.old.items)) ⊎ (map row_of rows.new.items ≡ map row_of rows.old.items) }
+{
+    if let Some(n) = present {
+        let row = &mut rows[n as usize];
+        row.items.push(item)?;
+    }
+    Ok(())
+}
+
+impl Track {
+    /// A track that was told nothing. It takes no memory.
+    pub fn new(alloc: Global, known: Known) -> Track
+        ensures { result ≡ record { known = known; parts = []; present = None; noted = None } }
+    {
+        Track {
+            alloc,
+            known,
+            rows: Vec::new(alloc),
+            present: None,
+            noted: None,
+        }
+    }
+
+    /// The atoms of the known names.
+    pub fn known(&self) -> &Known
+        ensures { result.now ≡ self.now.known }
+    {
+        &self.known
+    }
+
+    /// A region begins inside the present one, or outermost where none is present. It becomes the present one, and its number
+    /// is answered. `at` is the offset of its first token, in bytes; of a Function or Arrow that of its parameters. There
+    /// are at most 2^32 - 2 regions.
+    pub fn enter(&mut self, region: Region, at: u32) -> Result<u32, AllocError>
+        ensures { IfOk result (λ n. (n ≡ length self.old.parts) × (self.new ≡ entered self.old region at)) }
+    {
+        let number = next_number(&self.rows)?;
+        let around = self.present;
+        self.rows.push(Row {
+            kind: region,
+            at,
+            around,
+            items: Vec::new(self.alloc),
+        })?;
+        add_item(&mut self.rows, around, Item::Inner(number))?;
+        self.present = Some(number);
+        Ok(number)
+    }
+
+    /// The present region ends. The one around it becomes the present one, or none does.
+    pub fn leave(&mut self)
+        requires { IsSome self.old.present }
+        ensures { self.new ≡ left self.old }
+    {
+        self.present = around(&self.rows, self.present);
+    }
+
+    /// The number of the present region.
+    pub fn spot(&self) -> u32
+        requires { IsSome self.now.present }
+        ensures { self.now.present ≡ Some result }
+    {
+        self.present.unwrap()
+    }
+
+    /// An earlier region becomes the present one, for a body that is read later.
+    pub fn resume(&mut self, region: u32)
+        requires { region < length self.old.parts }
+        ensures { self.new ≡ record self.old { present = Some region } }
+    {
+        self.present = Some(region);
+    }
+
+    /// A name is declared in the present region.
+    pub fn declare(&mut self, how: Declare, name: Ident) -> Result<(), AllocError>
+        requires { IsSome self.old.present }
+        ensures { OnOk result (self.new ≡ with_leaf self.old (Declared how (name_of name))) }
+    {
+        add_item(&mut self.rows, self.present, Item::Declared(how, name))
+    }
+
+    /// A name is used in the present region.
+    pub fn used(&mut self, atom: u32) -> Result<(), AllocError>
+        requires { IsSome self.old.present }
+        ensures { OnOk result (self.new ≡ with_leaf self.old (Used atom)) }
+    {
+        add_item(&mut self.rows, self.present, Item::Used(atom))
+    }
+
+    /// A jump stands in the present region; `at` is the offset of its word, in bytes.
+    pub fn jump(&mut self, word: Jump, at: u32, label: Option<Ident>) -> Result<(), AllocError>
+        requires { IsSome self.old.present }
+        ensures { OnOk result (self.new ≡ with_leaf self.old (Jumped word at (label_of label))) }
+    {
+        add_item(&mut self.rows, self.present, Item::Jumped(word, at, label))
+    }
+
+    /// An early error of a rule that looks at no region, at an offset in bytes.
+    pub fn note(&mut self, offset: u32, rule: u8)
+        ensures { self.new ≡ noting self.old (record { offset = offset; rule = rule }) }
+    {
+        self.noted = sooner_early(Some(Early { offset, rule }), self.noted);
+    }
+}
+
+/// The number of the next region, where there may be one more.
+fn next_number(rows: &[Row]) -> Result<u32, AllocError>
+    ensures { IfOk result (λ n. (n ≡ length rows.now) × (n < 2 ^ 32 - 2)) }
+{
+    let count = rows.len();
+    if count < u32::MAX as usize - 1 { Ok(count as u32) } else { Err(AllocError) }
+}
+
+/// The region around this one.
+fn around(rows: &[Row], region: Option<u32>) -> Option<u32>
+    ensures { result ≡ around_at region (map row_of rows.now) }
+{
+    match rows.get(region? as usize) {
+        Some(row) => row.around,
+        None => None,
+    }
+}
+
+/// Of two early errors the first.
+fn sooner_early(x: Option<Early>, y: Option<Early>) -> Option<Early>
+    ensures { result ≡ sooner x y }
+{
+    match (x, y) {
+        (None, y) => y,
+        (x, None) => x,
+        (Some(a), Some(b)) => {
+            if b.offset < a.offset || (b.offset == a.offset && b.rule < a.rule) { y } else { x }
+        }
+    }
+}

@@ -1,0 +1,2 @@
+-- Lemmas on the places of texts.
+pub mod Interning

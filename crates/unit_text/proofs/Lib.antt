@@ -1,0 +1,2 @@
+-- Lemmas on the points of a text.
+pub mod Decoding

@@ -1,0 +1,116 @@
+//! Code points of a source text with their places, and the 16-bit units of a code point.
+//!
+//! The lowest crate of the pipeline: what reads a file hands its bytes to [`decode`], and the scanner
+//! reads the points. `decode` answers exactly the code points that the bytes spell in UTF-8, or the
+//! length of their longest well-formed front; [`units_of`] answers the UTF-16 units of a code point.
+#![tactic(auto)]
+
+ghost use Rattle.std.specs.Prelude.{◌≡◌, ◌≤◌, IfOk, IfErr, OnOk, length, take, map};
+ghost use Rattle.std.specs.Str.{IsUtf8, chars, encode_utf8_all};
+ghost use Rattle.unit_text.specs.Points.{points, points_from, code_of, codes_of, LieEndToEnd, SpellLongestFront};
+ghost use Rattle.unit_text.specs.Faults.{IsFaultOf};
+ghost use Rattle.unit_text.specs.Units.{code_units};
+ghost use Rattle.unit_text.specs.declared.DecodeFault.TheVariants.{NoMemory};
+
+use std::alloc::{AllocError, AllocFailed, Global};
+
+/// A code point of a source text, with the offsets of its first byte and of the byte behind it.
+#[derive(Clone, Copy, Debug, PartialEq, Eq)]
+pub struct Point {
+    /// The code point, which UTF-8 spells, so never a surrogate (ECMA-262, 12th edition, clause 11.1).
+    pub code: char,
+    /// The offset of its first byte.
+    pub start: u32,
+    /// The offset behind its last byte.
+    pub end: u32,
+}
+
+/// Why bytes gave no code points.
+#[derive(Debug, PartialEq, Eq, Drop)]
+pub enum DecodeFault {
+    /// The bytes are not UTF-8: those before `offset` are their longest front that is.
+    BadUtf8 {
+        /// The length of the longest front that is UTF-8, in bytes.
+        offset: u32,
+    },
+    /// Memory ran out.
+    NoMemory,
+}
+
+impl From<AllocError> for DecodeFault {
+    ghost from_gives = { λ _ fault. fault ≡ NoMemory };
+
+    fn from(_: AllocError) -> DecodeFault {
+        DecodeFault::NoMemory
+    }
+}
+
+impl From<AllocFailed<Point>> for DecodeFault {
+    ghost from_gives = { λ _ fault. fault ≡ NoMemory };
+
+    fn from(_: AllocFailed<Point>) -> DecodeFault {
+        DecodeFault::NoMemory
+    }
+}
+
+/// The code points that the bytes spell in UTF-8, in order and with their places.
+///
+/// Takes 12 bytes of memory for each code point and a time linear in the bytes.
+pub fn decode(alloc: Global, bytes: &[u8]) -> Result<Vec<Point>, DecodeFault>
+    requires { length bytes.now ≤ 16777215 }
+    ensures value { IfOk result (λ ps. ps.items ≡ points bytes.now) }
+    ensures utf8 { OnOk result (IsUtf8 bytes.now) }
+    ensures spelled { IfOk result (λ ps. encode_utf8_all (map code_of ps.items) ≡ bytes.now) }
+    ensures end_to_end { IfOk result (λ ps. LieEndToEnd 0 ps.items) }
+    ensures fault { IfErr result (IsFaultOf bytes.now) }
+    ensures longest { SpellLongestFront bytes.now (codes_of bytes.now) }
+{
+    match str::from_utf8(bytes) {
+        Ok(text) => Ok(points_of(alloc, text)?),
+        Err(fault) => Err(bad_utf8(fault.valid_up_to())),
+    }
+}
+
+fn bad_utf8(front: usize) -> DecodeFault
+    requires { front ≤ 16777215 }
+    ensures { result ≡ DecodeFault.BadUtf8 front }
+{
+    DecodeFault::BadUtf8 {
+        offset: front as u32,
+    }
+}
+
+// The points of a text.
+fn points_of(alloc: Global, text: &str) -> Result<Vec<Point>, AllocError>
+    requires { length text.now ≤ 16777215 }
+    ensures { IfOk result (λ ps. ps.items ≡ points_from 0 (chars text.now)) }
+{
+    let mut points = Vec::with_capacity(alloc, text.chars().count())?;
+    for (start, code) in text.char_indices() {
+        let end = start + code.len_utf8();
+        points.push(Point {
+            code,
+            start: start as u32,
+            end: end as u32,
+        })?;
+    }
+    Ok(points)
+}
+
+/// The UTF-16 units of a code point, in the first places, and how many they are: 1 or 2
+/// (ECMA-262, 12th edition, clause 11.1.1).
+pub fn units_of(code: char) -> ([u16; 2], u8)
+    ensures { take result.1 result.0 ≡ code_units code }
+{
+    let number = code as u32;
+    if number <= 0xFFFF {
+        return ([number as u16, 0], 1);
+    }
+    let offset = number - 0x1_0000;
+    let high = offset / 0x400 + 0xD800;
+    let low = offset % 0x400 + 0xDC00;
+    ([high as u16, low as u16], 2)
+}
+
+#[cfg(test)]
+mod tests;

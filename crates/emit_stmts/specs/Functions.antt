@@ -20,7 +20,8 @@ use Rattle.bytecode_buf.specs.declared.waits.Aim.TheVariants as aim
 use Rattle.bytecode_buf.specs.Command.{Command, plain, counted}
 use Rattle.bytecode_buf.specs.Pieces.{Waiting, Code, one, here, settled, notes}
 use Rattle.emit_exprs.specs.Names.{read, write}
-use Rattle.emit_exprs.specs.Exprs.{Scene, whole, just, reading, writing, expr_code}
+use Rattle.emit_exprs.specs.Exprs.{Scene, reading, writing, expr_code}
+use Rattle.emit_exprs.specs.Whole.{whole, just}
 use Rattle.emit_stmts.specs.Frames.{Frame, scope_at, global_link, chain_link}
 use Rattle.emit_stmts.specs.Stmts.{Setting, scene_at, push_env, in_scope, assigning_function, stmts_code}
 
@@ -96,8 +97,8 @@ body_code scopes starts initialized params (ShortBody value) number base = expr_
 body_code scopes starts initialized params (BracedBody items) number base =
     body_vars_code scopes starts (body_var_names initialized items) params number base
     ++ in_scope (body_setting scopes starts (body_base scopes (body_var_names initialized items) number base)) (top_lexical_names items) (λ scene. top_functions scene items)
-      (stmts_code (body_setting scopes starts (body_base scopes (body_var_names initialized items) number base)) items)
-      (number + scope_count (body_var_names initialized items)) []
+    (stmts_code (body_setting scopes starts (body_base scopes (body_var_names initialized items) number base)) items)
+    (number + scope_count (body_var_names initialized items)) []
     ++ just op.RetRval
 
 abbrev pub params_scene : List NamedScope → List ℕ → List Declaration → List LinkView → Scene

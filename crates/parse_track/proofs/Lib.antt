@@ -2,6 +2,7 @@ pub mod Log
 pub mod Order
 pub mod Entering
 mod Examples
+mod Rows
 pub mod Walk
 pub mod Marks
 pub mod Items
@@ -14,3 +15,5 @@ pub mod Smallest
 pub mod Clashes
 pub mod Seeking
 pub mod FirstClash
+pub mod ClashSteps
+pub mod JumpSteps

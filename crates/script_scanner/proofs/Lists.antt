@@ -56,7 +56,7 @@ module _ {X : Type 0} where
   place_in [] i h = absurd (omega (arith, h))
   place_in (x ∷ xs) zero h = (x, xs, refl, refl)
   place_in (x ∷ xs) (suc i) h = let (y, rest, here, next) = place_in xs i (omega (arith, h)) in
-    (y, rest, here, ap (λ k. drop k (x ∷ xs)) (let e : suc i + 1 ≡ suc (i + 1) = omega arith in e) ∙ next)
+      (y, rest, here, ap (λ k. drop k (x ∷ xs)) (let e : suc i + 1 ≡ suc (i + 1) = omega arith in e) ∙ next)
 
   -- what passes one test is sought among what passes another, where nothing else passes the one
   pub find_filter : (p q ok : X → Bool) (xs : List X) → list_all ok xs ≡ true → ((x : X) → ok x ≡ true → q x ≡ false → p x ≡ false) → find p xs ≡ find p (filter q xs)
@@ -64,9 +64,10 @@ module _ {X : Type 0} where
   find_filter p q ok (x ∷ xs) all only =
       let here : ok x ≡ true = and_left (ok x) (list_all ok xs) all in
       let rest : find p xs ≡ find p (filter q xs) = find_filter p q ok xs (and_right (ok x) (list_all ok xs) all) only in
-      elim (cases_Bool (q x)) as (λ _. find p (x ∷ xs) ≡ find p (filter q (x ∷ xs)))
-        [ inl y ↦ ap (λ (o : Option X). cond (p x) (Some x) o) rest ∙ ap (λ (b : Bool). find p (cond b (x ∷ filter q xs) (filter q xs))) (sym y)
-        | inr n ↦ ap (λ (b : Bool). cond b (Some x) (find p xs)) (only x here n) ∙ rest ∙ ap (λ (b : Bool). find p (cond b (x ∷ filter q xs) (filter q xs))) (sym n) ]
+      elim (cases_Bool (q x)) as (λ _. find p (x ∷ xs) ≡ find p (filter q (x ∷ xs))) [
+        | inl y ↦ ap (λ (o : Option X). cond (p x) (Some x) o) rest ∙ ap (λ (b : Bool). find p (cond b (x ∷ filter q xs) (filter q xs))) (sym y)
+        | inr n ↦ ap (λ (b : Bool). cond b (Some x) (find p xs)) (only x here n) ∙ rest ∙ ap (λ (b : Bool). find p (cond b (x ∷ filter q xs) (filter q xs))) (sym n)
+      ]
 
   -- nothing passes a test
   pub filter_none : (q : X → Bool) (xs : List X) → AllByRecursion (λ x. q x ≡ false) xs → filter q xs ≡ []
@@ -76,6 +77,7 @@ module _ {X : Type 0} where
   -- what is found passes the test, and what all items pass
   pub find_satisfies : (p ok : X → Bool) (xs : List X) → list_all ok xs ≡ true → IfSome (find p xs) (λ x. (p x ≡ true) × (ok x ≡ true))
   find_satisfies p ok [] all = tt
-  find_satisfies p ok (x ∷ xs) all = elim (cases_Bool (p x)) as (λ _. IfSome (find p (x ∷ xs)) (λ y. (p y ≡ true) × (ok y ≡ true)))
-      [ inl y ↦ subst (λ (b : Bool). IfSome (cond b (Some x) (find p xs)) (λ z. (p z ≡ true) × (ok z ≡ true))) (sym y) (y, and_left (ok x) (list_all ok xs) all)
-      | inr n ↦ subst (λ (b : Bool). IfSome (cond b (Some x) (find p xs)) (λ z. (p z ≡ true) × (ok z ≡ true))) (sym n) (find_satisfies p ok xs (and_right (ok x) (list_all ok xs) all)) ]
+  find_satisfies p ok (x ∷ xs) all = elim (cases_Bool (p x)) as (λ _. IfSome (find p (x ∷ xs)) (λ y. (p y ≡ true) × (ok y ≡ true))) [
+    | inl y ↦ subst (λ (b : Bool). IfSome (cond b (Some x) (find p xs)) (λ z. (p z ≡ true) × (ok z ≡ true))) (sym y) (y, and_left (ok x) (list_all ok xs) all)
+    | inr n ↦ subst (λ (b : Bool). IfSome (cond b (Some x) (find p xs)) (λ z. (p z ≡ true) × (ok z ≡ true))) (sym n) (find_satisfies p ok xs (and_right (ok x) (list_all ok xs) all))
+  ]

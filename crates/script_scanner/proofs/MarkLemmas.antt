@@ -61,6 +61,7 @@ no_mark c codes n123 n125 n40 n41 n91 n93 n59 n44 n60 n62 n61 n33 n43 n45 n42 n4
     no_exception : begins_no_token (c ∷ codes) ≡ false
     no_exception = ap (λ (b : Bool). (b && begins (0x21 ∷ 0x2D ∷ 0x2D ∷ []) codes) || ((c == 0x2F) && begins (0x2A ∷ []) codes)) (not_equal c 60 n60)
         ∙ ap (λ (b : Bool). b && begins (0x2A ∷ []) codes) (not_equal c 47 n47)
+
     all : AllByRecursion (λ (m : Mark). first_is c m.text ≡ false) marks
     all = (not_equal c 62 n62, (not_equal c 61 n61, (not_equal c 33 n33, (not_equal c 62 n62, (not_equal c 42 n42, (not_equal c 60 n60, (not_equal c 62 n62, (not_equal c 46 n46, (not_equal c 38 n38, (not_equal c 124 n124, (not_equal c 63 n63, (not_equal c 60 n60, (not_equal c 62 n62, (not_equal c 61 n61, (not_equal c 33 n33, (not_equal c 42 n42, (not_equal c 43 n43, (not_equal c 45 n45, (not_equal c 60 n60, (not_equal c 62 n62, (not_equal c 38 n38, (not_equal c 124 n124, (not_equal c 63 n63, (not_equal c 43 n43, (not_equal c 45 n45, (not_equal c 42 n42, (not_equal c 47 n47, (not_equal c 37 n37, (not_equal c 38 n38, (not_equal c 124 n124, (not_equal c 94 n94, (not_equal c 61 n61, (not_equal c 63 n63, (not_equal c 123 n123, (not_equal c 125 n125, (not_equal c 40 n40, (not_equal c 41 n41, (not_equal c 91 n91, (not_equal c 93 n93, (not_equal c 59 n59, (not_equal c 44 n44, (not_equal c 60 n60, (not_equal c 62 n62, (not_equal c 43 n43, (not_equal c 45 n45, (not_equal c 42 n42, (not_equal c 47 n47, (not_equal c 37 n37, (not_equal c 38 n38, (not_equal c 124 n124, (not_equal c 94 n94, (not_equal c 33 n33, (not_equal c 126 n126, (not_equal c 63 n63, (not_equal c 58 n58, (not_equal c 61 n61, (not_equal c 46 n46, tt)))))))))))))))))))))))))))))))))))))))))))))))))))))))))
 

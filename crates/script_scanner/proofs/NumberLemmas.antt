@@ -43,8 +43,8 @@ module _ (radix : ℕ) where
       → more_digits radix (map code_of points) ≡ (at + n) + more_digits radix (map code_of (drop (at + n) points))
   digits_on points at n e p before =
       let step : more_digits radix (map code_of (drop at points)) ≡ n + more_digits radix (map code_of (drop (at + n) points)) =
-            digits_more (map code_of (drop at points)) n e p
-            ∙ ap (λ cs. n + more_digits radix cs) (sym (map_drop code_of n (drop at points)) ∙ ap (map code_of) (sym (drop_drop at n points))) in
+      digits_more (map code_of (drop at points)) n e p
+      ∙ ap (λ cs. n + more_digits radix cs) (sym (map_drop code_of n (drop at points)) ∙ ap (map code_of) (sym (drop_drop at n points))) in
       omega (arith, before, step)
 
   -- the digits passed are all

@@ -82,15 +82,19 @@ part_is points others front from to m n behind is first second within = is ∙ s
   where
     before : filter (in_part from to) (take m points) ≡ []
     before = front_none (in_part from to) points m (λ k d lt. ap (λ (b : Bool). b && nat_lt (get_or points k d).start to) (not_from from (get_or points k d).start (first.0 k d (omega arith) lt)))
+
     from_here : (k : ℕ) (d : Point) → k < length others → nat_le from (get_or others k d).start ≡ true
     from_here k d lt =
         let same : get_or others k d ≡ get_or points (m + k) d = ap (λ (ps : List Point). get_or ps k d) behind ∙ get_or-drop m points k d in
         let size : length others ≡ length points - m = ap length behind ∙ length-drop m points in
         ap (λ (p : Point). nat_le from p.start) same ∙ from_on from (get_or points (m + k) d).start (first.1 (m + k) d (omega arith) (omega (arith, size, lt)))
+
     inside : filter (in_part from to) (take n others) ≡ take n others
     inside = front_all (in_part from to) others n (λ k d lt le. ap (λ (b : Bool). b && nat_lt (get_or others k d).start to) (from_here k d le) ∙ second.0 k d (omega arith) lt)
+
     after : filter (in_part from to) (drop n others) ≡ []
     after = rest_none (in_part from to) others n (λ k d le lt. ap (λ (b : Bool). b && nat_lt (get_or others k d).start to) (from_here k d lt) ∙ second.1 k d le lt)
+
     whole : filter (in_part from to) points ≡ take n others
     whole = ap (filter (in_part from to)) (sym (take-append-drop m points)) ∙ filter-append (in_part from to) (take m points) (drop m points) ∙ ap (λ (xs : List Point). xs ++ filter (in_part from to) (drop m points)) before
         ∙ ap (filter (in_part from to)) (sym behind) ∙ ap (filter (in_part from to)) (sym (take-append-drop n others)) ∙ filter-append (in_part from to) (take n others) (drop n others)

@@ -40,11 +40,11 @@ pub record IsReading (ending : Ending) (points : List Point) (at : ℕ) (made : 
 pub reading_first : (ending : Ending) (points : List Point) (made : List ℕ) → made ≡ [] → IsReading ending points 0 made
 unfolding body_of
 reading_first ending points made empty = record {
-    within = omega arith;
-    fuel = suc (length (map code_of points));
-    enough = let e : length (map code_of points) ≡ length points = length-map points code_of in omega (arith, e);
-    so_far = at_first (body_of ending (map code_of points)) ∙ ap (λ (us : List ℕ). option_map (behind us 0) (body_of ending (map code_of points))) (sym empty)
-  }
+  within = omega arith;
+  fuel = suc (length (map code_of points));
+  enough = let e : length (map code_of points) ≡ length points = length-map points code_of in omega (arith, e);
+  so_far = at_first (body_of ending (map code_of points)) ∙ ap (λ (us : List ℕ). option_map (behind us 0) (body_of ending (map code_of points))) (sym empty);
+}
 
 -- the next step is unrolled
 unrolled : (ending : Ending) (points : List Point) (at : ℕ) (made : List ℕ) (r : IsReading ending points at made) → at < length points
@@ -54,13 +54,13 @@ unrolled ending points at made r lt = r.so_far ∙ ap (option_map (behind made a
 goes_on : (ending : Ending) (points : List Point) (at n : ℕ) (made more now : List ℕ) (r : IsReading ending points at made) → at < length points → 0 < n → n ≤ length (drop at points) → now ≡ made ++ more
     → body_of ending (map code_of points) ≡ option_map (behind made at) (option_map (behind more n) (body_within ending (r.fuel - 1) (drop n (map code_of (drop at points))))) → IsReading ending points (at + n) now
 goes_on ending points at n made more now r lt some le new step = record {
-    within = let e : length (drop at points) ≡ length points - at = length-drop at points in omega (arith, e, le, lt);
-    fuel = r.fuel - 1;
-    enough = omega (arith, r.enough, some, lt);
-    so_far = step ∙ twice made more at n (body_within ending (r.fuel - 1) (drop n (map code_of (drop at points))))
-        ∙ ap (λ (us : List ℕ). option_map (behind us (at + n)) (body_within ending (r.fuel - 1) (drop n (map code_of (drop at points))))) (sym new)
-        ∙ ap (λ (cs : List ℕ). option_map (behind now (at + n)) (body_within ending (r.fuel - 1) cs)) (sym (map_drop code_of n (drop at points)) ∙ ap (map code_of) (sym (drop_drop at n points)))
-  }
+  within = let e : length (drop at points) ≡ length points - at = length-drop at points in omega (arith, e, le, lt);
+  fuel = r.fuel - 1;
+  enough = omega (arith, r.enough, some, lt);
+  so_far = step ∙ twice made more at n (body_within ending (r.fuel - 1) (drop n (map code_of (drop at points))))
+      ∙ ap (λ (us : List ℕ). option_map (behind us (at + n)) (body_within ending (r.fuel - 1) (drop n (map code_of (drop at points))))) (sym new)
+      ∙ ap (λ (cs : List ℕ). option_map (behind now (at + n)) (body_within ending (r.fuel - 1) cs)) (sym (map_drop code_of n (drop at points)) ∙ ap (map code_of) (sym (drop_drop at n points)));
+}
 
 -- a code point more
 pub reading_add : (ending : Ending) (points : List Point) (at code n : ℕ) (made now : List ℕ) → IsReading ending points at made → at < length points → 0 < n → n ≤ length (drop at points)
@@ -101,5 +101,5 @@ nothing_left Template (suc fuel) = refl
 pub reading_end : (ending : Ending) (points : List Point) (at : ℕ) (made : List ℕ) → IsReading ending points at made → length points ≤ at → ReadsBody (body_of ending (map code_of points)) None made
 reading_end ending points at made r le = reads_none (body_of ending (map code_of points)) made
     (r.so_far ∙ ap (λ (ps : List Point). option_map (behind made at) (body_within ending r.fuel (map code_of ps)))
-        (nil_from_length (drop at points) (let e : length (drop at points) ≡ length points - at = length-drop at points in omega (arith, e, le)))
-     ∙ ap (option_map (behind made at)) (nothing_left ending r.fuel))
+    (nil_from_length (drop at points) (let e : length (drop at points) ≡ length points - at = length-drop at points in omega (arith, e, le)))
+    ∙ ap (option_map (behind made at)) (nothing_left ending r.fuel))

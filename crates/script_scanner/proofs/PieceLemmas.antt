@@ -38,7 +38,7 @@ pub number_found : (n : Numeral) (codes : List ℕ) (value : ℕ) (units : List 
     → FindsPiece (number_piece (numeral_at codes) codes) (Some (record { kind = kind.Number; content = content.Number value; length = n.length })) units
 number_found n codes value units is sound valued = subst (λ (m : Numeral). FindsPiece (number_piece m codes) (Some (record { kind = kind.Number; content = content.Number value; length = n.length })) units) is
     (subst (λ (b : Bool). FindsPiece (cond b None (valued_piece n.value n.length)) (Some (record { kind = kind.Number; content = content.Number value; length = n.length })) units) (sym sound)
-      (subst (λ (o : Option ℕ). FindsPiece (valued_piece o n.length) (Some (record { kind = kind.Number; content = content.Number value; length = n.length })) units) (sym valued) (refl, refl, refl)))
+    (subst (λ (o : Option ℕ). FindsPiece (valued_piece o n.length) (Some (record { kind = kind.Number; content = content.Number value; length = n.length })) units) (sym valued) (refl, refl, refl)))
 
 module _ {X : Type 0} where
   choice_1 : (a : Bool) (v w : X) → a ≡ true → cond a v w ≡ v
@@ -81,7 +81,7 @@ pub finds_at : (in_template : Bool) (points others : List Point) (first : Point)
     → token_at in_template (first.code ∷ map code_of others) ≡ o (first.code ∷ map code_of others) → FindsPiece (o (map code_of points)) found units → FindsPiece (token_at in_template (map code_of points)) found units
 finds_at in_template points others first o found units split is finds =
     let all : token_at in_template (map code_of points) ≡ o (map code_of points) =
-          ap (λ (ps : List Point). token_at in_template (map code_of ps)) split ∙ is ∙ ap (λ (ps : List Point). o (map code_of ps)) (sym split) in
+    ap (λ (ps : List Point). token_at in_template (map code_of ps)) split ∙ is ∙ ap (λ (ps : List Point). o (map code_of ps)) (sym split) in
     subst (λ (p : Option Piece). FindsPiece p found units) (sym all) finds
 
 -- no token at the end

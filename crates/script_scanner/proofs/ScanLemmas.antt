@@ -75,10 +75,10 @@ gains_nothing texts now ls same = record { gained = []; grown = same ∙ sym (ap
 
 gains_both : (texts between now : List (List ℕ)) (ls ms : List Lexed) → GainsOnly texts between ls → GainsOnly between now ms → GainsOnly texts now (ls ++ ms)
 gains_both texts between now ls ms g h = record {
-    gained = g.gained ++ h.gained;
-    grown = h.grown ∙ ap (λ (xs : List (List ℕ)). xs ++ h.gained) g.grown ∙ append_assoc texts g.gained h.gained;
-    are_values = all_both ls ms g.gained h.gained g.are_values h.are_values
-  }
+  gained = g.gained ++ h.gained;
+  grown = h.grown ∙ ap (λ (xs : List (List ℕ)). xs ++ h.gained) g.grown ∙ append_assoc texts g.gained h.gained;
+  are_values = all_both ls ms g.gained h.gained g.are_values h.are_values;
+}
 
 -- the number of a token stands for its value
 value_stands : (v : Value) (k : Content) (units : List ℕ) (texts now : List (List ℕ)) (n : ℕ) → HoldsValue v k units → TakesValue k units texts now n → HasValue now v n
@@ -124,12 +124,17 @@ rest_some (suc n) ls some = refl
 pub moves_blank : (to : ℕ) (rest : List Point) (tokens : List Token) (braces : List Brace) (after now : Bool) (texts : List (List ℕ)) (blank : Blank)
     → blank_at (map code_of rest) ≡ Some blank → 0 < blank.length → now ≡ after || blank.breaks → Moves to rest tokens tokens braces braces after now texts texts blank.length
 moves_blank to rest tokens braces after now texts blank is some breaks = record {
-    made = []; fresh = []; appended = sym (append-nil tokens); stand = tt; gains = gains_nothing texts texts [] refl; few = omega arith;
-    steps = λ others.
+  made = [];
+  fresh = [];
+  appended = sym (append-nil tokens);
+  stand = tt;
+  gains = gains_nothing texts texts [] refl;
+  few = omega arith;
+  steps = λ others.
       ap (λ (o : Option Blank). then_tokens to braces after rest (front_of o (token_at (in_substitution braces) (map code_of rest))) others) is
       ∙ ap (λ (a : Bool). others braces a (drop blank.length rest)) (sym breaks)
-      ∙ rest_some blank.length (others braces now (drop blank.length rest)) some
-  }
+      ∙ rest_some blank.length (others braces now (drop blank.length rest)) some;
+}
 
 moves_piece : (to : ℕ) (rest : List Point) (found : Found) (before now : Scanner) (texts texts_now : List (List ℕ)) (taken : ℕ) (o : Option Piece)
     → TakesToken to rest found before now texts texts_now → taken ≡ found.length → 0 < found.length → blank_at (map code_of rest) ≡ None
@@ -139,21 +144,30 @@ moves_piece to rest found before now texts texts_now taken None t took some bare
 moves_piece to rest found before now texts texts_now taken (Some piece) t took some bare is finds =
     let lexed : Lexed = record { kind = piece.kind; value = piece.value; start = place to rest; end = place to (drop piece.length rest); after_line = before.after_line } in
     record {
-      made = lexed ∷ []; fresh = t.token ∷ []; appended = t.appended;
-      stand = (record {
-        kind = t.kind ∙ finds.0; value = value_stands piece.value found.content before.units.items texts texts_now t.token.value finds.2 t.value;
-        start = t.start; end = t.end ∙ ap (λ (n : ℕ). place to (drop n rest)) finds.1; after_line = t.after_line }, tt);
+      made = lexed ∷ [];
+      fresh = t.token ∷ [];
+      appended = t.appended;
+      stand = (
+        record {
+          kind = t.kind ∙ finds.0;
+          value = value_stands piece.value found.content before.units.items texts texts_now t.token.value finds.2 t.value;
+          start = t.start;
+          end = t.end ∙ ap (λ (n : ℕ). place to (drop n rest)) finds.1;
+          after_line = t.after_line;
+        },
+        tt,
+      );
       gains = value_gains piece.value found.content before.units.items texts texts_now t.token.value lexed finds.2 t.value refl;
       few = let one : length texts_now ≤ length texts + 1 = value_few found.content before.units.items texts texts_now t.token.value t.value in omega (arith, one, took, some);
       steps = λ others.
-        ap (λ (b : Option Blank). then_tokens to before.braces.items before.after_line rest (front_of b (token_at (in_substitution before.braces.items) (map code_of rest))) others) bare
-        ∙ ap (λ (p : Option Piece). then_tokens to before.braces.items before.after_line rest (front_of None p) others) is
-        ∙ ap (λ (ls : List Lexed). lexed ∷ ls)
-            (ap (λ (k : Kind). others (braces_after before.braces.items k) false (drop piece.length rest)) (sym finds.0)
-             ∙ ap (λ (bs : List Brace). others bs false (drop piece.length rest)) (sym t.braces)
-             ∙ ap (λ (a : Bool). others now.braces.items a (drop piece.length rest)) (sym t.line_before)
-             ∙ ap (λ (n : ℕ). others now.braces.items now.after_line (drop n rest)) (sym (took ∙ finds.1))
-             ∙ rest_some taken (others now.braces.items now.after_line (drop taken rest)) (omega (arith, took, some)))
+          ap (λ (b : Option Blank). then_tokens to before.braces.items before.after_line rest (front_of b (token_at (in_substitution before.braces.items) (map code_of rest))) others) bare
+          ∙ ap (λ (p : Option Piece). then_tokens to before.braces.items before.after_line rest (front_of None p) others) is
+          ∙ ap (λ (ls : List Lexed). lexed ∷ ls)
+          (ap (λ (k : Kind). others (braces_after before.braces.items k) false (drop piece.length rest)) (sym finds.0)
+          ∙ ap (λ (bs : List Brace). others bs false (drop piece.length rest)) (sym t.braces)
+          ∙ ap (λ (a : Bool). others now.braces.items a (drop piece.length rest)) (sym t.line_before)
+          ∙ ap (λ (n : ℕ). others now.braces.items now.after_line (drop n rest)) (sym (took ∙ finds.1))
+          ∙ rest_some taken (others now.braces.items now.after_line (drop taken rest)) (omega (arith, took, some)));
     }
 
 -- a token
@@ -169,12 +183,16 @@ moves_none : (to : ℕ) (rest : List Point) (tokens now : List Token) (braces br
     → Moves to rest tokens now braces braces_now after after_now texts texts 0
 moves_none to rest tokens now braces braces_now after after_now texts units (Some piece) ends bare is finds = absurd finds
 moves_none to rest tokens now braces braces_now after after_now texts units None ends bare is finds = record {
-    made = last_token to after rest ∷ []; fresh = ends.token ∷ []; appended = ends.appended; stand = (ends.stands texts, tt);
-    gains = gains_nothing texts texts (last_token to after rest ∷ []) refl; few = omega arith;
-    steps = λ others.
+  made = last_token to after rest ∷ [];
+  fresh = ends.token ∷ [];
+  appended = ends.appended;
+  stand = (ends.stands texts, tt);
+  gains = gains_nothing texts texts (last_token to after rest ∷ []) refl;
+  few = omega arith;
+  steps = λ others.
       ap (λ (b : Option Blank). then_tokens to braces after rest (front_of b (token_at (in_substitution braces) (map code_of rest))) others) bare
-      ∙ ap (λ (p : Option Piece). then_tokens to braces after rest (front_of None p) others) is
-  }
+      ∙ ap (λ (p : Option Piece). then_tokens to braces after rest (front_of None p) others) is;
+}
 
 -- the last token
 pub moves_end : (to : ℕ) (rest : List Point) (tokens now : List Token) (braces braces_now : List Brace) (after after_now : Bool) (texts : List (List ℕ)) (units : List ℕ) (taken : ℕ)
@@ -182,7 +200,7 @@ pub moves_end : (to : ℕ) (rest : List Point) (tokens now : List Token) (braces
     → Moves to rest tokens now braces braces_now after after_now texts texts taken
 moves_end to rest tokens now braces braces_now after after_now texts units taken ends took bare finds =
     subst (λ (n : ℕ). Moves to rest tokens now braces braces_now after after_now texts texts n) (sym took)
-      (moves_none to rest tokens now braces braces_now after after_now texts units (token_at (in_substitution braces) (map code_of rest)) ends bare refl finds)
+    (moves_none to rest tokens now braces braces_now after after_now texts units (token_at (in_substitution braces) (map code_of rest)) ends bare refl finds)
 
 -- what was found under the braces as the code sees them
 pub finds_under : (in_template : Bool) (braces seen : List Brace) (codes units : List ℕ) (o p : Option Found) → in_template ≡ in_substitution seen → seen ≡ braces → o ≡ p
@@ -215,11 +233,15 @@ pub record IsStepped (to : ℕ) (text : List Point) (at taken : ℕ) (tokens : L
 pub scanning_first : (to : ℕ) (text : List Point) (tokens : List Token) (braces : List Brace) (after : Bool) (texts : List (List ℕ)) → tokens ≡ [] → braces ≡ [] → after ≡ false
     → IsScanning to text 0 tokens braces after texts texts
 scanning_first to text tokens braces after texts no_tokens no_braces no_line = record {
-    within = omega arith; fuel = suc (length text); enough = omega arith; made = [];
-    stand = subst (λ (ts : List Token). StandFor texts ts []) (sym no_tokens) tt;
-    gains = gains_nothing texts texts [] refl; few = omega arith;
-    so_far = ap (λ (bs : List Brace). tokens_within (suc (length text)) to bs false text) (sym no_braces) ∙ ap (λ (a : Bool). tokens_within (suc (length text)) to braces a text) (sym no_line)
-  }
+  within = omega arith;
+  fuel = suc (length text);
+  enough = omega arith;
+  made = [];
+  stand = subst (λ (ts : List Token). StandFor texts ts []) (sym no_tokens) tt;
+  gains = gains_nothing texts texts [] refl;
+  few = omega arith;
+  so_far = ap (λ (bs : List Brace). tokens_within (suc (length text)) to bs false text) (sym no_braces) ∙ ap (λ (a : Bool). tokens_within (suc (length text)) to braces a text) (sym no_line);
+}
 
 unroll : (fuel to : ℕ) (braces : List Brace) (after : Bool) (points : List Point) → 0 < fuel
     → tokens_within fuel to braces after points ≡ then_tokens to braces after points (front_at braces points) (λ o a ps. tokens_within (fuel - 1) to o a ps)
@@ -236,32 +258,38 @@ pub stepped : (to : ℕ) (text : List Point) (at taken : ℕ) (tokens tokens_now
     → IsScanning to text at tokens braces after texts between → Moves to (drop at text) tokens tokens_now braces braces_now after after_now between now taken → taken ≤ length (drop at text)
     → IsStepped to text at taken tokens_now braces_now after_now texts now
 stepped to text at taken tokens tokens_now braces braces_now after after_now texts between now s m le = record {
-    within = let e : length (drop at text) ≡ length text - at = length-drop at text in omega (arith, e, le, s.within);
-    fuel = s.fuel - 1;
-    enough = λ some. omega (arith, some, s.enough);
-    made = s.made ++ m.made;
-    stand = stand_grown texts between now tokens m.fresh tokens_now s.made m.made m.appended s.stand m.stand m.gains;
-    gains = gains_both texts between now s.made m.made s.gains m.gains;
-    few = omega (arith, s.few, m.few);
-    so_far = s.so_far
+  within = let e : length (drop at text) ≡ length text - at = length-drop at text in omega (arith, e, le, s.within);
+  fuel = s.fuel - 1;
+  enough = λ some. omega (arith, some, s.enough);
+  made = s.made ++ m.made;
+  stand = stand_grown texts between now tokens m.fresh tokens_now s.made m.made m.appended s.stand m.stand m.gains;
+  gains = gains_both texts between now s.made m.made s.gains m.gains;
+  few = omega (arith, s.few, m.few);
+  so_far = s.so_far
       ∙ ap (λ (ls : List Lexed). s.made ++ ls) (unroll s.fuel to braces after (drop at text) (omega (arith, s.enough, s.within)) ∙ m.steps (λ o a ps. tokens_within (s.fuel - 1) to o a ps))
       ∙ sym (append_assoc s.made m.made (rest_after taken (tokens_within (s.fuel - 1) to braces_now after_now (drop taken (drop at text)))))
-      ∙ ap (λ (ps : List Point). (s.made ++ m.made) ++ rest_after taken (tokens_within (s.fuel - 1) to braces_now after_now ps)) (sym (drop_drop at taken text))
-  }
+      ∙ ap (λ (ps : List Point). (s.made ++ m.made) ++ rest_after taken (tokens_within (s.fuel - 1) to braces_now after_now ps)) (sym (drop_drop at taken text));
+}
 
 pub stepped_behind : (to : ℕ) (text rest : List Point) (at taken : ℕ) (tokens tokens_now : List Token) (braces braces_now : List Brace) (after after_now : Bool) (texts between now : List (List ℕ))
     → rest ≡ drop at text → IsScanning to text at tokens braces after texts between → Moves to rest tokens tokens_now braces braces_now after after_now between now taken → taken ≤ length rest
     → IsStepped to text at taken tokens_now braces_now after_now texts now
 stepped_behind to text rest at taken tokens tokens_now braces braces_now after after_now texts between now is s m le =
     stepped to text at taken tokens tokens_now braces braces_now after after_now texts between now s
-      (subst (λ (ps : List Point). Moves to ps tokens tokens_now braces braces_now after after_now between now taken) is m) (subst (λ (ps : List Point). taken ≤ length ps) is le)
+    (subst (λ (ps : List Point). Moves to ps tokens tokens_now braces braces_now after after_now between now taken) is m) (subst (λ (ps : List Point). taken ≤ length ps) is le)
 
 pub resumed : (to : ℕ) (text : List Point) (at taken : ℕ) (tokens : List Token) (braces : List Brace) (after : Bool) (texts now : List (List ℕ))
     → IsStepped to text at taken tokens braces after texts now → 0 < taken → IsScanning to text (at + taken) tokens braces after texts now
 resumed to text at taken tokens braces after texts now s some = record {
-    within = s.within; fuel = s.fuel; enough = s.enough some; made = s.made; stand = s.stand; gains = s.gains; few = s.few;
-    so_far = s.so_far ∙ ap (λ (ls : List Lexed). s.made ++ ls) (sym (rest_some taken (tokens_within s.fuel to braces after (drop (at + taken) text)) some))
-  }
+  within = s.within;
+  fuel = s.fuel;
+  enough = s.enough some;
+  made = s.made;
+  stand = s.stand;
+  gains = s.gains;
+  few = s.few;
+  so_far = s.so_far ∙ ap (λ (ls : List Lexed). s.made ++ ls) (sym (rest_some taken (tokens_within s.fuel to braces after (drop (at + taken) text)) some));
+}
 
 -- all tokens
 all_made : (to : ℕ) (text : List Point) (at taken : ℕ) (tokens : List Token) (braces : List Brace) (after : Bool) (texts now : List (List ℕ))

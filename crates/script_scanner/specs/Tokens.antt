@@ -58,7 +58,10 @@ string_piece (Some body) = Some (record { kind = kind.Str; value = Text body.uni
 abbrev pub template_piece : Kind → Kind → Option Body → Option Piece
 template_piece whole head None = None
 template_piece whole head (Some body) = Some (record {
-    kind = if body.closing == 1 then whole else head; value = Text body.units; length = 1 + body.inner + body.closing })
+  kind = if body.closing == 1 then whole else head;
+  value = Text body.units;
+  length = 1 + body.inner + body.closing;
+})
 
 abbrev pub mark_piece : Option Mark → Option Piece
 mark_piece None = None

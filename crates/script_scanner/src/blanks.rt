@@ -48,7 +48,8 @@ pub fn begins(rest: &[Point], text: &[u8]) -> bool
         None => true,
         Some((letter, more)) => match rest.split_first() {
             None => false,
-            Some((point, others)) => point.code as u32 == u32::from(*letter) && begins(others, more),
+            Some((point, others)) => point.code as u32 == u32::from(*letter)
+                && begins(others, more),
         },
     }
 }
@@ -65,7 +66,9 @@ fn points_before_line_end(rest: &[Point]) -> usize
     ensures value { result ≡ prefix_len (λ point. not (is_line_end point.code)) rest.now }
     ensures within { result ≤ length rest.now }
 {
-    rest.iter().take_while(|point| !is_line_end(point.code)).count()
+    rest.iter()
+        .take_while(|point| !is_line_end(point.code))
+        .count()
 }
 
 /// How many code points the line end at the front takes.
@@ -176,5 +179,9 @@ pub fn first_line_length(rest: &[Point]) -> usize
     ensures value { result ≡ first_line_length (map code_of rest.now) }
     ensures within { result ≤ length rest.now }
 {
-    if begins(rest, b"#!") { line_length(rest) } else { 0 }
+    if begins(rest, b"#!") {
+        line_length(rest)
+    } else {
+        0
+    }
 }

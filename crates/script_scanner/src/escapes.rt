@@ -71,7 +71,9 @@ fn hex_digits(rest: &[Point]) -> usize
     ensures value { result ≡ prefix_len (λ point. is_hex_digit point.code) rest.now }
     ensures within { result ≤ length rest.now }
 {
-    rest.iter().take_while(|point| point.code.is_digit(16)).count()
+    rest.iter()
+        .take_while(|point| point.code.is_digit(16))
+        .count()
 }
 
 /// How many hexadecimal digits stand at the front.

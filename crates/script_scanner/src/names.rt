@@ -17,14 +17,19 @@ pub fn is_name_start(code: char) -> bool
 pub fn is_name_part(code: char) -> bool
     ensures { result ≡ is_name_part code }
 {
-    unicode_ident::is_xid_continue(code) | (code == '$') | (code == '\u{200C}') | (code == '\u{200D}')
+    unicode_ident::is_xid_continue(code)
+        | (code == '$')
+        | (code == '\u{200C}')
+        | (code == '\u{200D}')
 }
 
 fn points_in_name(rest: &[Point]) -> usize
     ensures value { result ≡ prefix_len (λ point. is_name_part point.code) rest.now }
     ensures within { result ≤ length rest.now }
 {
-    rest.iter().take_while(|point| is_name_part(point.code)).count()
+    rest.iter()
+        .take_while(|point| is_name_part(point.code))
+        .count()
 }
 
 fn parts_length(rest: &[Point]) -> usize

@@ -192,6 +192,8 @@ pub fn is_spoiled_by(is_decimal: bool, rest: &[Point]) -> bool
 {
     match rest.split_first() {
         None => false,
-        Some((first, _)) => is_name_start(first.code) | first.code.is_digit(10) | (is_decimal & (first.code == '.')),
+        Some((first, _)) => is_name_start(first.code)
+            | first.code.is_digit(10)
+            | (is_decimal & (first.code == '.')),
     }
 }

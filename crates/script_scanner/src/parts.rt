@@ -107,7 +107,11 @@ pub fn push_code(units: &mut Vec<u16>, code: u32) -> Result<(), AllocError>
 }
 
 /// Reads a string or a template part behind what begins it, and leaves its units in the buffer.
-pub fn read_body(ending: Ending, rest: &[Point], units: &mut Vec<u16>) -> Result<Option<Extent>, AllocError>
+pub fn read_body(
+    ending: Ending,
+    rest: &[Point],
+    units: &mut Vec<u16>,
+) -> Result<Option<Extent>, AllocError>
     ensures value { IfOk result (λ extent. ReadsBody (body_of ending (map code_of rest.now)) extent units.new.items) }
     ensures within { IfOk result (λ o. IfSome o (λ extent. extent.inner + extent.closing ≤ length rest.now)) }
 {

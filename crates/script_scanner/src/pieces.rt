@@ -97,7 +97,11 @@ fn number_piece(rest: &[Point]) -> Option<Found>
 }
 
 /// The string behind its quote.
-fn string_piece(quote: char, others: &[Point], units: &mut Vec<u16>) -> Result<Option<Found>, AllocError>
+fn string_piece(
+    quote: char,
+    others: &[Point],
+    units: &mut Vec<u16>,
+) -> Result<Option<Found>, AllocError>
     ensures value { IfOk result (λ found. FindsPiece (string_piece (body_of (Ending.Quote quote) (map code_of others.now))) found units.new.items) }
     ensures within { IfOk result (λ o. IfSome o (λ found. (0 < found.length) × (found.length ≤ 1 + length others.now))) }
 {
@@ -112,7 +116,12 @@ fn string_piece(quote: char, others: &[Point], units: &mut Vec<u16>) -> Result<O
 }
 
 /// The part of a template behind what begins it: of the one kind where a backquote ends it, of the other where `${` does.
-fn template_piece(whole: Kind, head: Kind, others: &[Point], units: &mut Vec<u16>) -> Result<Option<Found>, AllocError>
+fn template_piece(
+    whole: Kind,
+    head: Kind,
+    others: &[Point],
+    units: &mut Vec<u16>,
+) -> Result<Option<Found>, AllocError>
     ensures value { IfOk result (λ found. FindsPiece (template_piece whole head (body_of Ending.Template (map code_of others.now))) found units.new.items) }
     ensures within { IfOk result (λ o. IfSome o (λ found. (0 < found.length) × (found.length ≤ 1 + length others.now))) }
 {
@@ -142,7 +151,11 @@ fn mark_piece(rest: &[Point]) -> Option<Found>
 }
 
 /// The longest token at the front of points that are no blank; its units are left in the buffer.
-pub fn token_at(rest: &[Point], in_template: bool, units: &mut Vec<u16>) -> Result<Option<Found>, AllocError>
+pub fn token_at(
+    rest: &[Point],
+    in_template: bool,
+    units: &mut Vec<u16>,
+) -> Result<Option<Found>, AllocError>
     ensures value { IfOk result (λ found. FindsPiece (token_at in_template (map code_of rest.now)) found units.new.items) }
     ensures within { IfOk result (λ o. IfSome o (λ found. (0 < found.length) × (found.length ≤ length rest.now))) }
 {
@@ -162,7 +175,12 @@ pub fn token_at(rest: &[Point], in_template: bool, units: &mut Vec<u16>) -> Resu
                 let found = template_piece(Kind::TemplateWhole, Kind::TemplateHead, others, units)?;
                 Ok(found)
             } else if (code == '}') & in_template {
-                let found = template_piece(Kind::TemplateTail, Kind::TemplateMiddle, others, units)?;
+                let found = template_piece(
+                    Kind::TemplateTail,
+                    Kind::TemplateMiddle,
+                    others,
+                    units,
+                )?;
                 Ok(found)
             } else {
                 Ok(mark_piece(rest))

@@ -75,7 +75,12 @@ fn update_braces(braces: &mut Vec<Brace>, kind: Kind) -> Result<(), AllocError>
 }
 
 /// The number by which a token has its text or its value: a text is interned.
-fn value_of(alloc: Global, content: Content, units: &[u16], atoms: &mut Atoms) -> Result<u64, AllocError>
+fn value_of(
+    alloc: Global,
+    content: Content,
+    units: &[u16],
+    atoms: &mut Atoms,
+) -> Result<u64, AllocError>
     requires { length atoms.old < 2 ^ 32 - 1 }
     ensures value { IfOk result (TakesValue content units.now atoms.old atoms.new) }
     ensures err { OnErr result (atoms.new ≡ atoms.old) }
@@ -138,7 +143,14 @@ impl Scanner {
     }
 
     /// Takes the token that was found, whose units are in the buffer; answers how many code points it takes.
-    fn take(&mut self, alloc: Global, found: Found, rest: &[Point], to: u32, atoms: &mut Atoms) -> Result<usize, AllocError>
+    fn take(
+        &mut self,
+        alloc: Global,
+        found: Found,
+        rest: &[Point],
+        to: u32,
+        atoms: &mut Atoms,
+    ) -> Result<usize, AllocError>
         requires few { length atoms.old < 2 ^ 32 - 1 }
         requires within { found.length ≤ length rest.now }
         ensures taken { IfOk result (λ taken. taken ≡ found.length) }
@@ -168,7 +180,13 @@ impl Scanner {
     }
 
     /// Skips a blank or takes a token at the front; answers how many code points that is, and 0 after the last token.
-    fn step(&mut self, alloc: Global, rest: &[Point], to: u32, atoms: &mut Atoms) -> Result<usize, AllocError>
+    fn step(
+        &mut self,
+        alloc: Global,
+        rest: &[Point],
+        to: u32,
+        atoms: &mut Atoms,
+    ) -> Result<usize, AllocError>
         requires { length atoms.old < 2 ^ 32 - 1 }
         ensures value { IfOk result (Advances to rest.now self.old self.new atoms.old atoms.new) }
         ensures within { IfOk result (λ taken. taken ≤ length rest.now) }
@@ -179,7 +197,11 @@ impl Scanner {
                 self.after_line = self.after_line | blank.breaks;
                 Ok(blank.length)
             }
-            None => match token_at(rest, in_substitution(self.braces.as_slice()), &mut self.units)? {
+            None => match token_at(
+                rest,
+                in_substitution(self.braces.as_slice()),
+                &mut self.units,
+            )? {
                 Some(found) => {
                     let taken = self.take(alloc, found, rest, to, atoms)?;
                     Ok(taken)
@@ -193,7 +215,13 @@ impl Scanner {
     }
 
     /// Takes all tokens of a text.
-    fn run(&mut self, alloc: Global, text: &[Point], to: u32, atoms: &mut Atoms) -> Result<(), AllocError>
+    fn run(
+        &mut self,
+        alloc: Global,
+        text: &[Point],
+        to: u32,
+        atoms: &mut Atoms,
+    ) -> Result<(), AllocError>
         requires few { length text.now + length atoms.old < 2 ^ 32 - 1 }
         requires tokens { self.old.tokens.items ≡ [] }
         requires braces { self.old.braces.items ≡ [] }
@@ -213,7 +241,12 @@ impl Scanner {
 }
 
 /// The tokens of a text that ends at `to`.
-fn scan_text(alloc: Global, text: &[Point], to: u32, atoms: &mut Atoms) -> Result<Vec<Token>, AllocError>
+fn scan_text(
+    alloc: Global,
+    text: &[Point],
+    to: u32,
+    atoms: &mut Atoms,
+) -> Result<Vec<Token>, AllocError>
     requires { length text.now + length atoms.old < 2 ^ 32 - 1 }
     ensures stand { IfOk result (λ made. StandFor atoms.new made.items (tokens_within (suc (length text.now)) to [] false text.now)) }
     ensures gains { OnOk result (GainsOnly atoms.old atoms.new (tokens_within (suc (length text.now)) to [] false text.now)) }
@@ -254,7 +287,11 @@ fn passed_over(from: u32, text: &[Point]) -> usize
     ensures value { drop result text.now ≡ without_first_line from text.now }
     ensures within { result ≤ length text.now }
 {
-    if from == 0 { first_line_length(text) } else { 0 }
+    if from == 0 {
+        first_line_length(text)
+    } else {
+        0
+    }
 }
 
 /// The tokens of the part of a text between two offsets, read beginning with no open brace; the last is End or Bad.
@@ -262,7 +299,13 @@ fn passed_over(from: u32, text: &[Point]) -> usize
 /// The texts of names, words, strings and template parts are interned in `atoms`. Time is linear in the points of the
 /// part; memory is 32 bytes a token, a byte an open brace, the units of the longest text and what new texts take.
 /// After an error `atoms` may have more texts.
-pub fn scan(alloc: Global, points: &[Point], from: u32, to: u32, atoms: &mut Atoms) -> Result<Vec<Token>, AllocError>
+pub fn scan(
+    alloc: Global,
+    points: &[Point],
+    from: u32,
+    to: u32,
+    atoms: &mut Atoms,
+) -> Result<Vec<Token>, AllocError>
     requires in_order { AreInOrder points.now }
     requires few { length points.now + length atoms.old < 2 ^ 32 - 1 }
     ensures tokens { IfOk result (λ made. StandFor atoms.new made.items (tokens points.now from to)) }

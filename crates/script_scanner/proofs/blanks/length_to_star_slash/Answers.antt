@@ -6,7 +6,7 @@ use Rattle.script_scanner.proofs.blanks.length_to_star_slash.Goals as goal
 
 pub loop-at-preserved : goal.loop-at-preserved
 loop-at-preserved c = record {
-    within = omega arith;
-    so_far = star_more c.args.rest.now c.loop-at.at (omega arith)
-      (ap (λ ps. begins (0x2A ∷ 0x2F ∷ []) (map code_of ps)) (sym c.behind.ensures) ∙ sym c.begins.ensures ∙ c.if-begins.false) c.loop-at.invariant.so_far
-  }
+  within = omega arith;
+  so_far = star_more c.args.rest.now c.loop-at.at (omega arith)
+      (ap (λ ps. begins (0x2A ∷ 0x2F ∷ []) (map code_of ps)) (sym c.behind.ensures) ∙ sym c.begins.ensures ∙ c.if-begins.false) c.loop-at.invariant.so_far;
+}

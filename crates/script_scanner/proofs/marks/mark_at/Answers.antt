@@ -13,15 +13,15 @@ returns-in-None c =
     let empty : [] ≡ c.args.rest.now = sym (nil_from_length c.args.rest.now c.in-None.ensures.cases) in
     record {
       value = no_mark_at_end ∙ ap (λ (ps : List Point). option_map sign_of (mark_at (map code_of ps))) empty;
-      within = tt
+      within = tt;
     }
 
 pub returns-in-Some : goal.returns-in-Some
 returns-in-Some c =
     let found : c.mark_with.result ≡ option_map sign_of (mark_at (map code_of c.args.rest.now)) =
-          c.mark_with.ensures ∙ sym (mark_by_first c.in-Some.first.now.code (map code_of c.in-Some.others.now))
-          ∙ ap (λ (ps : List Point). option_map sign_of (mark_at (map code_of ps))) (sym c.in-Some.ensures.cases.0) in
+    c.mark_with.ensures ∙ sym (mark_by_first c.in-Some.first.now.code (map code_of c.in-Some.others.now))
+    ∙ ap (λ (ps : List Point). option_map sign_of (mark_at (map code_of ps))) (sym c.in-Some.ensures.cases.0) in
     record {
       value = found;
-      within = subst (λ (o : Option Sign). IfSome o (λ sign. (0 < sign.length) × (sign.length ≤ length c.args.rest.now))) (sym found) (mark_within c.args.rest.now)
+      within = subst (λ (o : Option Sign). IfSome o (λ sign. (0 < sign.length) × (sign.length ≤ length c.args.rest.now))) (sym found) (mark_within c.args.rest.now);
     }

@@ -10,4 +10,4 @@ count_before-requires-2 c = points_rise_behind c.args.points.now c.behind-others
 pub returns-clause-value : goal.returns-clause-value
 returns-clause-value c =
     part_is c.args.points.now c.behind-others.result.now c.front.result.now c.args.from c.args.to c.count_before.result c.count_before-2.result
-      c.behind-others.ensures c.front.ensures c.count_before.ensures.parted c.count_before-2.ensures.parted c.count_before.ensures.within
+    c.behind-others.ensures c.front.ensures c.count_before.ensures.parted c.count_before-2.ensures.parted c.count_before.ensures.within

@@ -47,3 +47,5 @@ pub mod StmtNext
 pub mod SoundStmts
 pub mod SoundLoops
 pub mod SoundSwitch
+pub mod Bracketed
+pub mod Partnered

@@ -2,18 +2,12 @@ mod CornerRows
 mod DepthRows
 pub mod Agrees
 pub mod Begins
-pub mod Local
-pub mod Tests
-pub mod Friendly
-pub mod Fitting
-pub mod Sound
-pub mod SoundNext
-pub mod Stands
 pub mod Complete
 pub mod Fitting
 pub mod Friendly
 pub mod Fronts
 pub mod Local
+pub mod LocalStmts
 pub mod Lone
 pub mod Refuse
 pub mod Rows
@@ -21,6 +15,7 @@ pub mod Sound
 pub mod SoundArrows
 pub mod SoundCalls
 pub mod SoundChains
+pub mod SoundEverything
 pub mod SoundFunctions
 pub mod SoundHeads
 pub mod SoundLevels
@@ -49,3 +44,13 @@ pub mod SoundLoops
 pub mod SoundSwitch
 pub mod Bracketed
 pub mod Partnered
+pub mod Completes
+pub mod Stops
+pub mod ExprFronts
+pub mod CompleteLoops
+pub mod StmtFronts
+pub mod CompleteStmts
+pub mod CompleteSimple
+pub mod LocalExprs
+pub mod LocalArrows
+pub mod Nested

@@ -52,6 +52,8 @@ use Rattle.pure_parser.proofs.Tests.{or_cases, or_left, or_right, bool_cases}
 use Rattle.pure_parser.proofs.SoundParts.{looser}
 use Rattle.script_grammar.specs.declared.token.Decl.TheVariants as decl
 use Rattle.pure_parser.specs.Parser.{deep}
+use Rattle.script_grammar.specs.Kinds.{is_end}
+use Rattle.script_grammar.specs.Script.{IsStatements, IsScript}
 use Rattle.pure_parser.proofs.SoundScripts.{valued_is, semi_written, semicolon}
 use Rattle.pure_parser.proofs.Fitting.{all_closing}
 use Rattle.pure_parser.proofs.Sound.{LeadsAt}
@@ -275,3 +277,23 @@ everything_sound m body b (suc room) d =
 -- everything, bodies read in place
 pub in_place_sound : (room d : ℕ) → SoundAll whole d (parser.everything parser.in_place room)
 in_place_sound room d = everything_sound whole parser.in_place (λ room2 e stmt s. reading_sound e stmt s) room d
+
+-- A script: its statements up to the End token.
+
+end_sound : {A : Type 0} (a : A) → SoundNext AtFront (λ w x n. (w ≡ []) × (x ≡ a)) (parser.end_of a)
+unfolding parser.end_of
+end_sound a = next_peek
+    (λ t. at_when (is_end t.kind)
+        (λ _. at_ret {a = a} t (refl, refl) (λ n f. (refl, refl)))
+        (λ _. next_at t (next_bad (record { end = []; of = a; starts = λ n f. f; is = λ n f. (refl, refl) }))))
+    (next_ret {a = a} (λ n. (refl, refl)))
+
+-- what a script reads are statements, in front of whatever may stand behind them; where it faults, some lexemes complete
+-- what was read before to such statements
+pub script_sound : (m : Bodies) (d : ℕ) (stmt : StmtCalls) → SoundStmts m d stmt → SoundNext AtFront (λ w x n. IsStatements m d w n x) (parser.script_of stmt)
+unfolding parser.script_of
+script_sound m d stmt s = next_bind (stmts_sound m d stmt s false) (λ w ss. next_map (λ v x n h r. subst (λ y. IsStatements m d (w ++ v) n y) (sym h.1) (subst (λ y. IsStatements m d (w ++ y) n (stmts_of ss)) (sym h.0) (subst (λ y. IsStatements m d y n (stmts_of ss)) (sym (append-nil w)) (record { proper = r.proper; fits = (subst (λ y. FitsNext (print_stmts m d (stmts_of ss)) w (first_of y n)) h.0 r.fits).is })))) (end_sound (stmts_of ss)))
+
+-- the parser of scripts, bodies read in place
+pub read_script_sound : (room : ℕ) → SoundNext AtFront (λ w x n. IsScript w n x) (parser.read_script room)
+read_script_sound room = script_sound whole 0 (parser.everything parser.in_place room).stmts (in_place_sound room 0).stmts

@@ -1,3 +1,4 @@
 pub mod Parser
 pub mod Exprs
 pub mod Stmts
+pub mod Follow

@@ -91,6 +91,7 @@ opens-some Middle c (b ∷ s) o h e = same (is_same b Template) e
     option_or : Option (List Bracket) → List Bracket
     option_or None = []
     option_or (Some x) = x
+
     same : (t : Bool) → (if t then Some (b ∷ s) else None) ≡ Some o → (first : Bracket) × ((rest : List Bracket) × (o ≡ first ∷ rest))
     same true g = (b, (s, ap option_or (sym g)))
     same false g = absurd (cc)
@@ -115,6 +116,7 @@ opens-not_balanced xs ys k b opened ys_balanced all_balanced = before (all_open 
       where
         some_ne : {c : Bracket} {r : List Bracket} → Some (c ∷ r) ≡ Some [] → ⊥
         some_ne h = cc
+
     before : (o : Option (List Bracket)) → all_open [] xs ≡ o → option_and_then (λ t. all_open t (k ∷ ys)) o ≡ Some [] → ⊥
     before None e g = cc
     before (Some s) e g = after s (next_open s (part_of k)) refl g

@@ -1,0 +1,156 @@
+-- The lexemes of a tree have their brackets matched: behind them the same brackets are open as before.
+use Rattle.std.proofs.Common.{◌≡◌, ℕ, zero, suc, ◌+◌, ◌≤◌, ◌<◌, List, [], ◌∷◌, ◌++◌, refl, sym, ap, ◌∙◌, subst, arith, append_assoc, append-nil, Bool, true, false, ◌&&◌, ◌||◌, nat_eq, Option, Some, None, if◌then◌else◌}
+use Rattle.std.proofs.lemmas.Bool.{eqb-true, ne_eqb, leb-true}
+use Rattle.script_grammar.specs.declared.token.Kind.{Kind}
+use Rattle.script_grammar.specs.declared.token.Kind.TheVariants as kind
+use Rattle.script_grammar.specs.declared.token.FuncForm.{FuncForm}
+use Rattle.script_grammar.specs.declared.token.Decl.{Decl}
+use Rattle.script_grammar.specs.declared.token.Decl.TheVariants as decl
+use Rattle.script_grammar.specs.declared.token.mark.TheConstants as mark
+use Rattle.script_grammar.specs.declared.token.word.TheConstants as word
+use Rattle.script_grammar.specs.Lexeme.{Lexeme}
+use Rattle.script_grammar.specs.Kinds.{is_any_word, is_prefix_op, is_update_op, is_assign_op, op_kind, op_level, mark_level, no_level, decl_word, is_arrow_form, between}
+use Rattle.script_grammar.specs.Tree.{Named, Expr, Exprs, no_exprs, more_exprs, MaybeExpr, no_expr, some_expr, MaybeArgs, no_args, some_args, Parts, no_parts, more_parts, Items, no_items, more_items, Operands, no_operands, more_operands, Tail, Tails, no_tails, more_tails, Key, Prop, Props, no_props, more_props, Function, function, Params, no_params, more_params, Body, Binds, no_binds, more_binds, Init, Each, Clauses, no_clauses, more_clauses, Stmt, Stmts, no_stmts, more_stmts, MaybeStmt, no_stmt, some_stmt}
+use Rattle.script_grammar.specs.Tree as tree
+use Rattle.script_grammar.specs.Pieces.{Bodies, whole, passed, Piece, At, Gap, Pass, Slot, Is, IsWanted, Ending, Exactly, AnyWord, Fits, Opener, paren, bracket, brace, template, open_behind, open_at_end, mark_opens, closed, closes, reopened, IsBalanced, glue, from, until, ending_at, comma_piece, semi_piece, mark_piece}
+use Rattle.script_grammar.specs.Print
+use Rattle.script_grammar.specs.Proper.{Proper, ProperExprs, ProperMaybe, ProperOption, ProperArgs, ProperParts, ProperItems, ProperOperands, ProperTails, ProperTail, ProperKey, ProperProp, ProperProps, ProperFunction, ProperParams, ProperBody, ProperBinds, ProperInit, ProperEach, ProperClauses, ProperStmts, ProperElse, ProperStmt, operands_level}
+use Rattle.pure_parser.proofs.Fitting.{fits_part, Parted}
+use Rattle.pure_parser.proofs.Tests.{false_true, or_cases, and_left, bool_cases}
+
+-- brackets that are open behind lexemes
+
+pub open_step : (os qs : List Opener) (t : Lexeme) (ts : List Lexeme) → open_behind t.kind os ≡ Some qs → open_at_end os (t ∷ ts) ≡ open_at_end qs ts
+open_step os qs t ts e = ap (λ o. elim o [ None ↦ None | Some x ↦ open_at_end x ts ]) e
+
+pub open_append : (u : List Lexeme) (os qs : List Opener) (v : List Lexeme) → open_at_end os u ≡ Some qs → open_at_end os (u ++ v) ≡ open_at_end qs v
+open_append [] os qs v e = ap (λ o. elim o [ None ↦ None | Some x ↦ open_at_end x v ]) e
+open_append (t ∷ u) os qs v e = past (open_behind t.kind os) (λ x. open_append u x qs v) e
+  where
+    past : (o : Option (List Opener)) → ((x : List Opener) → open_at_end x u ≡ Some qs → open_at_end x (u ++ v) ≡ open_at_end qs v) → (elim o [ None ↦ None | Some x ↦ open_at_end x u ]) ≡ Some qs → (elim o [ None ↦ None | Some x ↦ open_at_end x (u ++ v) ]) ≡ open_at_end qs v
+    past None h e = absurd (cc)
+    past (Some x) h e = h x e
+
+-- what matches on its own matches where more is open
+
+deeper_closed : (o : Opener) (ps qs os : List Opener) → closed o ps ≡ Some qs → closed o (ps ++ os) ≡ Some (qs ++ os)
+deeper_closed o [] qs os e = absurd (cc)
+deeper_closed o (p ∷ ps) qs os e = either (closes o p) e
+  where
+    either : (b : Bool) → (if b then Some ps else None) ≡ Some qs → (if b then Some (ps ++ os) else None) ≡ Some (qs ++ os)
+    either true e = ap (λ x. elim x [ None ↦ None | Some y ↦ Some (y ++ os) ]) e
+    either false e = absurd (cc)
+
+deeper_same : (ps qs os : List Opener) → ◌≡◌ {A = Option (List Opener)} (Some ps) (Some qs) → ◌≡◌ {A = Option (List Opener)} (Some (ps ++ os)) (Some (qs ++ os))
+deeper_same ps qs os e = ap (λ x. elim x [ None ↦ None | Some y ↦ Some (y ++ os) ]) e
+
+deeper_mark : (i : ℕ) (ps qs os : List Opener) (a b c d e f : Bool) → (if a then Some (paren ∷ ps) else if b then closed paren ps else if c then Some (bracket ∷ ps) else if d then closed bracket ps else if e then Some (brace ∷ ps) else if f then closed brace ps else Some ps) ≡ Some qs → (if a then Some (paren ∷ (ps ++ os)) else if b then closed paren (ps ++ os) else if c then Some (bracket ∷ (ps ++ os)) else if d then closed bracket (ps ++ os) else if e then Some (brace ∷ (ps ++ os)) else if f then closed brace (ps ++ os) else Some (ps ++ os)) ≡ Some (qs ++ os)
+deeper_mark i ps qs os true b c d e f h = deeper_same (paren ∷ ps) qs os h
+deeper_mark i ps qs os false true c d e f h = deeper_closed paren ps qs os h
+deeper_mark i ps qs os false false true d e f h = deeper_same (bracket ∷ ps) qs os h
+deeper_mark i ps qs os false false false true e f h = deeper_closed bracket ps qs os h
+deeper_mark i ps qs os false false false false true f h = deeper_same (brace ∷ ps) qs os h
+deeper_mark i ps qs os false false false false false true h = deeper_closed brace ps qs os h
+deeper_mark i ps qs os false false false false false false h = deeper_same ps qs os h
+
+deeper_reopened : (ps qs os : List Opener) (x y : Option (List Opener)) → ((zs : List Opener) → x ≡ Some zs → y ≡ Some (zs ++ os)) → reopened ps x ≡ Some qs → reopened (ps ++ os) y ≡ Some (qs ++ os)
+deeper_reopened ps qs os None y h e = absurd (cc)
+deeper_reopened ps qs os (Some zs) y h e = ap (λ z. reopened (ps ++ os) z) (h zs refl) ∙ deeper_same ps qs os e
+
+deeper_behind : (k : Kind) (ps qs os : List Opener) → open_behind k ps ≡ Some qs → open_behind k (ps ++ os) ≡ Some (qs ++ os)
+deeper_behind (kind.Mark i) ps qs os e = deeper_mark i ps qs os (nat_eq i mark.OPEN_PAREN) (nat_eq i mark.CLOSE_PAREN) (nat_eq i mark.OPEN_BRACKET) (nat_eq i mark.CLOSE_BRACKET) (nat_eq i mark.OPEN_BRACE) (nat_eq i mark.CLOSE_BRACE) e
+deeper_behind kind.TemplateHead ps qs os e = deeper_same (template ∷ ps) qs os e
+deeper_behind kind.TemplateMiddle ps qs os e = deeper_reopened ps qs os (closed template ps) (closed template (ps ++ os)) (λ zs h. deeper_closed template ps zs os h) e
+deeper_behind kind.TemplateTail ps qs os e = deeper_closed template ps qs os e
+deeper_behind kind.Bad ps qs os e = absurd (cc)
+deeper_behind kind.End ps qs os e = absurd (cc)
+deeper_behind kind.Name ps qs os e = deeper_same ps qs os e
+deeper_behind kind.Number ps qs os e = deeper_same ps qs os e
+deeper_behind kind.Str ps qs os e = deeper_same ps qs os e
+deeper_behind kind.TemplateWhole ps qs os e = deeper_same ps qs os e
+deeper_behind (kind.Word i) ps qs os e = deeper_same ps qs os e
+
+deeper : (u : List Lexeme) (ps qs os : List Opener) → open_at_end ps u ≡ Some qs → open_at_end (ps ++ os) u ≡ Some (qs ++ os)
+deeper [] ps qs os e = deeper_same ps qs os e
+deeper (t ∷ u) ps qs os e = past (open_behind t.kind ps) refl (λ x. deeper u x qs os) e
+  where
+    past : (o : Option (List Opener)) → open_behind t.kind ps ≡ o → ((x : List Opener) → open_at_end x u ≡ Some qs → open_at_end (x ++ os) u ≡ Some (qs ++ os)) → (elim o [ None ↦ None | Some x ↦ open_at_end x u ]) ≡ Some qs → open_at_end (ps ++ os) (t ∷ u) ≡ Some (qs ++ os)
+    past None k h e = absurd (cc)
+    past (Some x) k h e = open_step (ps ++ os) (x ++ os) t u (deeper_behind t.kind ps x os k) ∙ h x e
+
+pub balanced_open : (u : List Lexeme) (os : List Opener) → IsBalanced u → open_at_end os u ≡ Some os
+balanced_open u os h = deeper u [] [] os h
+
+-- places whose lexemes match
+
+pub record Nested (ps : List Piece) : Type 0 where
+  pub at : (w : List Lexeme) (n : Lexeme) → Fits ps w n → (os : List Opener) → open_at_end os w ≡ Some os
+
+nested_none : Nested []
+nested_none = record { at = none }
+  where
+    none : (w : List Lexeme) (n : Lexeme) → Fits [] w n → (os : List Opener) → open_at_end os w ≡ Some os
+    none [] n h os = refl
+    none (t ∷ w) n h os = absurd h
+
+nested_append : {a b : List Piece} → Nested a → Nested b → Nested (a ++ b)
+nested_append {a = a} {b = b} x y = record { at = λ w n h os. let p = fits_part a b w n h in ap (λ z. open_at_end os z) p.split ∙ open_append p.front os os p.back (x.at p.front _ p.first os) ∙ y.at p.back n p.second os }
+
+nested_same : {a b : List Piece} → a ≡ b → Nested a → Nested b
+nested_same e x = subst Nested e x
+
+-- a lexeme that is no bracket
+abbrev Neutral : Kind → Type 0
+Neutral k = (os : List Opener) → open_behind k os ≡ Some os
+
+nested_slot : (s : Slot) (rest : List Piece) → ((t : Lexeme) → Is s t → Neutral t.kind) → Nested rest → Nested (At s ∷ rest)
+nested_slot s rest k x = record { at = slot_at }
+  where
+    slot_at : (w : List Lexeme) (n : Lexeme) → Fits (At s ∷ rest) w n → (os : List Opener) → open_at_end os w ≡ Some os
+    slot_at [] n h os = absurd h
+    slot_at (t ∷ w) n h os = open_step os os t w (k t h.0 os) ∙ x.at w n h.1 os
+
+nested_cons : (s : Slot) (rest : List Piece) (k : Kind) → s.kind ≡ Exactly k → Neutral k → Nested rest → Nested (At s ∷ rest)
+nested_cons s rest k e h x = nested_slot s rest (λ t i. subst Neutral (sym (subst (λ y. IsWanted y t.kind) e i.kind)) h) x
+
+any_neutral : (k : Kind) → is_any_word k ≡ true → Neutral k
+any_neutral kind.Name e = λ os. refl
+any_neutral (kind.Word i) e = λ os. refl
+any_neutral kind.Number e = absurd (false_true e)
+any_neutral kind.Str e = absurd (false_true e)
+any_neutral kind.TemplateWhole e = absurd (false_true e)
+any_neutral kind.TemplateHead e = absurd (false_true e)
+any_neutral kind.TemplateMiddle e = absurd (false_true e)
+any_neutral kind.TemplateTail e = absurd (false_true e)
+any_neutral (kind.Mark i) e = absurd (false_true e)
+any_neutral kind.Bad e = absurd (false_true e)
+any_neutral kind.End e = absurd (false_true e)
+
+nested_any : (s : Slot) (rest : List Piece) → s.kind ≡ AnyWord → Nested rest → Nested (At s ∷ rest)
+nested_any s rest e x = nested_slot s rest (λ t i. any_neutral t.kind (subst (λ y. IsWanted y t.kind) e i.kind)) x
+
+nested_gap : (e : Ending) (rest : List Piece) → Nested rest → Nested (Gap e ∷ rest)
+nested_gap e rest x = record { at = gap_at }
+  where
+    gap_at : (w : List Lexeme) (n : Lexeme) → Fits (Gap e ∷ rest) w n → (os : List Opener) → open_at_end os w ≡ Some os
+    gap_at [] n h os = x.at [] n h.1 os
+    gap_at (t ∷ w) n h os = x.at (t ∷ w) n h.1 os
+
+nested_pass : Nested (Pass ∷ [])
+nested_pass = record { at = λ w n h os. ap (λ z. open_at_end os z) h.2 ∙ open_append h.0 os os h.1 (balanced_open h.0 os h.3) ∙ nested_none.at h.1 n h.4 os }
+
+-- what stands between two brackets, and behind them
+nested_group : (s c : Slot) (inner rest : List Piece) (j k : Kind) (o : Opener) → s.kind ≡ Exactly j → c.kind ≡ Exactly k → ((os : List Opener) → open_behind j os ≡ Some (o ∷ os)) → ((os : List Opener) → open_behind k (o ∷ os) ≡ Some os) → Nested inner → Nested rest → Nested (At s ∷ (inner ++ (At c ∷ rest)))
+nested_group s c inner rest j k o e f h g x y = record { at = group_at }
+  where
+    close_at : (w : List Lexeme) (n : Lexeme) → Fits (At c ∷ rest) w n → (os : List Opener) → open_at_end (o ∷ os) w ≡ Some os
+    close_at [] n h os = absurd h
+    close_at (t ∷ w) n h os = open_step (o ∷ os) os t w (ap (λ z. open_behind z (o ∷ os)) (subst (λ z. IsWanted z t.kind) f h.0.kind) ∙ g os) ∙ y.at w n h.1 os
+    group_at : (w : List Lexeme) (n : Lexeme) → Fits (At s ∷ (inner ++ (At c ∷ rest))) w n → (os : List Opener) → open_at_end os w ≡ Some os
+    group_at [] n i os = absurd i
+    group_at (t ∷ w) n i os =
+        let p = fits_part inner (At c ∷ rest) w n i.1 in
+        open_step os (o ∷ os) t w (ap (λ z. open_behind z os) (subst (λ z. IsWanted z t.kind) e i.0.kind) ∙ h os)
+        ∙ ap (λ z. open_at_end (o ∷ os) z) p.split
+        ∙ open_append p.front (o ∷ os) (o ∷ os) p.back (x.at p.front _ p.first (o ∷ os))
+        ∙ close_at p.back n p.second os

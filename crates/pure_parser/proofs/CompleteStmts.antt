@@ -71,6 +71,14 @@ colon_word i t e = ap (is_mark mark.COLON) e
 pub named_is : (n : Named) (d : ℕ) (t : Lexeme) → t.text ≡ n.text → t.start ≡ n.at → named t ≡ n
 named_is n d t e h = ap (λ x. record { text = x; at = t.start }) e ∙ ap (λ x. record { text = n.text; at = x }) h
 
+abbrev pub list_of : Stmts → List Stmt
+list_of no_stmts = []
+list_of (more_stmts s ss) = s ∷ list_of ss
+
+pub of_list : (ss : Stmts) → stmts_of (list_of ss) ≡ ss
+of_list no_stmts = refl
+of_list (more_stmts s ss) = ap (more_stmts s) (of_list ss)
+
 module _ (limit : ℕ) (m : Bodies) (d : ℕ) (low : d ≤ limit) where
   -- a semicolon
 
@@ -108,14 +116,6 @@ module _ (limit : ℕ) (m : Bodies) (d : ℕ) (low : d ≤ limit) where
   name_complete n = c_at limit (λ t. ret (named t)) low (λ t ts s. name_here t ts s.kind) (λ t s. c_value (named_is n d t s.content s.starts.0) (c_ret limit (named t)))
 
   -- lists of statements
-
-  abbrev pub list_of : Stmts → List Stmt
-  list_of no_stmts = []
-  list_of (more_stmts s ss) = s ∷ list_of ss
-
-  pub of_list : (ss : Stmts) → stmts_of (list_of ss) ≡ ss
-  of_list no_stmts = refl
-  of_list (more_stmts s ss) = ap (more_stmts s) (of_list ss)
 
   flat_stmts : (ss : Stmts) → flat (λ s. print_stmt m (suc d) s) (list_of ss) ++ [] ≡ print_stmts m d ss
   flat_stmts no_stmts = refl

@@ -58,12 +58,12 @@ put_twice rs qs (Read a ps us) = ap (λ x. Read a x us) (append_assoc rs qs ps)
 put_twice rs qs (Bad ps us) = ap (λ x. Bad x us) (append_assoc rs qs ps)
 put_twice rs qs (Deep ps us) = ap (λ x. Deep x us) (append_assoc rs qs ps)
 
-noted_twice : {A : Type 0} (rs qs : List Recorded) (r : Reply A) → noted (rs ++ qs) r ≡ noted rs (noted qs r)
+pub noted_twice : {A : Type 0} (rs qs : List Recorded) (r : Reply A) → noted (rs ++ qs) r ≡ noted rs (noted qs r)
 noted_twice [] qs r = refl
 noted_twice (b ∷ rs) [] r = ap (λ x. put_before x r) (append-nil (b ∷ rs))
 noted_twice (b ∷ rs) (c ∷ qs) r = put_twice (b ∷ rs) (c ∷ qs) r
 
-after_noted : {B C : Type 0} (rs : List Recorded) (r : Reply B) (g : B → Parser C) → after (noted rs r) g ≡ noted rs (after r g)
+pub after_noted : {B C : Type 0} (rs : List Recorded) (r : Reply B) (g : B → Parser C) → after (noted rs r) g ≡ noted rs (after r g)
 after_noted [] r g = refl
 after_noted (b ∷ rs) (Read a qs us) g = noted_twice (b ∷ rs) qs (g a us)
 after_noted (b ∷ rs) (Bad qs us) g = refl

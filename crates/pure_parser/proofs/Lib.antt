@@ -49,3 +49,4 @@ pub mod StmtFronts
 pub mod StmtNext
 pub mod Stops
 pub mod Tests
+pub mod CompleteItems

@@ -39,3 +39,4 @@ pub mod Nested
 pub mod NestedTrees
 pub mod LocalRace
 pub mod LocalHeads
+pub mod LocalCalls

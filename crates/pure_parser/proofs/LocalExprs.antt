@@ -478,9 +478,12 @@ module _ (v : Env) (l : LocalEnv v) where
   unfolding Exprs.or_from
   or_local w e = local_bind (operands_local w 9 (Exprs.level_of v w 8 false) (level_local w 8 (omega arith) false) (omega arith) e) (operands_local w 10 (Exprs.level_of v w 9 false) (level_local w 9 (omega arith) false) (omega arith))
 
+  pub short_behind_local : (w : Bool) (e : Expr) → Local (peek (λ t. when (is_op w Exprs.coalesce_level t.kind) (Exprs.operands_from w Exprs.coalesce_level (Exprs.level_of v w Exprs.bit_or_level false) e) (Exprs.or_from v w e)))
+  short_behind_local w e = local_peek (λ t. local_when (is_op w 11 t.kind) (operands_local w 11 (Exprs.level_of v w 8 false) (level_local w 8 (omega arith) false) (omega arith) e) (or_local w e))
+
   pub short_circuit_local : (w heads : Bool) → Local (Exprs.short_circuit v w heads)
   unfolding Exprs.short_circuit
-  short_circuit_local w heads = local_bind (level_local w 8 (omega arith) heads) (λ e. local_peek (λ t. local_when (is_op w 11 t.kind) (operands_local w 11 (Exprs.level_of v w 8 false) (level_local w 8 (omega arith) false) (omega arith) e) (or_local w e)))
+  short_circuit_local w heads = local_bind (level_local w 8 (omega arith) heads) (short_behind_local w)
 
   -- conditionals and assignments
 

@@ -259,3 +259,57 @@ module _ (m : Bodies) (body : ℕ → BodyParser) (b : (room d : ℕ) → SoundB
         body = h zero;
         name = λ t e. deep_end (λ q. no_room_name (AnAssign true) t q (begins_name (AnAssign true) t (inl refl) e)) (λ q. no_room_name AParam t q (begins_name AParam t (inr refl) e)) };
       pair = λ q t u us k. let e = ap is_name (form_name t u k) in pair_deep [] (t ∷ u ∷ us) (no_room_name (AnAssign true) t (u ∷ us) (begins_name (AnAssign true) t (inl refl) e)) (no_room_name AParam t (u ∷ (us ++ q)) (begins_name AParam t (inr refl) e)) }
+
+  name_eats : Eats name_of
+  unfolding name_of
+  name_eats = eats_peek (λ t. when (is_name t.kind) (step (ret (named t))) bad) tt (λ t ts. ate_when (step (ret (named t))) bad (is_name t.kind) t ts (ate_step (ret (named t)) (local_ret (named t)) t ts) tt)
+
+  param_eats : (v : Env) → LocalEnv v → Eats (Exprs.arrow_param v)
+  unfolding Exprs.arrow_param Exprs.param_of
+  param_eats v l = eats_bind name_eats (λ n. local_bind (initializer_local v l) (λ o. local_ret (param n o)))
+
+  rest_eats : Eats Exprs.arrow_rest
+  unfolding Exprs.arrow_rest
+  rest_eats = eats_peek (λ t. when (is_mark mark.ELLIPSIS t.kind) (step name_of) bad) tt (λ t ts. ate_when (step name_of) bad (is_mark mark.ELLIPSIS t.kind) t ts (ate_step name_of name_of_local t ts) tt)
+
+  param_left : (v : Env) (l : LocalEnv v) (t : Lexeme) (q : List Lexeme) → is_name t.kind ≡ true → length (left (Exprs.arrow_param v (t ∷ q))) ≤ length q
+  param_left v l t q e = omega (arith, ap (λ r. length (left r)) (param_first v l [] t q (name_known t.kind e)), after_shorter (λ o. ret (param (named t) o)) (λ o. local_ret (param (named t) o)) (Exprs.initializer_of v q), (initializer_local v l).shorter q)
+
+  call_local : (room : ℕ) → LocalRoom (env_at room) → (c : Call) → Local (calls body (suc room) c)
+  unfolding calls
+  call_local room r (AnAssign w) = assign_local (env_at room) r.env m 0 (sound_at room) r.pair w
+  call_local room r APrefix = prefix_local (env_at room) r.env
+  call_local room r ANew = new_local (env_at room) r.env
+  call_local room r AParam = arrow_param_local (env_at room) r.env
+  call_local room r ARest = arrow_rest_local
+
+  call_eats : (room : ℕ) → LocalRoom (env_at room) → (c : Call) → Eats (calls body (suc room) c)
+  unfolding calls
+  call_eats room r (AnAssign w) = eats_front ((calls_sound m body b (suc room) 0).assign w)
+  call_eats room r APrefix = eats_front ((calls_sound m body b (suc room) 0).prefix)
+  call_eats room r ANew = eats_front ((calls_sound m body b (suc room) 0).new)
+  call_eats room r AParam = param_eats (env_at room) r.env
+  call_eats room r ARest = rest_eats
+
+  call_name : (room : ℕ) → LocalRoom (env_at room) → (t : Lexeme) → is_name t.kind ≡ true → NameEnd (env_at (suc room)) t
+  unfolding calls
+  call_name room r t e = read_end (assign_end (env_at room) true t e) (λ q. param_left (env_at room) r.env t q e)
+
+  call_pairs : (room : ℕ) → LocalRoom (env_at room) → (q : List Lexeme) (t u : Lexeme) (us : List Lexeme) → is_param_form t u ≡ true → Pair q (calls body (suc room) (AnAssign true) (t ∷ u ∷ us)) (calls body (suc room) AParam (t ∷ u ∷ (us ++ q)))
+  unfolding calls
+  call_pairs room r q t u us k = call_pair (env_at room) r.env q t u us k
+
+  pub local_room : (room : ℕ) → LocalRoom (env_at room)
+  local_room zero = no_room_env
+  local_room (suc room) =
+      let r = local_room room in
+      record {
+        env = record { at = call_local room r; eats = call_eats room r; body = h (suc room); name = call_name room r };
+        pair = call_pairs room r }
+
+  -- the calls look at nothing behind the place where they stop, and each reads a lexeme
+  pub calls_local : (room : ℕ) (c : Call) → Local (calls body room c)
+  calls_local room c = (local_room room).env.at c
+
+  pub calls_eat : (room : ℕ) (c : Call) → Eats (calls body room c)
+  calls_eat room c = (local_room room).env.eats c

@@ -55,12 +55,12 @@ put_twice rs qs (Read a ps us) = ap (λ x. Read a x us) (append_assoc rs qs ps)
 put_twice rs qs (Bad ps us) = ap (λ x. Bad x us) (append_assoc rs qs ps)
 put_twice rs qs (Deep ps us) = ap (λ x. Deep x us) (append_assoc rs qs ps)
 
-noted_twice : {A : Type 0} (rs qs : List Recorded) (r : Reply A) → noted (rs ++ qs) r ≡ noted rs (noted qs r)
+pub noted_twice : {A : Type 0} (rs qs : List Recorded) (r : Reply A) → noted (rs ++ qs) r ≡ noted rs (noted qs r)
 noted_twice [] qs r = refl
 noted_twice (b ∷ rs) [] r = ap (λ x. put_before x r) (append-nil (b ∷ rs))
 noted_twice (b ∷ rs) (c ∷ qs) r = put_twice (b ∷ rs) (c ∷ qs) r
 
-after_noted : {B C : Type 0} (rs : List Recorded) (r : Reply B) (g : B → Parser C) → after (noted rs r) g ≡ noted rs (after r g)
+pub after_noted : {B C : Type 0} (rs : List Recorded) (r : Reply B) (g : B → Parser C) → after (noted rs r) g ≡ noted rs (after r g)
 after_noted [] r g = refl
 after_noted (b ∷ rs) (Read a qs us) g = noted_twice (b ∷ rs) qs (g a us)
 after_noted (b ∷ rs) (Bad qs us) g = refl
@@ -475,9 +475,12 @@ module _ (v : Env) (l : LocalEnv v) where
   unfolding Exprs.or_from
   or_local w e = local_bind (operands_local w 9 (Exprs.level_of v w 8 false) (level_local w 8 (omega arith) false) (omega arith) e) (operands_local w 10 (Exprs.level_of v w 9 false) (level_local w 9 (omega arith) false) (omega arith))
 
+  pub short_behind_local : (w : Bool) (e : Expr) → Local (peek (λ t. when (is_op w Exprs.coalesce_level t.kind) (Exprs.operands_from w Exprs.coalesce_level (Exprs.level_of v w Exprs.bit_or_level false) e) (Exprs.or_from v w e)))
+  short_behind_local w e = local_peek (λ t. local_when (is_op w 11 t.kind) (operands_local w 11 (Exprs.level_of v w 8 false) (level_local w 8 (omega arith) false) (omega arith) e) (or_local w e))
+
   pub short_circuit_local : (w heads : Bool) → Local (Exprs.short_circuit v w heads)
   unfolding Exprs.short_circuit
-  short_circuit_local w heads = local_bind (level_local w 8 (omega arith) heads) (λ e. local_peek (λ t. local_when (is_op w 11 t.kind) (operands_local w 11 (Exprs.level_of v w 8 false) (level_local w 8 (omega arith) false) (omega arith) e) (or_local w e)))
+  short_circuit_local w heads = local_bind (level_local w 8 (omega arith) heads) (short_behind_local w)
 
   -- conditionals and assignments
 

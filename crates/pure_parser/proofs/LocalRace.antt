@@ -110,11 +110,11 @@ pub data Close {A B : Type 0} (q : List Lexeme) (r : Reply A) (s : Reply B) : Ty
   close_bad : (rs : List Recorded) (us : List Lexeme) → r ≡ Bad rs us → s ≡ Bad (grown_records q rs) (us ++ q) → Close q r s
   close_deep : (rs : List Recorded) (us : List Lexeme) → r ≡ Deep rs us → s ≡ Deep (grown_records q rs) (us ++ q) → Close q r s
 
-expect_close : (c : Lexeme) (us : List Lexeme) → is_mark mark.CLOSE_PAREN c.kind ≡ true → expect mark.CLOSE_PAREN (c ∷ us) ≡ Read tt [] us
+pub expect_close : (c : Lexeme) (us : List Lexeme) → is_mark mark.CLOSE_PAREN c.kind ≡ true → expect mark.CLOSE_PAREN (c ∷ us) ≡ Read tt [] us
 unfolding expect
 expect_close c us e = ap (λ b. when b (step (ret tt)) bad (c ∷ us)) e
 
-expect_stuck : (y : Lexeme) (us : List Lexeme) → is_mark mark.CLOSE_PAREN y.kind ≡ false → expect mark.CLOSE_PAREN (y ∷ us) ≡ Bad [] (y ∷ us)
+pub expect_stuck : (y : Lexeme) (us : List Lexeme) → is_mark mark.CLOSE_PAREN y.kind ≡ false → expect mark.CLOSE_PAREN (y ∷ us) ≡ Bad [] (y ∷ us)
 unfolding expect
 expect_stuck y us e = ap (λ b. when b (step (ret tt)) bad (y ∷ us)) e
 

@@ -88,7 +88,7 @@ mutual
   nested_expr m d (tree.Assign op target value) p = nested_append (nested_expr m d target p.2) (mark_cons op d _ (between_six mark.ASSIGN mark.BIT_XOR_ASSIGN op (omega arith) p.0) (nested_expr m (suc d) value p.4))
   nested_expr m d (tree.Comma items) p = nested_list m (Print.above d) items p.1
 
-  nested_list : (m : Bodies) (d : ℕ) (es : Exprs) → ProperExprs m es → Nested (Print.print_list m d es)
+  pub nested_list : (m : Bodies) (d : ℕ) (es : Exprs) → ProperExprs m es → Nested (Print.print_list m d es)
   nested_list m d no_exprs p = nested_none
   nested_list m d (more_exprs e es) p = nested_append (nested_expr m (suc d) e p.1) (nested_more m d es p.2)
 

@@ -52,3 +52,4 @@ pub mod StmtFronts
 pub mod StmtNext
 pub mod Stops
 pub mod Tests
+pub mod CompleteParams

@@ -53,3 +53,4 @@ pub mod StmtNext
 pub mod Stops
 pub mod Tests
 pub mod CompleteParams
+pub mod CompleteFunctions

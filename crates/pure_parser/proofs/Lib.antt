@@ -54,3 +54,4 @@ pub mod Stops
 pub mod Tests
 pub mod CompleteParams
 pub mod CompleteFunctions
+pub mod CompleteObjects

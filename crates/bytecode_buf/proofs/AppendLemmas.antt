@@ -15,7 +15,7 @@ use Rattle.bytecode_buf.specs.Layout.{Numbered, Fits, laid, distance_bits}
 use Rattle.bytecode_buf.specs.Command.{Command, command_of, operand_of, jump, Distance, Operand}
 use Rattle.bytecode_buf.specs.Pieces.{Piece, Whole, Waiting, Trying, Code, width_by, size_by, size, landed_by, landing, notes_by, note_of, same_aim, turning, command_width}
 use Rattle.bytecode_buf.specs.Appends.{Appends, Emitted, PieceFits, PiecesFit, numbered, numbered_width, piece_instruction, piece_of, laid_pieces, waits_of, wait_of, patched, patched_one, kept, kept_one, AllRoom}
-use Rattle.bytecode_buf.specs.Emits.{Lands, LandsHere}
+use Rattle.bytecode_buf.specs.Emits.{Lands, LandsHere, Emits, emitted}
 use Rattle.bytecode_buf.proofs.Bytes.{written-seam}
 use Rattle.bytecode_buf.proofs.ReadBack.{length-laid}
 
@@ -386,3 +386,41 @@ pub appends_turn_at : (texts : List (List ℕ)) (old : Emitted) (bytes made new 
 appends_turn_at texts old bytes made new ws ns code op start at is_one place some is_at is patch x =
     appends_turn texts old bytes new ws ns code op start is_one place some
     (patched-last bytes made new op at (distance_bits at start) is_one is_at is patch ∙ ap (λ (k : ℕ). bytes ++ laid (numbered op (distance_bits k start))) is_at) x
+
+-- ---- code in which no jump waits
+
+pub emits_none : (texts : List (List ℕ)) (now : List ℕ) → Emits texts now now []
+emits_none texts now = record { anywhere = λ waits notes. appends_none texts (emitted now waits notes) }
+
+pub emits_both : {texts : List (List ℕ)} {old now new : List ℕ} {first second : Code} → Emits texts old now first → Emits texts now new second → Emits texts old new (first ++ second)
+emits_both x y = record { anywhere = λ waits notes. appends_both (x.anywhere waits notes) (y.anywhere waits notes) }
+
+pub emits_one : (texts : List (List ℕ)) (old new : List ℕ) (i : Numbered) → Fits i → new ≡ old ++ laid i → Emits texts old new (Whole (command_of texts i) ∷ [])
+emits_one texts old new i fits is = record { anywhere = λ waits notes. appends_one texts old new waits notes i fits is }
+
+-- bytes that no jump waits in stand for the code behind whatever waits
+pub emits_closed : (texts : List (List ℕ)) (old new : List ℕ) (waits_new : List Wait) (code : Code) → waits_new ≡ [] → ((notes : List TryNote) → Appends texts (emitted old [] notes) (emitted new waits_new notes) code) → Emits texts old new code
+emits_closed texts old new waits_new code none x = record { anywhere = λ waits notes. closed waits notes (x notes) }
+  where
+    closed : (waits : List Wait) (notes : List TryNote) → Appends texts (emitted old [] notes) (emitted new waits_new notes) code → Appends texts (emitted old waits notes) (emitted new waits notes) code
+    closed waits notes y = record {
+      pieces = y.pieces;
+      fit = y.fit;
+      bytes = y.bytes;
+      waits = sym (append-nil waits) ∙ ap (λ (l : List Wait). waits ++ l) (sym none ∙ y.waits);
+      notes = y.notes;
+      stands = y.stands;
+    }
+
+-- jumps that all wait for one aim
+abbrev pub AllAim : Aim → List Wait → Type 0
+AllAim aim [] = Unit {0}
+AllAim aim (w ∷ ws) = (same_aim aim w.aim ≡ true) × AllAim aim ws
+
+pub kept-all : (aim : Aim) (ws : List Wait) → AllAim aim ws → kept aim ws ≡ []
+kept-all aim [] all = refl
+kept-all aim (w ∷ ws) all = ap (λ (b : Bool). kept_one b w (kept aim ws)) all.0 ∙ kept-all aim ws all.1
+
+pub AllAim-append : (aim : Aim) (xs ys : List Wait) → AllAim aim xs → AllAim aim ys → AllAim aim (xs ++ ys)
+AllAim-append aim [] ys x y = y
+AllAim-append aim (w ∷ ws) ys x y = (x.0, AllAim-append aim ws ys x.1 y)

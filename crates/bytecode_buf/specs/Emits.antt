@@ -31,3 +31,7 @@ Waits op aim bytes waits bytes_new waits_new =
 abbrev pub TurnsBack : Op → ℕ → List ℕ → List ℕ → Type 0
 TurnsBack op start bytes bytes_new =
     (texts : List (List ℕ)) (old : Emitted) (waits : List Wait) (notes : List TryNote) (code : Code) → length old.bytes ≡ start → Appends texts old (emitted bytes waits notes) code → Appends texts old (emitted bytes_new waits notes) (turning op code)
+
+-- This code was appended; no jump waits in it, and it has no try note.
+pub record Emits (texts : List (List ℕ)) (old new : List ℕ) (code : Code) : Type 0 where
+  pub anywhere : (waits : List Wait) (notes : List TryNote) → Appends texts (emitted old waits notes) (emitted new waits notes) code

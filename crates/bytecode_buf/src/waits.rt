@@ -86,7 +86,8 @@ pub fn target(
     waits: &mut Vec<Wait>,
 ) -> Result<(), AllocError>
     requires { AllRoom (length out.old) inner.now }
-    ensures { OnOk result (LandsHere aim out.old inner.now waits.old.items out.new waits.new.items) }
+    ensures lands { OnOk result (LandsHere aim out.old inner.now waits.old.items out.new waits.new.items) }
+    ensures waits { OnOk result (waits.new.items ≡ waits.old.items ++ kept aim inner.now) }
 {
     land(out, inner, aim, waits)?;
     out.put(Op::JumpTarget, 0, 0)?;
@@ -96,7 +97,8 @@ pub fn target(
 /// Appends a jump that waits for this aim.
 pub fn jump_to(out: &mut CodeBuf, op: Op, aim: Aim, waits: &mut Vec<Wait>) -> Result<(), AllocError>
     requires { is_jump op ≡ true }
-    ensures { OnOk result (Waits op aim out.old waits.old.items out.new waits.new.items) }
+    ensures jumps { OnOk result (Waits op aim out.old waits.old.items out.new waits.new.items) }
+    ensures waits { OnOk result (waits.new.items ≡ waits.old.items ++ record { at = length out.old; aim = aim } ∷ []) }
 {
     let at = out.jump(op)?;
     waits.push(Wait { at, aim })?;

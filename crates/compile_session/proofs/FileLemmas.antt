@@ -1,75 +1,23 @@
 -- One file: what is printed is the text of its verdict, which is the only one.
-use Rattle.std.proofs.Common.{◌≡◌, ℕ, ◌+◌, ◌<◌, ◌≤◌, Bool, true, false, List, [], ◌∷◌, ◌++◌, length, Option, Some, None, Vec, map, cond, nat_eq, nat_le, refl, ap, sym, ◌∙◌, subst, append-nil, arith}
+use Rattle.std.proofs.Common.{◌≡◌, ℕ, ◌+◌, ◌<◌, ◌≤◌, Bool, true, false, List, [], ◌∷◌, ◌++◌, length, Option, Some, None, Vec, map, refl, ap, sym, ◌∙◌, subst, arith}
 use Rattle.std.specs.declared.alloc.Global.{Global}
 use Rattle.script_grammar.specs.declared.token.Token.{Token}
-use Rattle.script_grammar.specs.Tree.{Expr, Operands, no_operands, more_operands, Stmt, Stmts, no_stmts, more_stmts}
-use Rattle.script_grammar.specs.Tree as tree
-use Rattle.bytecode_buf.specs.declared.opcode.Op.TheVariants as op
-use Rattle.bytecode_buf.specs.Width.{is_jump, width_of}
+use Rattle.script_grammar.specs.Tree.{Stmts}
+use Rattle.bytecode_buf.specs.Width.{width_of}
 use Rattle.bytecode_buf.specs.Layout.{Numbered}
-use Rattle.bytecode_buf.specs.Command.{Command, plain, counted, named, command_of, command_at, listed_from, Listed}
+use Rattle.bytecode_buf.specs.Command.{Command, command_of, command_at, listed_from, Listed}
 use Rattle.outside.specs.Loops.{IsWholeWithin}
 use Rattle.compile_session.specs.declared.parser.Statement.{Statement}
 use Rattle.compile_session.specs.BuiltTokens.{tokens_of, seen_as}
-use Rattle.compile_session.specs.Built.{IsBuiltOperand, AreBuiltOperands, IsBuiltExpr, IsBuiltStmt, AreBuiltStmts, IsBuiltScript}
+use Rattle.compile_session.specs.Built.{IsBuiltScript}
 use Rattle.compile_session.specs.ReadBuilt.{read_stmts}
 use Rattle.compile_session.specs.Statements.{IsRead, seen, stmts_of}
-use Rattle.compile_session.specs.Code.{number_code, expr_code, operands_code, stmt_code, stmts_code, script_code}
+use Rattle.compile_session.specs.Code.{script_code}
 use Rattle.compile_session.specs.Emission.{Emits}
-use Rattle.compile_session.specs.Listing.{listing, ArePlain, AppendsListing}
+use Rattle.compile_session.specs.Listing.{listing, AppendsListing}
 use Rattle.compile_session.specs.Verdict.{Verdict, IsListed, IsTooLong, IsNotBuilt, IsVerdict, placed_from, head_text, file_text, most_bytes}
 use Rattle.compile_session.specs.Answers.{IsListing, Settles}
 use Rattle.compile_session.proofs.ScriptLemmas.{read-sound, read-complete}
-
--- No instruction of the built form is a jump.
-
-abbrev ArePlainCommands : List Command → Type 0
-ArePlainCommands [] = Unit {0}
-ArePlainCommands (c ∷ cs) = (is_jump c.op ≡ false) × ArePlainCommands cs
-
-plain_append : (xs ys : List Command) → ArePlainCommands xs → ArePlainCommands ys → ArePlainCommands (xs ++ ys)
-plain_append [] ys first second = second
-plain_append (x ∷ xs) ys first second = (first.0, plain_append xs ys first.1 second)
-
-plain_if : (b : Bool) (x y : Command) → is_jump x.op ≡ false → is_jump y.op ≡ false → is_jump (cond b x y).op ≡ false
-plain_if true x y first second = first
-plain_if false x y first second = second
-
-plain_number : (value : ℕ) → is_jump (number_code value).op ≡ false
-plain_number value =
-    plain_if (nat_eq value 0) _ _ refl (plain_if (nat_eq value 1) _ _ refl (plain_if (nat_le value 127) _ _ refl (plain_if (nat_le value 65535) _ _ refl
-    (plain_if (nat_le value 16777215) _ _ refl (plain_if (nat_le value 2147483647) (counted op.Int32 value) (counted op.Double value) refl refl)))))
-
-plain_operand : (e : Expr) → IsBuiltOperand e → ArePlainCommands (expr_code e)
-plain_operand (tree.Name name) built = (refl, tt)
-plain_operand (tree.Number at value) built = (plain_number value, tt)
-plain_operand _ built = absurd built
-
-plain_operands : (os : Operands) → AreBuiltOperands os → ArePlainCommands (operands_code os)
-plain_operands no_operands built = tt
-plain_operands (more_operands operator is_word value rest) built = plain_append (expr_code value) (plain op.Add ∷ operands_code rest) (plain_operand value built.2) (refl, plain_operands rest built.3)
-
-plain_expr : (e : Expr) → IsBuiltExpr e → ArePlainCommands (expr_code e)
-plain_expr (tree.Name name) built = (refl, tt)
-plain_expr (tree.Number at value) built = (plain_number value, tt)
-plain_expr (tree.Binary first rest) built = plain_append (expr_code first) (operands_code rest) (plain_operand first built.0) (plain_operands rest built.1)
-plain_expr _ built = absurd built
-
-plain_stmt : (s : Stmt) → IsBuiltStmt s → ArePlainCommands (stmt_code s)
-plain_stmt tree.Empty built = tt
-plain_stmt (tree.Value e semi) built = plain_append (expr_code e) (plain op.SetRval ∷ []) (plain_expr e built.1) (refl, tt)
-plain_stmt _ built = absurd built
-
-plain_stmts : (ss : Stmts) → AreBuiltStmts ss → ArePlainCommands (stmts_code ss)
-plain_stmts no_stmts built = tt
-plain_stmts (more_stmts s ss) built = plain_append (stmt_code s) (stmts_code ss) (plain_stmt s built.0) (plain_stmts ss built.1)
-
-plain_script : (ss : Stmts) → AreBuiltStmts ss → ArePlainCommands (script_code ss)
-plain_script ss built = (refl, plain_append (stmts_code ss) (plain op.RetRval ∷ []) (plain_stmts ss built) (refl, tt))
-
-plain_instructions : (texts : List (List ℕ)) (is : List Numbered) → ArePlainCommands (map (command_of texts) is) → ArePlain is
-plain_instructions texts [] plain = tt
-plain_instructions texts (i ∷ is) plain = (plain.0, plain_instructions texts is plain.1)
 
 -- listed instructions are their commands at their places
 listed_from-placed : (texts : List (List ℕ)) (is : List Numbered) (at : ℕ) → listed_from texts at is ≡ placed_from at (map (command_of texts) is)
@@ -83,15 +31,19 @@ is_listed name bytes texts tokens seen_tokens statements seen_statements code se
   where
     script : Stmts
     script = stmts_of texts statements
+
     built : IsBuiltScript (tokens_of bytes) script
     built = read-sound (tokens_of bytes) script (ap read_stmts (sym scanned) ∙ ap (λ (ts : List Token). read_stmts (seen texts ts)) (sym same_tokens) ∙ parsed)
+
     stands : map (command_of texts) emits.numbered ≡ script_code script
     stands = emits.stands texts ∙ ap (λ (ss : List Statement). script_code (stmts_of texts ss)) same_statements
+
     lines : listing (listed_from texts 0 emits.numbered) ≡ listing (placed_from 0 (script_code script))
     lines = ap listing (listed_from-placed texts emits.numbered 0) ∙ ap (λ (cs : List Command). listing (placed_from 0 cs)) stands
+
     printed : out ≡ file_text name bytes (IsListed script)
     printed =
-        appends emits.numbered emits.fit (plain_instructions texts emits.numbered (subst ArePlainCommands (sym stands) (plain_script script built.built))) (same_code ∙ emits.bytes)
+        appends emits.numbered emits.fit (same_code ∙ emits.bytes)
         ∙ ap (λ (l : List ℕ). l ++ listing (listed_from texts 0 emits.numbered)) is_head
         ∙ ap (λ (l : List ℕ). head_text name (length bytes) ++ l) lines
 
@@ -121,6 +73,7 @@ settles_long name text file read none whole printed = record { verdict = IsTooLo
   where
     long : most_bytes < length file
     long = let P : Option (Vec ℕ Global) → Type 0 = λ r. IsWholeWithin file most_bytes r in subst P none whole
+
     only : (other : Verdict) → IsVerdict 0 file other → other ≡ IsTooLong
     only (IsListed script) is = absurd (omega (arith, long, is.0))
     only IsTooLong is = refl
@@ -139,6 +92,7 @@ settles_not_built name text file seen_bytes read bytes listed is same is_listing
         let there : seen_bytes ≡ file = same ∙ (whole_of file read bytes is whole).0 in
         let Q : List ℕ → Type 0 = λ l. IsBuiltScript (tokens_of l) script in
         subst P none is_listing script (subst Q (sym there) built)
+
     only : (other : Verdict) → IsVerdict 0 file other → other ≡ IsNotBuilt
     only (IsListed script) v = absurd (never script v.1)
     only IsTooLong v = absurd (omega (arith, v, (whole_of file read bytes is whole).1))
@@ -149,19 +103,22 @@ settles_listed name file seen_bytes text read bytes listed is same is_listing so
   where
     P : Option (Vec ℕ Global) → Type 0
     P r = IsListing name seen_bytes r
+
     there : seen_bytes ≡ file
     there = same ∙ (whole_of file read bytes is whole).0
+
     settle : (script : Stmts) × IsBuiltScript (tokens_of seen_bytes) script × (text.items ≡ file_text name seen_bytes (IsListed script)) → Settles name file text.items false
     settle got = record {
       verdict = IsListed got.0;
       is = (omega (arith, (whole_of file read bytes is whole).1), built);
       printed = got.2 ∙ ap (λ (l : List ℕ). file_text name l (IsListed got.0)) there;
       refusal = refl;
-      only = only
+      only = only;
     }
       where
         built : IsBuiltScript (tokens_of file) got.0
         built = let Q : List ℕ → Type 0 = λ l. IsBuiltScript (tokens_of l) got.0 in subst Q there got.1
+
         only : (other : Verdict) → IsVerdict 0 file other → other ≡ IsListed got.0
         only (IsListed script) v = let first = read-complete (tokens_of file) script v.1 in let second = read-complete (tokens_of file) got.0 built in let e : Some script ≡ Some got.0 = sym first ∙ second in let same_script : script ≡ got.0 = cc in ap IsListed same_script
         only IsTooLong v = absurd (omega (arith, v, (whole_of file read bytes is whole).1))

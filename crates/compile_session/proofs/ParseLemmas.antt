@@ -1,5 +1,5 @@
 -- The parser of the built form reads what the functions of ReadBuilt read.
-use Rattle.std.proofs.Common.{◌≡◌, ℕ, ◌≤◌, ◌<◌, length, Bool, true, false, List, [], ◌∷◌, ◌++◌, Option, Some, None, option_map, map, refl, ap, sym, ◌∙◌}
+use Rattle.std.proofs.Common.{◌≡◌, ℕ, ◌≤◌, ◌<◌, length, false, List, [], ◌∷◌, ◌++◌, Option, Some, None, option_map, refl, ap, sym, ◌∙◌}
 use Rattle.script_grammar.specs.declared.token.mark.TheConstants as mark
 use Rattle.script_grammar.specs.declared.token.Token.{Token}
 use Rattle.script_grammar.specs.Lexeme.{Lexeme}
@@ -7,8 +7,6 @@ use Rattle.script_grammar.specs.Tree.{Expr, Operands, no_operands, more_operands
 use Rattle.script_grammar.specs.Tree as tree
 use Rattle.compile_session.specs.declared.parser.Operand.{Operand}
 use Rattle.compile_session.specs.declared.parser.Statement.{Statement}
-use Rattle.compile_session.specs.declared.parser.Part.{Part}
-use Rattle.compile_session.specs.declared.parser.Part.TheVariants as part
 use Rattle.compile_session.specs.BuiltTokens.{seen_as}
 use Rattle.compile_session.specs.Atoms.{AtomsFit}
 use Rattle.compile_session.specs.ReadBuilt as read
@@ -18,7 +16,7 @@ use Rattle.std.specs.Prelude.{Vec, IfSome}
 use Rattle.std.specs.declared.alloc.Global.{Global}
 use Rattle.std.proofs.Common.{subst, arith}
 use Rattle.compile_session.specs.declared.parser.Statement.TheVariants as statement
-use Rattle.compile_session.specs.Statements.{ReadsRest, ReadsSum, expr_of, part_seen, operands_before, operands_of, stmt_of, stmts_before, stmts_of, seen, rest_of, IsRead}
+use Rattle.compile_session.specs.Statements.{ReadsRest, ReadsSum, expr_of, operands_before, stmt_of, stmts_before, seen, rest_of}
 
 -- one operand more
 pub operands_before-last : (texts : List (List ℕ)) (os : List Operand) (o : Operand) (behind : Operands) → operands_before texts (os ++ o ∷ []) behind ≡ operands_before texts os (more_operands mark.PLUS false (expr_of texts o) behind)
@@ -95,7 +93,7 @@ pub IsReadingRest-more : (tokens left behind : List Token) (os os_now : List Ope
 IsReadingRest-more tokens left behind os os_now t o further reading is is_plus reads fit shorter is_now = record {
   goes = goes;
   fit = fit;
-  few = omega (arith, ap length is, reading.few)
+  few = omega (arith, ap length is, reading.few);
 }
   where
     goes : ReadsOn tokens os_now further
@@ -109,11 +107,12 @@ IsReadingRest-more tokens left behind os os_now t o further reading is is_plus r
 pub IsReadingStmts-empty : (tokens left behind : List Token) (ss ss_now : List Statement) (t : Token) → IsReadingStmts tokens ss left → left ≡ t ∷ behind → ((texts : List (List ℕ)) → part_of (seen_as texts t) ≡ read.semicolon) → ss_now ≡ ss ++ statement.Empty ∷ [] → IsReadingStmts tokens ss_now behind
 IsReadingStmts-empty tokens left behind ss ss_now t reading is is_semicolon is_now = record {
   goes = goes;
-  fit = fits.1
+  fit = fits.1;
 }
   where
     fits : AtomsFit (t ∷ behind)
     fits = subst AtomsFit is reading.fit
+
     goes : ReadsStmtsOn tokens ss_now behind
     goes texts =
         reading.goes texts
@@ -125,7 +124,7 @@ IsReadingStmts-empty tokens left behind ss ss_now t reading is is_semicolon is_n
 pub IsReadingStmts-sum : (tokens left behind : List Token) (ss ss_now : List Statement) (t : Token) (first : Operand) (s : Statement) (further : List Token) → IsReadingStmts tokens ss left → left ≡ t ∷ behind → ((texts : List (List ℕ)) → part_of (seen_as texts t) ≡ read.operand (expr_of texts first)) → ((texts : List (List ℕ)) → option_map (finished (expr_of texts first)) (read_rest (seen texts behind)) ≡ option_map (more_stmts (stmt_of texts s)) (read_stmts (seen texts further))) → AtomsFit further → ss_now ≡ ss ++ s ∷ [] → IsReadingStmts tokens ss_now further
 IsReadingStmts-sum tokens left behind ss ss_now t first s further reading is is_operand reads fit is_now = record {
   goes = goes;
-  fit = fit
+  fit = fit;
 }
   where
     goes : ReadsStmtsOn tokens ss_now further

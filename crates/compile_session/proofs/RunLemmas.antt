@@ -1,12 +1,12 @@
 -- The command: what the sink has taken is a front of the answer.
-use Rattle.std.proofs.Common.{◌≡◌, ℕ, ◌+◌, Bool, true, false, ◌||◌, List, [], ◌∷◌, ◌++◌, length, Option, Some, None, Vec, refl, ap, sym, ◌∙◌, subst, append-nil}
+use Rattle.std.proofs.Common.{◌≡◌, ℕ, Bool, true, false, ◌||◌, List, [], ◌∷◌, ◌++◌, Option, Some, None, Vec, refl, ap, sym, ◌∙◌, subst, append-nil}
 use Rattle.std.specs.declared.alloc.Global.{Global}
 use Rattle.outside.specs.Sink.{Gains, GainsFront}
 use Rattle.outside.specs.Loops.{ReadsNameWithin}
 use Rattle.compile_session.specs.declared.file.FileAnswer.{FileAnswer}
 use Rattle.compile_session.specs.declared.status.Status.{Status}
 use Rattle.compile_session.specs.Words.{files_of}
-use Rattle.compile_session.specs.Verdict.{Verdict, IsVerdict, IsOutput, IsAnswer, IsAnswerOf, is_refused, status_of, file_text, most_bytes}
+use Rattle.compile_session.specs.Verdict.{Verdict, IsVerdict, IsAnswer, IsAnswerOf, is_refused, status_of, file_text, most_bytes}
 use Rattle.compile_session.specs.Answers.{Settles, SettlesRead}
 
 -- the file's verdict, where the shelf tells what it holds

@@ -75,7 +75,7 @@ IsScanning-start bytes texts tokens no_texts no_tokens = record {
   fit = subst AtomsFit (sym no_tokens) tt;
   left = length bytes;
   room = omega arith;
-  goes = λ later. ap (λ (ts : List Token). map (seen_as (texts ++ later)) ts ++ tokens_of bytes) no_tokens
+  goes = λ later. ap (λ (ts : List Token). map (seen_as (texts ++ later)) ts ++ tokens_of bytes) no_tokens;
 }
 
 -- one more token, and those behind it
@@ -160,12 +160,16 @@ IsScanning-next bytes texts now tokens tokens_now t at skipped width rest text r
   where
     some : 0 < width_of f
     some = subst (λ (g : Found). 0 < width_of g) (sym is_found) (width_of-found text (let e : is_last (found text) ≡ false = cc in e))
+
     lengths : length rest_now + width ≡ length text
     lengths = omega (arith, ap length is_rest, length-drop width text, is_width, wide)
+
     text_length : length text + skipped ≡ length rest
     text_length = omega (arith, ap length is_text, length-drop skipped rest)
+
     stands : Stands now t (at + skipped) after_line text f
     stands = record { kind = is_kind; start = is_start; end = is_end ∙ ap (λ (n : ℕ). at + skipped + n) is_width; line = is_line; named = names.names; numbered = names.numbers }
+
     behind_is : (left : ℕ) → and_behind (is_last f) (tokens_within (suc left) (at + skipped + width_of f) (drop (width_of f) text)) ≡ tokens_within (suc left) (at + (skipped + width)) rest_now
     behind_is left =
         let not_last : is_last f ≡ false = cc in
@@ -174,11 +178,13 @@ IsScanning-next bytes texts now tokens tokens_now t at skipped width rest text r
         ap (λ (b : Bool). and_behind b (tokens_within (suc left) (at + skipped + width_of f) (drop (width_of f) text))) not_last
         ∙ ap (λ (n : ℕ). tokens_within (suc left) n (drop (width_of f) text)) place
         ∙ ap (λ (cs : List ℕ). tokens_within (suc left) (at + (skipped + width)) cs) there
+
     goes_now : (left : ℕ) → ((later : List (List ℕ)) → map (seen_as (texts ++ later)) tokens ++ tokens_within (suc (suc left)) at rest ≡ tokens_of bytes) → (later : List (List ℕ)) → map (seen_as (now ++ later)) tokens_now ++ tokens_within (suc left) (at + (skipped + width)) rest_now ≡ tokens_of bytes
     goes_now left goes later =
         let more = tokens-more bytes texts now names.added tokens t at skipped (suc left) rest text after_line f goes names.grows is_skipped is_after is_text is_found stands later in
         let behind : and_behind (is_last f) (tokens_within (suc left) (at + skipped + width_of f) (drop (width_of f) text)) ≡ tokens_within (suc left) (at + (skipped + width)) rest_now = behind_is left in
         ap (λ (ts : List Token). map (seen_as (now ++ later)) ts ++ tokens_within (suc left) (at + (skipped + width)) rest_now) is_tokens ∙ ap (λ (ts : List Lexeme). map (seen_as (now ++ later)) (tokens ++ t ∷ []) ++ ts) (sym behind) ∙ more
+
     next : (left : ℕ) → length rest ≤ left → ((later : List (List ℕ)) → map (seen_as (texts ++ later)) tokens ++ tokens_within (suc left) at rest ≡ tokens_of bytes) → IsScanning bytes now tokens_now (at + (skipped + width)) rest_now
     next zero room goes = absurd (omega (arith, some, lengths, text_length, is_width))
     next (suc left) room goes = record {
@@ -187,7 +193,7 @@ IsScanning-next bytes texts now tokens tokens_now t at skipped width rest text r
       fit = subst AtomsFit (sym is_tokens) (AtomsFit-more tokens t scanning.fit (subst (λ (k : Kind). AtomFits k t.value) (sym is_kind) names.fits));
       left = left;
       room = omega (arith, room, lengths, text_length, some, is_width);
-      goes = λ later. goes_now left goes later
+      goes = λ later. goes_now left goes later;
     }
 
 -- the last token

@@ -1,6 +1,6 @@
 -- What the functions of ReadBuilt read is what the grammar has: each script of the built form is read as its tree, and
 -- nothing else is read.
-use Rattle.std.proofs.Common.{◌≡◌, ℕ, suc, ◌≤◌, ◌<◌, Bool, true, false, List, [], ◌∷◌, ◌++◌, Option, Some, None, option_map, refl, ap, sym, ◌∙◌, subst, cond, nat_eq, append_assoc, append-nil, arith}
+use Rattle.std.proofs.Common.{◌≡◌, ℕ, ◌≤◌, ◌<◌, Bool, true, false, List, [], ◌∷◌, ◌++◌, Option, Some, None, option_map, refl, ap, sym, ◌∙◌, subst, cond, nat_eq, append_assoc, append-nil, arith}
 use Rattle.std.proofs.lemmas.Bool.{eqb-true}
 use Rattle.script_grammar.specs.declared.token.Kind.{Kind}
 use Rattle.script_grammar.specs.declared.token.Kind.TheVariants as kind
@@ -9,12 +9,11 @@ use Rattle.script_grammar.specs.Lexeme.{Lexeme}
 use Rattle.script_grammar.specs.Kinds.{op_level, op_kind, no_level}
 use Rattle.script_grammar.specs.Tree.{Named, Expr, Operands, no_operands, more_operands, Stmt, Stmts, no_stmts, more_stmts}
 use Rattle.script_grammar.specs.Tree as tree
-use Rattle.script_grammar.specs.Pieces.{whole, Exactly, text, number, Piece, At, Slot, slot, Is, Fits, mark_piece, name_piece, number_piece}
+use Rattle.script_grammar.specs.Pieces.{whole, Exactly, text, number, Piece, Slot, slot, Is, Fits, mark_piece}
 use Rattle.script_grammar.specs.Print.{print, print_operands, print_stmts}
 use Rattle.script_grammar.specs.Proper.{Proper, ProperOperands, ProperStmts, ProperStmt, HasOperands, rank, first_rank, rest_rank, begins_brace, begins_function}
-use Rattle.script_grammar.specs.Script.{IsScript}
 use Rattle.compile_session.specs.Built.{IsBuiltOperand, AreBuiltOperands, IsBuiltExpr, IsBuiltStmt, AreBuiltStmts, IsBuiltScript}
-use Rattle.compile_session.specs.ReadBuilt.{Part, operand, plus, semicolon, end, other, part_of, part_by, mark_part, sum_of, Rest, ended, added, finished, at_end, read_stmts, read_rest, read_operand}
+use Rattle.compile_session.specs.ReadBuilt.{Part, operand, plus, semicolon, end, other, part_of, part_by, sum_of, Rest, ended, added, finished, at_end, read_stmts, read_rest, read_operand}
 use Rattle.compile_session.proofs.ParseLemmas.{read_stmts-by, read_rest-by}
 
 -- What a token is, from its part.
@@ -93,18 +92,22 @@ record IsOperandOf (t : Lexeme) (e : Expr) : Type 0 where
 
 name_operand : (t : Lexeme) → t.kind ≡ kind.Name → IsOperandOf t (tree.Name (record { text = t.text; at = t.start }))
 name_operand t is = record {
-  built = tt; proper = tt; low = refl;
+  built = tt;
+  proper = tt;
+  low = refl;
   no_brace = λ rest. elim rest as (λ (r : Operands). begins_brace (sum_of (tree.Name (record { text = t.text; at = t.start })) r) ≡ false) [ no_operands ↦ refl | more_operands op is_word value behind ↦ refl ];
   no_function = λ rest. elim rest as (λ (r : Operands). begins_function (sum_of (tree.Name (record { text = t.text; at = t.start })) r) ≡ false) [ no_operands ↦ refl | more_operands op is_word value behind ↦ refl ];
-  fits = λ ps w n fit. (record { kind = is; content = refl; starts = (refl, tt); ends = tt; line = λ h. absurd (cc) }, fit)
+  fits = λ ps w n fit. (record { kind = is; content = refl; starts = (refl, tt); ends = tt; line = λ h. absurd (cc) }, fit);
 }
 
 number_operand : (t : Lexeme) → t.kind ≡ kind.Number → IsOperandOf t (tree.Number t.start t.number)
 number_operand t is = record {
-  built = tt; proper = tt; low = refl;
+  built = tt;
+  proper = tt;
+  low = refl;
   no_brace = λ rest. elim rest as (λ (r : Operands). begins_brace (sum_of (tree.Number t.start t.number) r) ≡ false) [ no_operands ↦ refl | more_operands op is_word value behind ↦ refl ];
   no_function = λ rest. elim rest as (λ (r : Operands). begins_function (sum_of (tree.Number t.start t.number) r) ≡ false) [ no_operands ↦ refl | more_operands op is_word value behind ↦ refl ];
-  fits = λ ps w n fit. (record { kind = is; content = refl; starts = (refl, tt); ends = tt; line = λ h. absurd (cc) }, fit)
+  fits = λ ps w n fit. (record { kind = is; content = refl; starts = (refl, tt); ends = tt; line = λ h. absurd (cc) }, fit);
 }
 
 operand_by : (k : Kind) (t : Lexeme) (e : Expr) → t.kind ≡ k → part_by k t ≡ operand e → IsOperandOf t e
@@ -166,7 +169,11 @@ record IsSound (ts : List Lexeme) : Type 0 where
 -- one more token in front
 Prints-more : (ps qs : List Piece) (t : Lexeme) (ts : List Lexeme) → Prints ps ts → ((w : List Lexeme) (n : Lexeme) → Fits ps w n → Fits qs (t ∷ w) n) → Prints qs (t ∷ ts)
 Prints-more ps qs t ts p more = record {
-  words = t ∷ p.words; last = p.last; split = ap (λ (us : List Lexeme). t ∷ us) p.split; ends = p.ends; fits = more p.words p.last p.fits
+  words = t ∷ p.words;
+  last = p.last;
+  split = ap (λ (us : List Lexeme). t ∷ us) p.split;
+  ends = p.ends;
+  fits = more p.words p.last p.fits;
 }
 
 stmts_end : (t : Lexeme) (ts : List Lexeme) (ss : Stmts) → t.kind ≡ kind.End → at_end ts ≡ Some ss → StmtsAre ss (t ∷ ts)
@@ -180,7 +187,7 @@ stmts_empty : (t : Lexeme) (ts : List Lexeme) (ss : Stmts) → t.kind ≡ kind.M
 stmts_empty t ts ss is are = record {
   prints = Prints-more (print_stmts whole 0 ss) (print_stmts whole 0 (more_stmts tree.Empty ss)) t ts are.prints (λ w n fit. (mark_is mark.SEMICOLON 1 t is, fit));
   proper = (tt, are.proper);
-  built = (tt, are.built)
+  built = (tt, are.built);
 }
 
 -- a sum is printed as its first operand and the others
@@ -200,6 +207,7 @@ proper_sum t e (more_operands op is_word value rest) is proper = (tt, level_ok, 
   where
     level_ok : op_level op is_word < no_level
     level_ok = omega (arith, proper.0)
+
     rank_ok : rank e ≤ first_rank (op_level op is_word)
     rank_ok = subst (λ (n : ℕ). rank e ≤ first_rank n) (sym proper.0) (omega (arith, is.low))
 
@@ -229,15 +237,18 @@ built_sum t (tree.Comma items) no_operands is built = absurd is.built
 stmts_sum : (t : Lexeme) (ts : List Lexeme) (e : Expr) (r : Rest) → IsOperandOf t e → RestIs r ts → StmtsAre (finished e r) (t ∷ ts)
 stmts_sum t ts e r is rest = record {
   prints = Prints-more (print_operands whole 2 r.operands ++ (mark_piece mark.SEMICOLON 1 ∷ print_stmts whole 0 r.behind)) (print_stmts whole 0 (finished e r)) t ts rest.prints
-    (λ w n fit. let P : List Piece → Type 0 = λ ps. Fits ps (t ∷ w) n in subst P (sym (sum_pieces e r.operands r.behind)) (is.fits (print_operands whole 2 r.operands ++ (mark_piece mark.SEMICOLON 1 ∷ print_stmts whole 0 r.behind)) w n fit));
+      (λ w n fit. let P : List Piece → Type 0 = λ ps. Fits ps (t ∷ w) n in subst P (sym (sum_pieces e r.operands r.behind)) (is.fits (print_operands whole 2 r.operands ++ (mark_piece mark.SEMICOLON 1 ∷ print_stmts whole 0 r.behind)) w n fit));
   proper = ((is.no_brace r.operands, is.no_function r.operands, proper_sum t e r.operands is rest.proper_operands), rest.proper);
-  built = ((refl, built_sum t e r.operands is rest.built_operands), rest.built)
+  built = ((refl, built_sum t e r.operands is rest.built_operands), rest.built);
 }
 
 rest_semicolon : (t : Lexeme) (ts : List Lexeme) (ss : Stmts) → t.kind ≡ kind.Mark mark.SEMICOLON → StmtsAre ss ts → RestIs (ended ss) (t ∷ ts)
 rest_semicolon t ts ss is are = record {
   prints = Prints-more (print_stmts whole 0 ss) (mark_piece mark.SEMICOLON 1 ∷ print_stmts whole 0 ss) t ts are.prints (λ w n fit. (mark_is mark.SEMICOLON 1 t is, fit));
-  proper_operands = tt; built_operands = tt; proper = are.proper; built = are.built
+  proper_operands = tt;
+  built_operands = tt;
+  proper = are.proper;
+  built = are.built;
 }
 
 rank_of_rest : (e : Expr) (os : Operands) → rank e ≡ 0 → rank e ≤ rest_rank plus_level os
@@ -245,17 +256,21 @@ rank_of_rest e no_operands low = omega (arith, low)
 rank_of_rest e (more_operands op is_word value rest) low = omega (arith, low)
 
 rest_operand : (t : Lexeme) (ts : List Lexeme) (e : Expr) (r : Rest) → IsOperandOf t e → RestIs r ts → OperandIs (added e r) (t ∷ ts)
-rest_operand t ts e r is rest = record { prints = λ p is_plus. record {
-  prints = Prints-more value_pieces (print_operands whole 2 (more_operands mark.PLUS false e r.operands) ++ later) p (t ∷ ts)
-    (Prints-more (print_operands whole 2 r.operands ++ later) value_pieces t ts rest.prints (is.fits (print_operands whole 2 r.operands ++ later)))
-    (λ w n fit. (mark_is mark.PLUS 2 p is_plus, let P : List Piece → Type 0 = λ ps. Fits ps w n in subst P (sym (append_assoc (print whole 2 e) (print_operands whole 2 r.operands) later)) fit));
-  proper_operands = (refl, rank_of_rest e r.operands is.low, is.proper, rest.proper_operands);
-  built_operands = (refl, refl, is.built, rest.built_operands);
-  proper = rest.proper; built = rest.built
-} }
+rest_operand t ts e r is rest = record {
+  prints = λ p is_plus. record {
+    prints = Prints-more value_pieces (print_operands whole 2 (more_operands mark.PLUS false e r.operands) ++ later) p (t ∷ ts)
+        (Prints-more (print_operands whole 2 r.operands ++ later) value_pieces t ts rest.prints (is.fits (print_operands whole 2 r.operands ++ later)))
+        (λ w n fit. (mark_is mark.PLUS 2 p is_plus, let P : List Piece → Type 0 = λ ps. Fits ps w n in subst P (sym (append_assoc (print whole 2 e) (print_operands whole 2 r.operands) later)) fit));
+    proper_operands = (refl, rank_of_rest e r.operands is.low, is.proper, rest.proper_operands);
+    built_operands = (refl, refl, is.built, rest.built_operands);
+    proper = rest.proper;
+    built = rest.built;
+  };
+}
   where
     later : List Piece
     later = mark_piece mark.SEMICOLON 1 ∷ print_stmts whole 0 r.behind
+
     value_pieces : List Piece
     value_pieces = print whole 2 e ++ (print_operands whole 2 r.operands ++ later)
 
@@ -302,7 +317,7 @@ is_sound [] = record { stmts = λ ss h. absurd (cc); rest = λ r h. absurd (cc);
 is_sound (t ∷ ts) = record {
   stmts = λ ss h. stmts_step t ts ss (part_of t) refl h (is_sound ts);
   rest = λ r h. rest_step t ts r (part_of t) refl h (is_sound ts);
-  operand_read = λ r h. operand_step t ts r (part_of t) refl h (is_sound ts)
+  operand_read = λ r h. operand_step t ts r (part_of t) refl h (is_sound ts);
 }
 
 -- what is read is a script of the built form
@@ -369,12 +384,16 @@ rest_read (more_operands op is_word value rest) ss (t ∷ w) n ends built reads 
   where
     later : List Piece
     later = mark_piece mark.SEMICOLON 1 ∷ print_stmts whole 0 ss
+
     value_fits : Fits (print whole 2 value ++ (print_operands whole 2 rest ++ later)) w n
     value_fits = let P : List Piece → Type 0 = λ ps. Fits ps w n in subst P (append_assoc (print whole 2 value) (print_operands whole 2 rest) later) fits.1
+
     is_plus : part_of t ≡ plus
     is_plus = part_of-mark t (kind.Mark mark.PLUS) (fits.0.kind ∙ ap (λ (word : Bool). op_kind op word) built.1 ∙ ap kind.Mark built.0)
+
     same : added value (record { operands = rest; behind = ss }) ≡ record { operands = more_operands op is_word value rest; behind = ss }
     same = ap (λ (o : ℕ). record { operands = more_operands o false value rest; behind = ss }) (sym built.0) ∙ ap (λ (b : Bool). record { operands = more_operands op b value rest; behind = ss }) (sym built.1)
+
     step : ((v : List Lexeme) → Fits (print_operands whole 2 rest ++ later) v n → read_rest (v ++ n ∷ []) ≡ Some (record { operands = rest; behind = ss })) → (u : Lexeme) × (v : List Lexeme) × (w ≡ u ∷ v) × (part_of u ≡ operand value) × Fits (print_operands whole 2 rest ++ later) v n → read_rest ((t ∷ w) ++ n ∷ []) ≡ Some (record { operands = more_operands op is_word value rest; behind = ss })
     step further got =
         read_rest-at t plus (w ++ n ∷ []) is_plus
@@ -389,8 +408,10 @@ sum_read e os ss w n ends built built_rest reads fits = step (value_read e (prin
   where
     later : List Piece
     later = mark_piece mark.SEMICOLON 1 ∷ print_stmts whole 0 ss
+
     first_fits : Fits (print whole 2 e ++ (print_operands whole 2 os ++ later)) w n
     first_fits = let P : List Piece → Type 0 = λ ps. Fits ps w n in subst P (sum_pieces e os ss) fits
+
     step : (u : Lexeme) × (v : List Lexeme) × (w ≡ u ∷ v) × (part_of u ≡ operand e) × Fits (print_operands whole 2 os ++ later) v n → read_stmts (w ++ n ∷ []) ≡ Some (more_stmts (tree.Value (sum_of e os) true) ss)
     step got =
         ap (λ (us : List Lexeme). read_stmts (us ++ n ∷ [])) got.2

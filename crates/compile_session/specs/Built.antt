@@ -1,8 +1,7 @@
 -- The built form: which trees of a script the program compiles so far, and how the tokens of such a script are read. The
 -- form is this stage's own choice: every statement is empty, or an expression with a written semicolon that is made of
 -- names, numbers and binary `+`.
-use Rattle.std.specs.Prelude.{ℕ, ◌≡◌, Bool, true, false, nat_eq, List, [], ◌∷◌, ◌++◌, Option, Some, None, option_map, if◌then◌else◌}
-use Rattle.script_grammar.specs.declared.token.Kind.{Kind}
+use Rattle.std.specs.Prelude.{◌≡◌, true, false, List, [], ◌∷◌, ◌++◌}
 use Rattle.script_grammar.specs.declared.token.Kind.TheVariants as kind
 use Rattle.script_grammar.specs.declared.token.mark.TheConstants as mark
 use Rattle.script_grammar.specs.Lexeme.{Lexeme}

@@ -1,7 +1,7 @@
 -- The tokens of a text of the built form (ECMA-262, 12th edition, clause 12): ASCII text of names, decimal numbers, `+`,
 -- `;`, white space and line ends. Every other beginning of a token is Bad here; so is a reserved word. What is built is
 -- this stage's own choice, and the whole lexical grammar will stand in its place.
-use Rattle.std.specs.Prelude.{ℕ, zero, suc, ◌+◌, ◌*◌, ◌-◌, ◌≡◌, Bool, true, false, not, ◌&&◌, ◌||◌, nat_eq, nat_le, List, [], ◌∷◌, ◌++◌, length, take, drop, if◌then◌else◌}
+use Rattle.std.specs.Prelude.{ℕ, zero, suc, ◌+◌, ◌*◌, ◌-◌, ◌≡◌, Bool, true, false, ◌&&◌, ◌||◌, nat_eq, nat_le, List, [], ◌∷◌, ◌++◌, length, take, drop, if◌then◌else◌}
 use Rattle.std.specs.List.{list_any, prefix_len}
 use Rattle.script_grammar.specs.declared.token.Kind.{Kind}
 use Rattle.script_grammar.specs.declared.token.Kind.TheVariants as kind
@@ -76,11 +76,11 @@ found_plus rest = if begins goes_on_plus rest then first.Bad else first.Mark mar
 abbrev pub found : List ℕ → Found
 found [] = first.End
 found (c ∷ cs) =
-  if is_name_start c then found_name (prefix_len is_name_part (c ∷ cs)) (c ∷ cs)
-  else (if is_digit c then found_number (digit_count (c ∷ cs)) (c ∷ cs)
-  else (if nat_eq c 59 then first.Mark mark.SEMICOLON
-  else (if nat_eq c 43 then found_plus cs
-  else first.Bad)))
+    if is_name_start c then found_name (prefix_len is_name_part (c ∷ cs)) (c ∷ cs)
+    else (if is_digit c then found_number (digit_count (c ∷ cs)) (c ∷ cs)
+    else (if nat_eq c 59 then first.Mark mark.SEMICOLON
+    else (if nat_eq c 43 then found_plus cs
+    else first.Bad)))
 
 abbrev pub kind_of : Found → Kind
 kind_of (first.Name width) = kind.Name
@@ -122,7 +122,8 @@ lexeme_at at after_line text f = record {
   role = role_of (kind_of f) (text_found f text);
   start = at;
   end = at + width_of f;
-  after_line = after_line }
+  after_line = after_line;
+}
 
 -- whether a token is the last: End or Bad
 abbrev pub is_last : Found → Bool
@@ -147,8 +148,10 @@ tokens_within (suc left) at text =
   where
     skipped : ℕ
     skipped = prefix_len is_blank text
+
     rest : List ℕ
     rest = drop skipped text
+
     begin : Found
     begin = found rest
 
@@ -165,7 +168,8 @@ seen_as texts t = record {
   role = role_of t.kind (text_of texts t.kind t.value);
   start = t.start;
   end = t.end;
-  after_line = t.after_line }
+  after_line = t.after_line;
+}
 
 -- The value of a token that was found, over texts that grew: the index of a name's text, or its number. Whatever
 -- texts come later, it stands for what was found.

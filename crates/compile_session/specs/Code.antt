@@ -1,6 +1,6 @@
 -- The code of a script: one equation for each row of the table of emission, which is this project's own choice. Of the
 -- table stand the rows that the built form has; the others give no code yet.
-use Rattle.std.specs.Prelude.{ℕ, Bool, nat_le, List, [], ◌∷◌, ◌++◌, map, if◌then◌else◌, nat_eq}
+use Rattle.std.specs.Prelude.{ℕ, nat_le, List, [], ◌∷◌, ◌++◌, if◌then◌else◌, nat_eq}
 use Rattle.script_grammar.specs.Tree.{Expr, Operands, no_operands, more_operands, Stmt, Stmts, no_stmts, more_stmts}
 use Rattle.script_grammar.specs.Tree as tree
 use Rattle.bytecode_buf.specs.declared.opcode.Op.TheVariants as op
@@ -9,13 +9,13 @@ use Rattle.bytecode_buf.specs.Command.{Command, plain, counted, named}
 -- a number, by the least opcode that holds it
 abbrev pub number_code : ℕ → Command
 number_code value =
-  if nat_eq value 0 then plain op.Zero
-  else (if nat_eq value 1 then plain op.One
-  else (if nat_le value 127 then counted op.Int8 value
-  else (if nat_le value 65535 then counted op.Uint16 value
-  else (if nat_le value 16777215 then counted op.Uint24 value
-  else (if nat_le value 2147483647 then counted op.Int32 value
-  else counted op.Double value)))))
+    if nat_eq value 0 then plain op.Zero
+    else (if nat_eq value 1 then plain op.One
+    else (if nat_le value 127 then counted op.Int8 value
+    else (if nat_le value 65535 then counted op.Uint16 value
+    else (if nat_le value 16777215 then counted op.Uint24 value
+    else (if nat_le value 2147483647 then counted op.Int32 value
+    else counted op.Double value)))))
 
 abbrev mutual
   pub expr_code : Expr → List Command

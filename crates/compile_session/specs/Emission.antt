@@ -1,5 +1,5 @@
 -- What an emitter appended: instructions that stand for these commands.
-use Rattle.std.specs.Prelude.{ℕ, ◌≡◌, List, [], ◌∷◌, ◌++◌, map}
+use Rattle.std.specs.Prelude.{ℕ, ◌≡◌, List, ◌++◌, map}
 use Rattle.bytecode_buf.specs.Layout.{Numbered, AllFit, layout}
 use Rattle.bytecode_buf.specs.Command.{Command, command_of}
 

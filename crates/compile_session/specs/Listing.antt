@@ -1,10 +1,13 @@
 -- The text of a code, this project's own choice: a line for each instruction.
-use Rattle.std.specs.Prelude.{◌≡◌, ℕ, ◌+◌, ◌-◌, ◌*◌, ◌/◌, ◌%◌, Bool, true, false, not, ◌&&◌, nat_eq, nat_le, List, [], ◌∷◌, ◌++◌, length, map, replicate, codes, flat_map, if◌then◌else◌}
+use Rattle.std.specs.Prelude.{◌≡◌, ℕ, ◌+◌, ◌-◌, ◌/◌, ◌%◌, ◌^◌, Bool, not, ◌&&◌, nat_eq, nat_le, List, [], ◌∷◌, ◌++◌, length, replicate, flat_map, slice_index_or, if◌then◌else◌}
 use Rattle.std.specs.Fmt.{decimal}
+use Rattle.std.specs.Int.{cast_unsigned, w64}
 use Rattle.bytecode_buf.specs.declared.instruction.Instr.{Instr}
-use Rattle.bytecode_buf.specs.Width.{is_jump}
+use Rattle.bytecode_buf.specs.declared.opcode.Shape.{Shape}
+use Rattle.bytecode_buf.specs.declared.opcode.Shape.TheVariants as shape
+use Rattle.bytecode_buf.specs.Width.{shape_of}
 use Rattle.bytecode_buf.specs.Layout.{Numbered, AllFit, layout}
-use Rattle.bytecode_buf.specs.Command.{Operand, Nothing, Number, Text, Aliased, Distance, Target, Command, Listed, command_at, command_of, listed_from}
+use Rattle.bytecode_buf.specs.Command.{Operand, Nothing, Number, Text, Aliased, Distance, Target, Listed, listed_from}
 use Rattle.compile_session.specs.OpNames.{name_of}
 
 -- a number in at least five digits
@@ -45,15 +48,27 @@ line l = (((((32 ∷ 32 ∷ []) ++ padded l.at) ++ 32 ∷ []) ++ name_of l.comma
 abbrev pub listing : List Listed → List ℕ
 listing ls = flat_map line ls
 
+-- the operand of an instruction as it is read at an offset: a jump's is its target
+abbrev pub read_operand : List (List ℕ) → ℕ → Shape → Instr → Operand
+read_operand texts at shape.Nothing instr = Nothing
+read_operand texts at shape.Whole8 instr = Number instr.a
+read_operand texts at shape.Whole16 instr = Number instr.a
+read_operand texts at shape.Whole24 instr = Number instr.a
+read_operand texts at shape.Whole32 instr = Number instr.a
+read_operand texts at shape.Whole64 instr = Number instr.a
+read_operand texts at shape.Atom instr = Text (slice_index_or texts instr.a [])
+read_operand texts at shape.Arg instr = Number instr.a
+read_operand texts at shape.Slot instr = Number instr.a
+read_operand texts at shape.Aliased instr = Aliased instr.a instr.b
+read_operand texts at shape.Num instr = Number instr.a
+read_operand texts at shape.Argc instr = Number instr.a
+read_operand texts at shape.Place instr = Number instr.a
+read_operand texts at shape.Jump instr = Target ((at + cast_unsigned w64 instr.to) % 2 ^ 64)
+
 -- an instruction as it is listed at an offset
 abbrev pub listed_as : List (List ℕ) → ℕ → Instr → Listed
-listed_as texts at instr = record { at = at; command = command_at at (command_of texts (record { op = instr.op; a = instr.a; b = instr.b })) }
+listed_as texts at instr = record { at = at; command = record { op = instr.op; operand = read_operand texts at (shape_of instr.op) instr } }
 
--- none of the instructions is a jump
-abbrev pub ArePlain : List Numbered → Type 0
-ArePlain [] = Unit {0}
-ArePlain (i ∷ is) = (is_jump i.op ≡ false) × ArePlain is
-
--- the lines of a code that is laid out from instructions without jumps are appended
+-- the lines of a code that is laid out from these instructions are appended
 abbrev pub AppendsListing : List (List ℕ) → List ℕ → List ℕ → List ℕ → Type 0
-AppendsListing texts code before now = (is : List Numbered) → AllFit is → ArePlain is → code ≡ layout is → now ≡ before ++ listing (listed_from texts 0 is)
+AppendsListing texts code before now = (is : List Numbered) → AllFit is → code ≡ layout is → now ≡ before ++ listing (listed_from texts 0 is)

@@ -1,5 +1,5 @@
 -- What the program answers for one file, and for all files of the command.
-use Rattle.std.specs.Prelude.{◌≡◌, ℕ, ◌+◌, ◌<◌, ◌≤◌, Bool, true, false, ◌||◌, List, [], ◌∷◌, ◌++◌, length, Option, Some, None, codes, if◌then◌else◌}
+use Rattle.std.specs.Prelude.{◌≡◌, ℕ, ◌+◌, ◌<◌, ◌≤◌, Bool, true, false, ◌||◌, List, [], ◌∷◌, ◌++◌, length, Option, Some, None, codes}
 use Rattle.std.specs.Fmt.{decimal}
 use Rattle.script_grammar.specs.Tree.{Stmts}
 use Rattle.bytecode_buf.specs.Width.{width_of}
@@ -52,9 +52,9 @@ file_text name file IsNotBuilt = name ++ codes ": not built\n"
 abbrev pub IsOutput : (List ℕ → List ℕ) → ℕ → List (List ℕ) → List ℕ → Bool → Type 0
 IsOutput held before [] out refused = (out ≡ []) × (refused ≡ false)
 IsOutput held before (name ∷ names) out refused =
-  (verdict : Verdict) × (later : List ℕ) × (later_refused : Bool) × IsVerdict before (held name) verdict
-  × (out ≡ file_text name (held name) verdict ++ later) × (refused ≡ (is_refused verdict || later_refused))
-  × IsOutput held (before + length (held name)) names later later_refused
+    (verdict : Verdict) × (later : List ℕ) × (later_refused : Bool) × IsVerdict before (held name) verdict
+    × (out ≡ file_text name (held name) verdict ++ later) × (refused ≡ (is_refused verdict || later_refused))
+    × IsOutput held (before + length (held name)) names later later_refused
 
 abbrev pub status_of : Bool → Status
 status_of true = status.Refused

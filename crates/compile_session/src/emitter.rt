@@ -86,10 +86,7 @@ fn emit_statements(out: &mut CodeBuf, statements: &[Statement]) -> Result<(), Al
 }
 
 /// The code of the script.
-pub(crate) fn emit_script(
-    alloc: Global,
-    statements: &[Statement],
-) -> Result<Vec<u8>, AllocError>
+pub(crate) fn emit_script(alloc: Global, statements: &[Statement]) -> Result<Vec<u8>, AllocError>
     ensures { IfOk result (λ code. Emits [] code.items (λ texts. script_code (stmts_of texts statements.now))) }
 {
     let mut out = CodeBuf::new(alloc);

@@ -1,6 +1,16 @@
 //! One command of the program, from its words to the bytes that the sink takes.
+//!
+//! It stands on `outside`, which reads files and writes output, on the grammar of `script_grammar` and
+//! on the opcodes of `bytecode_buf`; only the program stands on it. `words`, `scanner`, `parser`,
+//! `emitter`, `printer` and `file` are the steps of the way, each with the definition that it meets in
+//! specs/.
+//!
+//! The main contract is that of `run`: where all was done, the sink has taken the bytes of the
+//! definition's answer to the words and the files, and no others; each status comes exactly with its
+//! cause.
 #![tactic(auto)]
 
+mod command;
 mod emitter;
 mod file;
 mod op_names;
@@ -8,13 +18,12 @@ mod parser;
 mod printer;
 mod reserved;
 mod scanner;
-mod session;
 mod status;
 mod words;
 
-pub use session::run;
-pub use status::Status;
+pub use command::run;
 pub use outside::{
     FileShelf, FirmShelf, FirmSink, Gate, MapShelf, OpenGate, OutSink, Sheet, Shelf, ShelfRefusal,
     Sink, SinkRefusal, Tally, VecSink,
 };
+pub use status::Status;

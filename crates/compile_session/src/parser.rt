@@ -22,10 +22,7 @@ pub enum Operand {
 pub enum Statement {
     Empty,
     /// Operands with `+` between two.
-    Sum {
-        first: Operand,
-        rest: Vec<Operand>,
-    },
+    Sum { first: Operand, rest: Vec<Operand> },
 }
 
 /// What a token is for the built form.

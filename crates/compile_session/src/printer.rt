@@ -2,10 +2,9 @@
 
 ghost use Rattle.std.specs.Prelude.{◌≡◌, ℕ, ◌+◌, ◌-◌, ◌*◌, ◌/◌, ◌%◌, ◌^◌, ◌<◌, ◌≤◌, [], ◌∷◌, ◌++◌, List, length, flat_map, replicate, IfOk, OnOk, slice_index_or, false};
 ghost use Rattle.std.specs.Fmt.{decimal};
-ghost use Rattle.bytecode_buf.specs.Width.{is_jump, is_jump_shape};
-ghost use Rattle.bytecode_buf.specs.Command.{operand_at, operand_of};
+ghost use Rattle.std.specs.Int.{cast_unsigned, w64};
 ghost use Rattle.compile_session.specs.Listing as listing;
-ghost use Rattle.compile_session.specs.Listing.{AppendsListing, listed_as};
+ghost use Rattle.compile_session.specs.Listing.{AppendsListing, listed_as, read_operand};
 
 use crate::op_names::name_of;
 use bytecode_buf::{Instr, Shape, decode_at};
@@ -129,14 +128,22 @@ fn aliased_text(alloc: Global, hops: u64, slot: u64) -> Result<Vec<u8>, AllocErr
     Ok(out)
 }
 
+/// The offset to which a jump at an offset goes.
+fn target_of(at: usize, distance: i64) -> u64
+    ensures { result ≡ (at + cast_unsigned w64 distance) % 2 ^ 64 }
+{
+    (at as u64).wrapping_add(distance.cast_unsigned())
+}
+
 /// The operands of an instruction at an offset.
 fn operand_text(
     alloc: Global,
+    at: usize,
     shape: Shape,
     instr: Instr,
     texts: &[Text],
 ) -> Result<Vec<u8>, AllocError>
-    ensures { IfOk result (λ text. (at : ℕ) → is_jump_shape shape ≡ false → text.items ≡ listing.operand_text (operand_at at (operand_of texts.now shape instr.a instr.b))) }
+    ensures { IfOk result (λ text. text.items ≡ listing.operand_text (read_operand texts.now at shape instr)) }
 {
     match shape {
         Shape::Nothing => Ok(Vec::new(alloc)),
@@ -152,20 +159,15 @@ fn operand_text(
         Shape::Num => number_text(alloc, instr.a),
         Shape::Argc => number_text(alloc, instr.a),
         Shape::Place => number_text(alloc, instr.a),
-        Shape::Jump => Ok(Vec::new(alloc)),
+        Shape::Jump => number_text(alloc, target_of(at, instr.to)),
     }
 }
 
 /// The line of an instruction at an offset.
-fn line_of(
-    alloc: Global,
-    at: usize,
-    instr: Instr,
-    texts: &[Text],
-) -> Result<Vec<u8>, AllocError>
-    ensures { IfOk result (λ line. is_jump instr.op ≡ false → line.items ≡ listing.line (listed_as texts.now at instr)) }
+fn line_of(alloc: Global, at: usize, instr: Instr, texts: &[Text]) -> Result<Vec<u8>, AllocError>
+    ensures { IfOk result (λ line. line.items ≡ listing.line (listed_as texts.now at instr)) }
 {
-    let operands = operand_text(alloc, instr.op.row().shape, instr, texts)?;
+    let operands = operand_text(alloc, at, instr.op.row().shape, instr, texts)?;
     let mut out = Vec::from_slice(alloc, b"  ")?;
     out.extend_from_slice(&padded(alloc, at as u64)?)?;
     out.extend_from_slice(b" ")?;
@@ -175,7 +177,7 @@ fn line_of(
     Ok(out)
 }
 
-/// Appends the lines of a code without jumps.
+/// Appends the lines of a code that is laid out from instructions.
 pub(crate) fn append_listing(
     alloc: Global,
     out: &mut Vec<u8>,

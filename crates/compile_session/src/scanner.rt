@@ -328,10 +328,7 @@ fn scan_into(
 }
 
 /// The tokens of the text, the last of kind End or Bad, and the texts of its names.
-pub(crate) fn scan(
-    alloc: Global,
-    bytes: &[u8],
-) -> Result<(Vec<Token>, Vec<Text>), AllocError>
+pub(crate) fn scan(alloc: Global, bytes: &[u8]) -> Result<(Vec<Token>, Vec<Text>), AllocError>
     requires short { length bytes.now < 2 ^ 24 }
     ensures tokens { IfOk result (λ r. map (built.seen_as r.1.items) r.0.items ≡ built.tokens_of bytes.now) }
     ensures atoms { IfOk result (λ r. AtomsFit r.0.items) }

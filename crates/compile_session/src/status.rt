@@ -4,15 +4,15 @@
 #[derive(Clone, Copy, Debug, PartialEq, Eq)]
 pub enum Status {
     /// The words are good, no file is refused and all was written.
-    Done,
+    Done = 0,
     /// Some file is refused, and all was written.
-    Refused,
+    Refused = 1,
     /// The words have no form; nothing was read or written.
-    BadWords,
+    BadWords = 2,
     /// The shelf failed; nothing was written.
-    ReadFault,
+    ReadFault = 3,
     /// The sink failed; what was written is a front of the output.
-    WriteFault,
+    WriteFault = 4,
     /// Memory was wanting; what was written is a front of the output.
-    NoMemory,
+    NoMemory = 5,
 }

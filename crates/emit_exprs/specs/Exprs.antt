@@ -15,6 +15,7 @@ use Rattle.bytecode_buf.specs.declared.waits.Aim.TheVariants as aim
 use Rattle.bytecode_buf.specs.Command.{Command, plain, counted, named}
 use Rattle.bytecode_buf.specs.Pieces.{Piece, Whole, Waiting, Code, one, here}
 use Rattle.emit_exprs.specs.Names.{read, write, base}
+use Rattle.emit_exprs.specs.Whole.{whole, just}
 use Rattle.emit_exprs.specs.Operators.{binary_op, assign_op, prefix_op, update_op, Joining, FromLeft, FromRight, Shortcut, joining, number_op}
 
 -- where an expression stands: the scopes around it, and where the functions directly in its function start, by rising start
@@ -23,12 +24,6 @@ pub record Scene : Type 0 where
   pub starts : List ℕ
 
 -- ---- pieces of code
-
-abbrev pub whole : List Command → Code
-whole commands = map (λ (c : Command). Whole c) commands
-
-abbrev pub just : Op → Code
-just opcode = one (plain opcode)
 
 abbrev pub reading : Scene → List ℕ → Code
 reading scene name = whole (read name (resolve scene.chain name))

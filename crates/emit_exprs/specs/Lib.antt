@@ -1,3 +1,5 @@
 pub mod Exprs
 pub mod Names
 pub mod Operators
+pub mod Steps
+pub mod Whole

@@ -1,10 +1,9 @@
 //! Code of expressions.
 #![tactic(auto)]
 
-ghost use Rattle.std.specs.Prelude.{◌≡◌};
+mod emit;
+mod names;
+mod steps;
 
-pub fn probe(x: u8) -> u8
-    ensures { result ≡ x }
-{
-    x
-}
+pub use emit::{Emit, base, read, write};
+pub use names::Access;

@@ -11,7 +11,7 @@ use Rattle.bytecode_buf.specs.declared.opcode.Op.TheVariants as op
 use Rattle.bytecode_buf.specs.declared.waits.Aim.{Aim}
 use Rattle.bytecode_buf.specs.declared.waits.Aim.TheVariants as aim
 use Rattle.bytecode_buf.specs.Pieces.{Waiting, Code}
-use Rattle.emit_exprs.specs.Exprs.{just}
+use Rattle.emit_exprs.specs.Whole.{just}
 
 -- a statement around, or a scope that was entered, by its number
 pub data Frame : Type 0 where

@@ -20,7 +20,8 @@ use Rattle.bytecode_buf.specs.declared.waits.Aim.TheVariants as aim
 use Rattle.bytecode_buf.specs.Command.{Command, plain, counted}
 use Rattle.bytecode_buf.specs.Pieces.{Waiting, Code, one, here, settled, notes}
 use Rattle.emit_exprs.specs.Names.{read, write}
-use Rattle.emit_exprs.specs.Exprs.{Scene, whole, just, reading, writing, expr_code}
+use Rattle.emit_exprs.specs.Exprs.{Scene, reading, writing, expr_code}
+use Rattle.emit_exprs.specs.Whole.{whole, just}
 use Rattle.emit_stmts.specs.Frames.{Frame, scope_at, global_link, chain_link}
 use Rattle.emit_stmts.specs.Stmts.{Setting, scene_at, push_env, in_scope, assigning_function, stmts_code}
 

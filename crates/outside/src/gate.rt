@@ -13,3 +13,13 @@ pub struct OpenGate;
 impl Gate for OpenGate {
     fn hold(&self, _task: u32) {}
 }
+
+#[cfg(test)]
+mod tests {
+    use super::*;
+
+    #[test]
+    fn holds_nobody() {
+        OpenGate.hold(7);
+    }
+}

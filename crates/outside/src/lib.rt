@@ -1,5 +1,13 @@
 //! The outside of the program: where files come from, where output goes, and what a command's work is
 //! counted on.
+//!
+//! It stands on no crate of this project; the command stands on it, and so does whoever runs one over
+//! files in memory. `Shelf` and `Sink` are traits whose contracts say what each call gives, takes and
+//! counts. Files in memory and sinks in memory tell their bytes; real files and standard output do not.
+//!
+//! The main contracts are those of the loops: `read_file` gives all bytes of a name or says that they
+//! are too many, `write_bytes` gives the sink all bytes or, after a refusal, a front of them; each
+//! fault of the outside is counted once.
 #![tactic(auto)]
 
 mod calls;

@@ -76,3 +76,20 @@ impl Tally for Sheet {
         self.room += other.room;
     }
 }
+
+#[cfg(test)]
+mod tests {
+    use super::*;
+
+    #[test]
+    fn counts_on_a_sheet(rt: HostRuntime) {
+        let mut sheet = Sheet::new(10);
+        sheet.tick();
+        let mut lent = sheet.lend(5);
+        lent.tick();
+        assert_eq!(rt; lent.count(), 1);
+        assert_eq!(rt; sheet.count(), 6);
+        sheet.take_back(lent);
+        assert_eq!(rt; sheet.count(), 2);
+    }
+}

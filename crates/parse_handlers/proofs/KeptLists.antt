@@ -2,6 +2,8 @@
 use Rattle.std.proofs.Common.{◌≡◌, ◌∙◌, List, [], ◌∷◌, ◌++◌, map, refl, ap, sym, subst, Result, Ok, Err, IfOk}
 use Rattle.std.specs.declared.vec.Vec.{Vec}
 use Rattle.std.specs.declared.alloc.Global.{Global}
+use Rattle.std.specs.List.{flat_map}
+use Rattle.std.proofs.lemmas.List.{append_assoc, append-nil}
 use Rattle.script_grammar.specs.Shows.{ShowAll}
 
 -- one more of each
@@ -34,3 +36,11 @@ pub converted-map : {N T C I E : Type 0} (R : N → T → Type 0) (k : I → N �
     → IfOk r (λ made. ShowAll R ns made.items) → IfOk r (λ made. (i : I) → map (f i) made.items ≡ map (k i) ns)
 converted-map R k f each ns (Ok made) h = λ i. map-related R (k i) (f i) (λ n t r. each n t r i) ns made.items h
 converted-map R k f each ns (Err e) h = tt
+
+-- one more part of what is appended
+pub flat_map-more : {A B : Type 0} (f : A → List B) (xs : List A) (x : A) (start old new : List B) → old ≡ start ++ flat_map f xs → new ≡ old ++ f x → new ≡ start ++ flat_map f (xs ++ (x ∷ []))
+flat_map-more {A = A} f xs x start old new before after = after ∙ ap (λ l. l ++ f x) before ∙ append_assoc start (flat_map f xs) (f x) ∙ ap (λ l. start ++ l) (sym (at_end xs))
+  where
+    at_end : (ys : List A) → flat_map f (ys ++ (x ∷ [])) ≡ flat_map f ys ++ f x
+    at_end [] = append-nil (f x)
+    at_end (y ∷ ys) = ap (λ l. f y ++ l) (at_end ys) ∙ sym (append_assoc (f y) (flat_map f ys) (f x))

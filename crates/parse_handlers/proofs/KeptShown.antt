@@ -79,7 +79,7 @@ key_shown i (keys.Str name) k h = sym h
 key_shown i (keys.Number at value) k h = sym h
 key_shown i (keys.Computed e) k h = ap model.ComputedKey h.1 ∙ sym h.2
 
-body_inside : (i : Interpretation) (start : ℕ) (F : model.Body → model.Function) (f : model.Function) (n : NodeFuncBody Expr (Vec Stmt Global)) → FuncBodyOf i (IsExpr i) (IsBody i) start n (λ b. f ≡ F b) → F (unwrap_or (kept_body i n) (i.bodies start)) ≡ f
+body_inside : (i : Interpretation) (start : ℕ) (F : model.Body → model.Function) (f : model.Function) (n : NodeFuncBody Expr (Vec Stmt Global)) → FuncBodyOf i (IsExpr i) (IsBody i) start n (λ b. f ≡ F b) → F (unwrap_or (kept_body i n) (model.BracedBody (i.bodies start))) ≡ f
 body_inside i start F f (bodies.Braced ss) h = ap (λ x. F (model.BracedBody x)) h.1 ∙ sym h.2
 body_inside i start F f (bodies.Short e) h = ap (λ x. F (model.ShortBody x)) h.1 ∙ sym h.2
 body_inside i start F f (bodies.Passed) h = sym h
@@ -91,7 +91,7 @@ param_shown i n p h =
 
 pub func_shown : (i : Interpretation) (n : NodeFunc Expr (Vec Stmt Global)) (f : model.Function) → ShowFunc i (IsExpr i) (IsBody i) n f → kept_func i n ≡ f
 func_shown i n f h =
-    let body = unwrap_or (kept_body i n.body) (i.bodies n.start) in
+    let body = unwrap_or (kept_body i n.body) (model.BracedBody (i.bodies n.start)) in
     ap (λ ps. model.function n.form n.start n.end (maybe_named i n.name) (params_of ps) n.comma n.bare body) (map-shown (ShowParam i (IsExpr i)) (kept_param i) (param_shown i) n.params.items h.0 h.1)
     ∙ body_inside i n.start (λ b. model.function n.form n.start n.end (maybe_named i n.name) (params_of h.0) n.comma n.bare b) f n.body h.2
 

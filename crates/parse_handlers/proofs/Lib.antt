@@ -1,2 +1,3 @@
 mod KeptLists
 mod KeptShown
+mod Gathered

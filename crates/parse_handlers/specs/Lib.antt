@@ -1,1 +1,4 @@
 pub mod Kept
+pub mod Inner
+pub mod FoundOf
+pub mod Held

@@ -18,9 +18,9 @@ seen_at : (x q : ℕ) (old now : Bool) (b : Bool) → nat_eq x q ≡ b → now �
 seen_at x q old now true e f = f ∙ (sym (or_true old) ∙ ap (λ (b : Bool). old || b) (sym (eq-eqb q x (sym (eqb-true x q e)))))
 seen_at x q old now false e f = f ∙ (sym (or_first old false refl) ∙ ap (λ (b : Bool). old || b) (sym (other (nat_eq q x) refl)))
   where
-  other : (b : Bool) → nat_eq q x ≡ b → nat_eq q x ≡ false
-  other true g = absurd (false_is_true (sym e ∙ eq-eqb x q (sym (eqb-true q x g))))
-  other false g = g
+    other : (b : Bool) → nat_eq q x ≡ b → nat_eq q x ≡ false
+    other true g = absurd (false_is_true (sym e ∙ eq-eqb x q (sym (eqb-true q x g))))
+    other false g = g
 
 pub seen_step : (names : List Ident) (i : ℕ) (d : Ident) (old now : ℕ → Bool) → i < length names
     → ((q : ℕ) → now q ≡ cond (nat_eq (get_or names i d).atom q) true (old q))
@@ -43,8 +43,8 @@ repeated_step names i d first now all clash l n c h =
     let t : map name_of (take (i + 1) names) ≡ map name_of (take i names) ++ name_of x ∷ [] = ap (map name_of) (take_more names i d l) ∙ map-append name_of (take i names) (x ∷ []) in
     ap (λ (xs : List (Name ℕ)). smaller now (smallest (repeated nat_eq xs (map name_of (drop (i + 1) names))))) t
     ∙ one_more first now clash x.at (repeated nat_eq (map name_of (take i names) ++ name_of x ∷ []) (map name_of (drop (i + 1) names))) all n
-        (ap (λ (b : Bool). smaller first (smallest (cond b (x.at ∷ []) [] ++ repeated nat_eq (map name_of (take i names) ++ name_of x ∷ []) (map name_of (drop (i + 1) names))))) c
-        ∙ (ap (λ (ys : List Ident). smaller first (smallest (repeated nat_eq (map name_of (take i names)) (map name_of ys)))) (sym e) ∙ h))
+    (ap (λ (b : Bool). smaller first (smallest (cond b (x.at ∷ []) [] ++ repeated nat_eq (map name_of (take i names) ++ name_of x ∷ []) (map name_of (drop (i + 1) names))))) c
+    ∙ (ap (λ (ys : List Ident). smaller first (smallest (repeated nat_eq (map name_of (take i names)) (map name_of ys)))) (sym e) ∙ h))
 
 pub also_step : (xs : List (Name ℕ)) (names : List Ident) (i : ℕ) (d : Ident) (first now all : Option ℕ) (clash : Bool) → i < length names
     → now ≡ cond clash (smaller first (Some (get_or names i d).at)) first
@@ -55,8 +55,8 @@ also_step xs names i d first now all clash l n c h =
     let x : Ident = get_or names i d in
     let e : drop i names ≡ x ∷ drop (i + 1) names = rw add-one (drop-cons names i d l) in
     one_more first now clash x.at (also_in nat_eq xs (map name_of (drop (i + 1) names))) all n
-      (ap (λ (b : Bool). smaller first (smallest (cond b (x.at ∷ []) [] ++ also_in nat_eq xs (map name_of (drop (i + 1) names))))) c
-      ∙ (ap (λ (ys : List Ident). smaller first (smallest (also_in nat_eq xs (map name_of ys)))) (sym e) ∙ h))
+    (ap (λ (b : Bool). smaller first (smallest (cond b (x.at ∷ []) [] ++ also_in nat_eq xs (map name_of (drop (i + 1) names))))) c
+    ∙ (ap (λ (ys : List Ident). smaller first (smallest (also_in nat_eq xs (map name_of ys)))) (sym e) ∙ h))
 
 pub not_not : (b : Bool) → not (not b) ≡ b
 not_not true = refl

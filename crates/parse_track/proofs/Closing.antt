@@ -13,10 +13,10 @@ pub all_closed : (known : KnownNames ℕ) (t : Told ℕ) (start now : Stand) (ma
     → count ≡ length now.bound → marked ≡ marks now.hits 0 count → kept marked now.bound ≡ closed nat_eq known t
 all_closed known t start now marked count e f g s v n m =
     let b : now.bound ≡ bindings nat_eq known false None 0 t =
-      v.binds ∙ (ap (λ (xs : List (Bound ℕ)). xs ++ bindings nat_eq known false None start.scope t) e ∙ ap (λ (k : ℕ). bindings nat_eq known false None k t) s) in
+    v.binds ∙ (ap (λ (xs : List (Bound ℕ)). xs ++ bindings nat_eq known false None start.scope t) e ∙ ap (λ (k : ℕ). bindings nat_eq known false None k t) s) in
     let h : now.hits ≡ walk known false no_tops 0 0 t =
-      v.hits ∙ (ap (λ (xs : List ℕ). xs ++ walk known false start.tops (length start.bound) 0 t) f
-      ∙ (ap (λ (k : ℕ). walk known false start.tops k 0 t) (ap length e) ∙ walk_same known t false start.tops no_tops 0 0 g)) in
+    v.hits ∙ (ap (λ (xs : List ℕ). xs ++ walk known false start.tops (length start.bound) 0 t) f
+    ∙ (ap (λ (k : ℕ). walk known false start.tops k 0 t) (ap length e) ∙ walk_same known t false start.tops no_tops 0 0 g)) in
     let c : count ≡ size known t = n ∙ (ap length b ∙ length-bindings known t false None 0) in
     ap (λ (bs : List Bool). kept bs now.bound) (m ∙ (ap (λ (xs : List ℕ). marks xs 0 count) h ∙ (ap (marks (walk known false no_tops 0 0 t) 0) c ∙ all_marked known t)))
     ∙ ap (kept (flags nat_eq known t)) b

@@ -37,7 +37,7 @@ still_in_order kind off at rows pushed now row n p e =
     let few = p.few in
     let short : length (map row_of rows) < 2 ^ 32 - 2 = omega arith in
     inner_in_order kind off at (map row_of rows) (map row_of now) short p.order
-      (elim e [ inl g ↦ inl (told_as at n (length (map row_of rows)) (map row_of now) (map row_of pushed) (map row_of rows ++ empty_part kind off at ∷ []) l f g) | inr g ↦ inr (g ∙ f) ])
+    (elim e [ inl g ↦ inl (told_as at n (length (map row_of rows)) (map row_of now) (map row_of pushed) (map row_of rows ++ empty_part kind off at ∷ []) l f g) | inr g ↦ inr (g ∙ f) ])
 
 pub now_in_order : (kind : Region) (off : ℕ) (at : Option ℕ) (rows pushed now : List Row) (row : Row) (n : ℕ) → Pushed kind off at rows pushed row n
     → map row_of now ≡ tell at (Inner n) (map row_of pushed) → IsInOrder (map row_of now) (Some n)
@@ -47,13 +47,13 @@ now_in_order kind off at rows pushed now row n p g =
     let few = p.few in
     let short : length (map row_of rows) < 2 ^ 32 - 2 = omega arith in
     subst (λ (k : ℕ). IsInOrder (map row_of now) (Some k)) (sym l)
-      (entered_in_order kind off at (map row_of rows) (map row_of now) short p.order
-        (told_as at n (length (map row_of rows)) (map row_of now) (map row_of pushed) (map row_of rows ++ empty_part kind off at ∷ []) l f g))
+    (entered_in_order kind off at (map row_of rows) (map row_of now) short p.order
+    (told_as at n (length (map row_of rows)) (map row_of now) (map row_of pushed) (map row_of rows ++ empty_part kind off at ∷ []) l f g))
 
 pub now_parts : (kind : Region) (off : ℕ) (at : Option ℕ) (rows pushed now : List Row) (row : Row) (n : ℕ) → Pushed kind off at rows pushed row n
     → map row_of now ≡ tell at (Inner n) (map row_of pushed)
     → map row_of now ≡ tell at (Inner (length (map row_of rows))) (map row_of rows) ++ empty_part kind off at ∷ []
 now_parts kind off at rows pushed now row n p g =
     told_as at n (length (map row_of rows)) (map row_of now) (map row_of pushed) (map row_of rows ++ empty_part kind off at ∷ [])
-      (number_of kind off at rows pushed row n p) (parts_of kind off at rows pushed row n p) g
+    (number_of kind off at rows pushed row n p) (parts_of kind off at rows pushed row n p) g
     ∙ tell_append (Inner (length (map row_of rows))) at (map row_of rows) (empty_part kind off at) p.order.inside

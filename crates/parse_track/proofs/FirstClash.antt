@@ -122,15 +122,15 @@ first_clash heads (leaf l t) f =
     ∙ ap (smaller (smallest (at_regions (clash_rule heads) t))) (sym (clash_append heads f (declared_by is_var l) (vars t))))
 first_clash heads (inner k at i t) f =
     ap (λ (o : Option ℕ). smaller o (clashes heads f t))
-      (first_clash heads i (opened heads k i f)
-      ∙ ap (smaller (smallest (at_regions (clash_rule heads) i)))
-          (region_opened heads (opens heads k) (directly is_lexical i) (base k f) (vars i) ∙ ap (smaller (smallest (clash_rule heads k i))) (based heads (stops_vars k) f (vars i))))
+    (first_clash heads i (opened heads k i f)
+    ∙ ap (smaller (smallest (at_regions (clash_rule heads) i)))
+    (region_opened heads (opens heads k) (directly is_lexical i) (base k f) (vars i) ∙ ap (smaller (smallest (clash_rule heads k i))) (based heads (stops_vars k) f (vars i))))
     ∙ (ap (smaller (smaller (smallest (at_regions (clash_rule heads) i)) (smaller (smallest (clash_rule heads k i)) (clash_all heads f (cond (stops_vars k) [] (vars i)))))) (first_clash heads t f)
     ∙ (rearranged (smallest (at_regions (clash_rule heads) i)) (smallest (clash_rule heads k i)) (clash_all heads f (cond (stops_vars k) [] (vars i))) (smallest (at_regions (clash_rule heads) t)) (clash_all heads f (vars t))
     ∙ (ap (smaller (smaller (smallest (clash_rule heads k i)) (smaller (smallest (at_regions (clash_rule heads) i)) (smallest (at_regions (clash_rule heads) t))))) (sym (clash_append heads f (cond (stops_vars k) [] (vars i)) (vars t)))
     ∙ ap (λ (o : Option ℕ). smaller o (clash_all heads f (cond (stops_vars k) [] (vars i) ++ vars t)))
-        (ap (smaller (smallest (clash_rule heads k i))) (sym (smallest-append (at_regions (clash_rule heads) i) (at_regions (clash_rule heads) t)))
-        ∙ sym (smallest-append (clash_rule heads k i) (at_regions (clash_rule heads) i ++ at_regions (clash_rule heads) t))))))
+    (ap (smaller (smallest (clash_rule heads k i))) (sym (smallest-append (at_regions (clash_rule heads) i) (at_regions (clash_rule heads) t)))
+    ∙ sym (smallest-append (clash_rule heads k i) (at_regions (clash_rule heads) i ++ at_regions (clash_rule heads) t))))))
 
 -- the rules in their own words
 not_cond : (b : Bool) (xs : List ℕ) → cond (not b) xs [] ≡ cond b [] xs

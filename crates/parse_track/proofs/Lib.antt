@@ -14,3 +14,5 @@ pub mod Smallest
 pub mod Clashes
 pub mod Seeking
 pub mod FirstClash
+pub mod ClashSteps
+pub mod JumpSteps

@@ -29,11 +29,11 @@ pub mark_at : (xs : List ℕ) (d p n : ℕ) → marks (xs ++ (p + d) ∷ []) p n
 mark_at xs d p zero = refl
 mark_at xs zero p (suc n) =
     cons_same (has nat_eq p (xs ++ (p + 0) ∷ [])) true (marks (xs ++ (p + 0) ∷ []) (p + 1) n) (marks xs (p + 1) n)
-      (mark_yes p (p + 0) xs (eq-eqb p (p + 0) (omega arith))) (mark_before xs (p + 0) (p + 1) n (omega arith))
+    (mark_yes p (p + 0) xs (eq-eqb p (p + 0) (omega arith))) (mark_before xs (p + 0) (p + 1) n (omega arith))
 mark_at xs (suc d) p (suc n) =
     cons_same (has nat_eq p (xs ++ (p + suc d) ∷ [])) (has nat_eq p xs) (marks (xs ++ (p + suc d) ∷ []) (p + 1) n) (set (marks xs (p + 1) n) d true)
-      (mark_none p (p + suc d) xs (tell_less p (p + suc d) (omega arith)))
-      (ap (λ (h : ℕ). marks (xs ++ h ∷ []) (p + 1) n) (let e : p + suc d ≡ (p + 1) + d = omega arith in e) ∙ mark_at xs d (p + 1) n)
+    (mark_none p (p + suc d) xs (tell_less p (p + suc d) (omega arith)))
+    (ap (λ (h : ℕ). marks (xs ++ h ∷ []) (p + 1) n) (let e : p + suc d ≡ (p + 1) + d = omega arith in e) ∙ mark_at xs d (p + 1) n)
 
 pub mark_here : (xs : List ℕ) (h n : ℕ) → marks (xs ++ h ∷ []) 0 n ≡ set (marks xs 0 n) h true
 mark_here xs h n = ap (λ (k : ℕ). marks (xs ++ k ∷ []) 0 n) (let e : h ≡ 0 + h = omega arith in e) ∙ mark_at xs h 0 n

@@ -66,24 +66,24 @@ present_tell : (at : Option ℕ) (now : Option ℕ) (item : Item) (ps : List Par
 present_tell at now item ps h = subst (λ (c : ℕ). IfSome now (λ n. n < c)) (sym (length-tell at item ps)) h
 
 pub told_in_order : (at : Option ℕ) (item : Item) (ps : List Part) → IsInsidePresent at (length ps) item → IsInOrder ps at → IsInOrder (tell at item ps) at
-told_in_order at item ps i h = record
-  { order = subst (λ (c : ℕ). AreInOrder 0 c (tell at item ps)) (sym (length-tell at item ps)) (order_tell item (length ps) at ps h.order i)
-  ; inside = present_tell at at item ps h.inside
-  ; few = subst (λ (c : ℕ). c ≤ 2 ^ 32 - 2) (sym (length-tell at item ps)) h.few
-  }
+told_in_order at item ps i h = record {
+  order = subst (λ (c : ℕ). AreInOrder 0 c (tell at item ps)) (sym (length-tell at item ps)) (order_tell item (length ps) at ps h.order i);
+  inside = present_tell at at item ps h.inside;
+  few = subst (λ (c : ℕ). c ≤ 2 ^ 32 - 2) (sym (length-tell at item ps)) h.few;
+}
 
 pub leaf_in_order : (at : Option ℕ) (leaf : told.Leaf ℕ) (ps qs : List Part) → (qs ≡ tell at (Leaf leaf) ps) ⊎ (qs ≡ ps) → IsInOrder ps at → IsInOrder qs at
-leaf_in_order at leaf ps qs e h = elim e
-  [ inl f ↦ subst (λ (x : List Part). IsInOrder x at) (sym f) (told_in_order at (Leaf leaf) ps (leaf_inside at (length ps) leaf) h)
+leaf_in_order at leaf ps qs e h = elim e [
+  | inl f ↦ subst (λ (x : List Part). IsInOrder x at) (sym f) (told_in_order at (Leaf leaf) ps (leaf_inside at (length ps) leaf) h)
   | inr f ↦ subst (λ (x : List Part). IsInOrder x at) (sym f) h
-  ]
+]
 
 around_below : (n c k : ℕ) (ps : List Part) → AreInOrder n c ps → k < length ps → IsAround (n + k) (around_of (slice_get ps k))
 around_below n c k [] o h = absurd (omega arith)
 around_below n c zero (p ∷ ps) o h = subst (λ (m : ℕ). IsAround m p.around) (let e : n ≡ n + 0 = omega arith in e) o.1.0
 around_below n c (suc k) (p ∷ ps) o h =
     subst (λ (m : ℕ). IsAround m (around_of (slice_get ps k))) (let e : (n + 1) + k ≡ n + suc k = omega arith in e)
-        (around_below (n + 1) c k ps o.1.1 (let l : k < length ps = omega arith in l))
+    (around_below (n + 1) c k ps o.1.1 (let l : k < length ps = omega arith in l))
 
 around_in : (k c : ℕ) (o : Option ℕ) → IsAround (0 + k) o → k < c → IfSome o (λ n. n < c)
 around_in k c None a h = tt
@@ -91,11 +91,11 @@ around_in k c (Some m) a h = omega arith
 
 pub around_in_order : (at : Option ℕ) (ps : List Part) → IsInOrder ps at → IsInOrder ps (around_at at ps)
 around_in_order None ps h = record { order = h.order; inside = tt; few = h.few }
-around_in_order (Some n) ps h = record
-  { order = h.order
-  ; inside = around_in n (length ps) (around_of (slice_get ps n)) (around_below 0 (length ps) n ps h.order h.inside) h.inside
-  ; few = h.few
-  }
+around_in_order (Some n) ps h = record {
+  order = h.order;
+  inside = around_in n (length ps) (around_of (slice_get ps n)) (around_below 0 (length ps) n ps h.order h.inside) h.inside;
+  few = h.few;
+}
 
 -- Entering a region: its part first joins the others, then its number joins the present region.
 around_present : (at : Option ℕ) (ps : List Part) → IfSome at (λ n. n < length ps) → IsAround (0 + length ps) at
@@ -115,21 +115,21 @@ pub part_in_order : (kind : Region) (off : ℕ) (at : Option ℕ) (ps : List Par
 part_in_order kind off at ps f h =
     let p : Part = record { kind = kind; at = off; around = at; items = [] } in
     let l : length (ps ++ p ∷ []) ≡ length ps + 1 = length-append ps (p ∷ []) in
-    record
-      { order = order_snoc 0 (length (ps ++ p ∷ [])) ps p (order_more 0 (length ps) (length (ps ++ p ∷ [])) ps (omega arith) h.order) tt (around_present at ps h.inside)
-      ; inside = still_present at ps p h.inside
-      ; few = omega arith
-      }
+    record {
+      order = order_snoc 0 (length (ps ++ p ∷ [])) ps p (order_more 0 (length ps) (length (ps ++ p ∷ [])) ps (omega arith) h.order) tt (around_present at ps h.inside);
+      inside = still_present at ps p h.inside;
+      few = omega arith;
+    }
 
 pub inner_in_order : (kind : Region) (off : ℕ) (at : Option ℕ) (ps qs : List Part) → length ps < 2 ^ 32 - 2 → IsInOrder ps at
     → (qs ≡ tell at (Inner (length ps)) (ps ++ record { kind = kind; at = off; around = at; items = [] } ∷ [])) ⊎ (qs ≡ ps ++ record { kind = kind; at = off; around = at; items = [] } ∷ [])
     → IsInOrder qs at
 inner_in_order kind off at ps qs f h e =
     let p : Part = record { kind = kind; at = off; around = at; items = [] } in
-    elim e
-      [ inl g ↦ subst (λ (x : List Part). IsInOrder x at) (sym g) (told_in_order at (Inner (length ps)) (ps ++ p ∷ []) (inside_present at ps p h.inside) (part_in_order kind off at ps f h))
+    elim e [
+      | inl g ↦ subst (λ (x : List Part). IsInOrder x at) (sym g) (told_in_order at (Inner (length ps)) (ps ++ p ∷ []) (inside_present at ps p h.inside) (part_in_order kind off at ps f h))
       | inr g ↦ subst (λ (x : List Part). IsInOrder x at) (sym g) (part_in_order kind off at ps f h)
-      ]
+    ]
 
 pub entered_in_order : (kind : Region) (off : ℕ) (at : Option ℕ) (ps qs : List Part) → length ps < 2 ^ 32 - 2 → IsInOrder ps at
     → qs ≡ tell at (Inner (length ps)) (ps ++ record { kind = kind; at = off; around = at; items = [] } ∷ [])

@@ -32,11 +32,11 @@ pub seek_step : (rule : Rule) (parts : List Part) (inside : ℕ → Told ℕ) (i
 seek_step rule parts inside items index x first here now all d e n h =
     let rest : List Item = map item_of (drop (index + 1) items) in
     more first here (smallest (at_regions rule (told_items parts inside rest))) all now n
-      (ap (λ (o : Option ℕ). smaller first (smaller o (smallest (at_regions rule (told_items parts inside rest))))) e
-      ∙ (ap (smaller first) (sym (smallest-append (at_regions rule (told_items parts inside (item_of x ∷ []))) (at_regions rule (told_items parts inside rest)))
-          ∙ (ap smallest (sym (regions_cons rule parts inside (item_of x) rest))
-          ∙ ap (λ (ys : List row.Item). smallest (at_regions rule (told_items parts inside (map item_of ys)))) (sym d)))
-      ∙ h))
+    (ap (λ (o : Option ℕ). smaller first (smaller o (smallest (at_regions rule (told_items parts inside rest))))) e
+    ∙ (ap (smaller first) (sym (smallest-append (at_regions rule (told_items parts inside (item_of x ∷ []))) (at_regions rule (told_items parts inside rest)))
+    ∙ (ap smallest (sym (regions_cons rule parts inside (item_of x) rest))
+    ∙ ap (λ (ys : List row.Item). smallest (at_regions rule (told_items parts inside (map item_of ys)))) (sym d)))
+    ∙ h))
 
 pub seek_inner : (rule : Rule) (k code : Region ℕ) (i : Told ℕ) (own inside now : Option ℕ) → code ≡ k → own ≡ smallest (rule code i) → inside ≡ smallest (at_regions rule i) → now ≡ smaller own inside
     → now ≡ smallest (rule k i ++ (at_regions rule i ++ []))
@@ -67,8 +67,8 @@ pub seek_outer_step : (rule : Rule) (parts : List Part) (inside : ℕ → Told �
 seek_outer_step rule parts inside rows index x first here now all d e n h =
     let rest : List Item = log.outermost (index + 1) (map row_of (drop (index + 1) rows)) in
     more first here (smallest (at_regions rule (told_items parts inside rest))) all now n
-      (ap (λ (o : Option ℕ). smaller first (smaller o (smallest (at_regions rule (told_items parts inside rest))))) e
-      ∙ (ap (smaller first) (sym (smallest-append (at_regions rule (told_items parts inside (log.outermost_if index x.around))) (at_regions rule (told_items parts inside rest)))
-          ∙ (ap smallest (sym (outer_cons rule parts inside index x.around rest))
-          ∙ ap (λ (ys : List Row). smallest (at_regions rule (told_items parts inside (log.outermost index (map row_of ys))))) (sym d)))
-      ∙ h))
+    (ap (λ (o : Option ℕ). smaller first (smaller o (smallest (at_regions rule (told_items parts inside rest))))) e
+    ∙ (ap (smaller first) (sym (smallest-append (at_regions rule (told_items parts inside (log.outermost_if index x.around))) (at_regions rule (told_items parts inside rest)))
+    ∙ (ap smallest (sym (outer_cons rule parts inside index x.around rest))
+    ∙ ap (λ (ys : List Row). smallest (at_regions rule (told_items parts inside (log.outermost index (map row_of ys))))) (sym d)))
+    ∙ h))

@@ -58,25 +58,27 @@ length-bindings known (inner k at i t) named func scope =
     length-append (bound_by own from (scopes nat_eq known k i)) (bindings nat_eq known (is_lambda k) own (from + length (scopes nat_eq known k i)) i ++ bindings nat_eq known named func next t)
     ∙ (ap (λ (n : ℕ). n + length (bindings nat_eq known (is_lambda k) own (from + length (scopes nat_eq known k i)) i ++ bindings nat_eq known named func next t)) (length-bound_by own from (scopes nat_eq known k i))
     ∙ ap (λ (n : ℕ). length (names nat_eq known k i) + n)
-        (length-append (bindings nat_eq known (is_lambda k) own (from + length (scopes nat_eq known k i)) i) (bindings nat_eq known named func next t)
-        ∙ (ap (λ (n : ℕ). n + length (bindings nat_eq known named func next t)) (length-bindings known i (is_lambda k) own (from + length (scopes nat_eq known k i)))
-        ∙ ap (λ (n : ℕ). size known i + n) (length-bindings known t named func next))))
+    (length-append (bindings nat_eq known (is_lambda k) own (from + length (scopes nat_eq known k i)) i) (bindings nat_eq known named func next t)
+    ∙ (ap (λ (n : ℕ). n + length (bindings nat_eq known named func next t)) (length-bindings known i (is_lambda k) own (from + length (scopes nat_eq known k i)))
+    ∙ ap (λ (n : ℕ). size known i + n) (length-bindings known t named func next))))
   where
-  own : Option ℕ
-  own = cond (begins named k) (Some (at_of k at i)) func
-  from : ℕ
-  from = cond (begins named k) 0 scope
-  next : ℕ
-  next = scope + cond (begins named k) 0 (length (scopes nat_eq known k i) + scope_count nat_eq known (is_lambda k) i)
+    own : Option ℕ
+    own = cond (begins named k) (Some (at_of k at i)) func
+
+    from : ℕ
+    from = cond (begins named k) 0 scope
+
+    next : ℕ
+    next = scope + cond (begins named k) 0 (length (scopes nat_eq known k i) + scope_count nat_eq known (is_lambda k) i)
 
 -- nothing more to visit
 pub visits_none : (known : KnownNames ℕ) (named : Bool) (func : Option ℕ) (depth : ℕ) (a : Stand) → Visits known named func depth a a nothing
-visits_none known named func depth a = record
-  { binds = sym (append-nil a.bound)
-  ; hits = sym (append-nil a.hits)
-  ; same = λ y. refl
-  ; next = omega arith
-  }
+visits_none known named func depth a = record {
+  binds = sym (append-nil a.bound);
+  hits = sym (append-nil a.hits);
+  same = λ y. refl;
+  next = omega arith;
+}
 
 -- an item, and then the others
 same_scope : {a b : ℕ} → b ≡ a + 0 → b ≡ a
@@ -84,13 +86,13 @@ same_scope e = omega arith
 
 leaf_behind : (known : KnownNames ℕ) (named : Bool) (func : Option ℕ) (depth : ℕ) (a b c : Stand) (t : Told ℕ)
     → Visits known named func depth a b nothing → Visits known named func depth b c t → Visits known named func depth a c t
-leaf_behind known named func depth a b c t v w = record
-  { binds = w.binds ∙ (ap (λ (s : ℕ). b.bound ++ bindings nat_eq known named func s t) (same_scope v.next) ∙ ap (λ (xs : List (Bound ℕ)). xs ++ bindings nat_eq known named func a.scope t) (v.binds ∙ append-nil a.bound))
-  ; hits = w.hits ∙ (ap (λ (xs : List ℕ). xs ++ walk known named b.tops (length b.bound) depth t) (v.hits ∙ append-nil a.hits)
-      ∙ ap (λ (xs : List ℕ). a.hits ++ xs) (walk_same known t named b.tops a.tops (length b.bound) depth v.same ∙ ap (λ (n : ℕ). walk known named a.tops n depth t) (ap length (v.binds ∙ append-nil a.bound))))
-  ; same = λ y. w.same y ∙ v.same y
-  ; next = w.next ∙ ap (λ (s : ℕ). s + scope_count nat_eq known named t) (same_scope v.next)
-  }
+leaf_behind known named func depth a b c t v w = record {
+  binds = w.binds ∙ (ap (λ (s : ℕ). b.bound ++ bindings nat_eq known named func s t) (same_scope v.next) ∙ ap (λ (xs : List (Bound ℕ)). xs ++ bindings nat_eq known named func a.scope t) (v.binds ∙ append-nil a.bound));
+  hits = w.hits ∙ (ap (λ (xs : List ℕ). xs ++ walk known named b.tops (length b.bound) depth t) (v.hits ∙ append-nil a.hits)
+      ∙ ap (λ (xs : List ℕ). a.hits ++ xs) (walk_same known t named b.tops a.tops (length b.bound) depth v.same ∙ ap (λ (n : ℕ). walk known named a.tops n depth t) (ap length (v.binds ∙ append-nil a.bound))));
+  same = λ y. w.same y ∙ v.same y;
+  next = w.next ∙ ap (λ (s : ℕ). s + scope_count nat_eq known named t) (same_scope v.next);
+}
 
 visits_leaf : (known : KnownNames ℕ) (named : Bool) (func : Option ℕ) (depth : ℕ) (a b c : Stand) (l : Leaf ℕ) (t : Told ℕ)
     → Visits known named func depth a b (leaf l nothing) → Visits known named func depth b c t → Visits known named func depth a c (leaf l t)
@@ -100,15 +102,15 @@ visits_leaf known named func depth a b c (Declared _ _) t v w =
 visits_leaf known named func depth a b c (Jumped _ _ _) t v w =
     let r = leaf_behind known named func depth a b c t (record { binds = v.binds; hits = v.hits; same = v.same; next = v.next }) w in
     record { binds = r.binds; hits = r.hits; same = r.same; next = r.next }
-visits_leaf known named func depth a b c (Used x) t v w = record
-  { binds = w.binds ∙ (ap (λ (s : ℕ). b.bound ++ bindings nat_eq known named func s t) (same_scope v.next) ∙ ap (λ (xs : List (Bound ℕ)). xs ++ bindings nat_eq known named func a.scope t) (v.binds ∙ append-nil a.bound))
-  ; hits = w.hits ∙ (ap (λ (xs : List ℕ). xs ++ walk known named b.tops (length b.bound) depth t) v.hits
+visits_leaf known named func depth a b c (Used x) t v w = record {
+  binds = w.binds ∙ (ap (λ (s : ℕ). b.bound ++ bindings nat_eq known named func s t) (same_scope v.next) ∙ ap (λ (xs : List (Bound ℕ)). xs ++ bindings nat_eq known named func a.scope t) (v.binds ∙ append-nil a.bound));
+  hits = w.hits ∙ (ap (λ (xs : List ℕ). xs ++ walk known named b.tops (length b.bound) depth t) v.hits
       ∙ (ap (λ (xs : List ℕ). (a.hits ++ (hit (a.tops x) depth ++ [])) ++ xs) (walk_same known t named b.tops a.tops (length b.bound) depth v.same ∙ ap (λ (n : ℕ). walk known named a.tops n depth t) (ap length (v.binds ∙ append-nil a.bound)))
       ∙ (ap (λ (xs : List ℕ). (a.hits ++ xs) ++ walk known named a.tops (length a.bound) depth t) (append-nil (hit (a.tops x) depth))
-      ∙ append_assoc a.hits (hit (a.tops x) depth) (walk known named a.tops (length a.bound) depth t))))
-  ; same = λ y. w.same y ∙ v.same y
-  ; next = w.next ∙ ap (λ (s : ℕ). s + scope_count nat_eq known named t) (same_scope v.next)
-  }
+      ∙ append_assoc a.hits (hit (a.tops x) depth) (walk known named a.tops (length a.bound) depth t))));
+  same = λ y. w.same y ∙ v.same y;
+  next = w.next ∙ ap (λ (s : ℕ). s + scope_count nat_eq known named t) (same_scope v.next);
+}
 
 place_behind : (known : KnownNames ℕ) (named : Bool) (func : Option ℕ) (depth : ℕ) (a b : Stand) (t : Told ℕ) → Visits known named func depth a b t → length b.bound ≡ length a.bound + size known t
 place_behind known named func depth a b t v =
@@ -119,33 +121,38 @@ visits_inner_then : (known : KnownNames ℕ) (named : Bool) (func : Option ℕ) 
 visits_inner_then known named func depth a b c k at i t v w =
     let e : b.scope ≡ a.scope + cond (begins named k) 0 (length (scopes nat_eq known k i) + scope_count nat_eq known (is_lambda k) i) = v.next ∙ ap (λ (n : ℕ). a.scope + n) (add-zero (cond (begins named k) 0 (length (scopes nat_eq known k i) + scope_count nat_eq known (is_lambda k) i))) in
     let f : length b.bound ≡ length a.bound + (length (names nat_eq known k i) + size known i) = place_behind known named func depth a b (inner k at i nothing) v ∙ ap (λ (n : ℕ). length a.bound + (length (names nat_eq known k i) + n)) (add-zero (size known i)) in
-    record
-      { binds = w.binds
+    record {
+      binds = w.binds
           ∙ (ap (λ (s : ℕ). b.bound ++ bindings nat_eq known named func s t) e
           ∙ (ap (λ (xs : List (Bound ℕ)). xs ++ bindings nat_eq known named func next t) (v.binds ∙ ap (λ (xs : List (Bound ℕ)). a.bound ++ (first ++ xs)) (append-nil second))
           ∙ (append_assoc a.bound (first ++ second) (bindings nat_eq known named func next t)
-          ∙ ap (λ (xs : List (Bound ℕ)). a.bound ++ xs) (append_assoc first second (bindings nat_eq known named func next t)))))
-      ; hits = w.hits
+          ∙ ap (λ (xs : List (Bound ℕ)). a.bound ++ xs) (append_assoc first second (bindings nat_eq known named func next t)))));
+      hits = w.hits
           ∙ (ap (λ (xs : List ℕ). b.hits ++ xs) (walk_same known t named b.tops a.tops (length b.bound) depth v.same ∙ ap (λ (n : ℕ). walk known named a.tops n depth t) f)
           ∙ (ap (λ (xs : List ℕ). xs ++ walk known named a.tops (length a.bound + (length (names nat_eq known k i) + size known i)) depth t) (v.hits ∙ ap (λ (xs : List ℕ). a.hits ++ xs) (append-nil walked))
-          ∙ append_assoc a.hits walked (walk known named a.tops (length a.bound + (length (names nat_eq known k i) + size known i)) depth t)))
-      ; same = λ y. w.same y ∙ v.same y
-      ; next = w.next ∙ (ap (λ (s : ℕ). s + scope_count nat_eq known named t) e
-          ∙ add_assoc a.scope (cond (begins named k) 0 (length (scopes nat_eq known k i) + scope_count nat_eq known (is_lambda k) i)) (scope_count nat_eq known named t))
-      }
+          ∙ append_assoc a.hits walked (walk known named a.tops (length a.bound + (length (names nat_eq known k i) + size known i)) depth t)));
+      same = λ y. w.same y ∙ v.same y;
+      next = w.next ∙ (ap (λ (s : ℕ). s + scope_count nat_eq known named t) e
+          ∙ add_assoc a.scope (cond (begins named k) 0 (length (scopes nat_eq known k i) + scope_count nat_eq known (is_lambda k) i)) (scope_count nat_eq known named t));
+    }
   where
-  own : Option ℕ
-  own = cond (begins named k) (Some (at_of k at i)) func
-  from : ℕ
-  from = cond (begins named k) 0 a.scope
-  next : ℕ
-  next = a.scope + cond (begins named k) 0 (length (scopes nat_eq known k i) + scope_count nat_eq known (is_lambda k) i)
-  first : List (Bound ℕ)
-  first = bound_by own from (scopes nat_eq known k i)
-  second : List (Bound ℕ)
-  second = bindings nat_eq known (is_lambda k) own (from + length (scopes nat_eq known k i)) i
-  walked : List ℕ
-  walked = walk known (is_lambda k) (bind_all (deeper (begins named k) depth) (length a.bound) (names nat_eq known k i) a.tops) (length a.bound + length (names nat_eq known k i)) (deeper (begins named k) depth) i
+    own : Option ℕ
+    own = cond (begins named k) (Some (at_of k at i)) func
+
+    from : ℕ
+    from = cond (begins named k) 0 a.scope
+
+    next : ℕ
+    next = a.scope + cond (begins named k) 0 (length (scopes nat_eq known k i) + scope_count nat_eq known (is_lambda k) i)
+
+    first : List (Bound ℕ)
+    first = bound_by own from (scopes nat_eq known k i)
+
+    second : List (Bound ℕ)
+    second = bindings nat_eq known (is_lambda k) own (from + length (scopes nat_eq known k i)) i
+
+    walked : List ℕ
+    walked = walk known (is_lambda k) (bind_all (deeper (begins named k) depth) (length a.bound) (names nat_eq known k i) a.tops) (length a.bound + length (names nat_eq known k i)) (deeper (begins named k) depth) i
 
 pub visits_cons : (known : KnownNames ℕ) (named : Bool) (func : Option ℕ) (depth : ℕ) (a b c : Stand) (parts : List Part) (inside : ℕ → Told ℕ) (x : Item) (xs : List Item)
     → Visits known named func depth a b (told_items parts inside (x ∷ [])) → Visits known named func depth b c (told_items parts inside xs) → Visits known named func depth a c (told_items parts inside (x ∷ xs))
@@ -187,29 +194,29 @@ scope_is false s from end n m e f = omega arith
 
 pub region_visits : (known : KnownNames ℕ) (named : Bool) (func : Option ℕ) (depth : ℕ) (before entered behind now : Stand) (k : Region ℕ) (at : ℕ) (i : Told ℕ) (lambda : Bool) (own : Option ℕ) (deep from : ℕ) (ns : List ℕ)
     → Region-visited known named func depth before entered behind now k at i lambda own deep from ns → Visits known named func depth before now (inner k at i nothing)
-region_visits known named func depth before entered behind now k at i lambda own deep from ns r = record
-  { binds = r.now_bound ∙ (r.visits.binds
+region_visits known named func depth before entered behind now k at i lambda own deep from ns r = record {
+  binds = r.now_bound ∙ (r.visits.binds
       ∙ (ap (λ (s : ℕ). entered.bound ++ bindings nat_eq known lambda own s i) r.scope
       ∙ (ap (λ (xs : List (Bound ℕ)). xs ++ bindings nat_eq known lambda own (from + length (scopes nat_eq known k i)) i) r.bound
       ∙ (append_assoc before.bound (bound_by own from (scopes nat_eq known k i)) (bindings nat_eq known lambda own (from + length (scopes nat_eq known k i)) i)
       ∙ (ap (λ (xs : List (Bound ℕ)). before.bound ++ (bound_by own from (scopes nat_eq known k i) ++ xs)) (sym (append-nil (bindings nat_eq known lambda own (from + length (scopes nat_eq known k i)) i)))
       ∙ (ap (λ (b : Bool). before.bound ++ (bound_by own from (scopes nat_eq known k i) ++ (bindings nat_eq known b own (from + length (scopes nat_eq known k i)) i ++ []))) r.lambda_is
       ∙ (ap (λ (o : Option ℕ). before.bound ++ (bound_by o from (scopes nat_eq known k i) ++ (bindings nat_eq known (is_lambda k) o (from + length (scopes nat_eq known k i)) i ++ []))) r.own_is
-      ∙ ap (λ (f : ℕ). before.bound ++ (bound_by (cond (begins named k) (Some (at_of k at i)) func) f (scopes nat_eq known k i) ++ (bindings nat_eq known (is_lambda k) (cond (begins named k) (Some (at_of k at i)) func) (f + length (scopes nat_eq known k i)) i ++ []))) r.from_is)))))))
-  ; hits = r.now_hits ∙ (r.visits.hits
+      ∙ ap (λ (f : ℕ). before.bound ++ (bound_by (cond (begins named k) (Some (at_of k at i)) func) f (scopes nat_eq known k i) ++ (bindings nat_eq known (is_lambda k) (cond (begins named k) (Some (at_of k at i)) func) (f + length (scopes nat_eq known k i)) i ++ []))) r.from_is)))))));
+  hits = r.now_hits ∙ (r.visits.hits
       ∙ (ap (λ (xs : List ℕ). xs ++ walk known lambda entered.tops (length entered.bound) deep i) r.hits
       ∙ (ap (λ (xs : List ℕ). before.hits ++ xs)
-          (walk_same known i lambda entered.tops (bind_all deep (length before.bound) ns before.tops) (length entered.bound) deep r.tops
-          ∙ (ap (λ (n : ℕ). walk known lambda (bind_all deep (length before.bound) ns before.tops) n deep i)
-              (ap length r.bound ∙ (length-append before.bound (bound_by own from (scopes nat_eq known k i)) ∙ ap (λ (n : ℕ). length before.bound + n) (length-bound_by own from (scopes nat_eq known k i))))
-          ∙ (ap (λ (b : Bool). walk known b (bind_all deep (length before.bound) ns before.tops) (length before.bound + length (names nat_eq known k i)) deep i) r.lambda_is
-          ∙ (ap (λ (xs : List ℕ). walk known (is_lambda k) (bind_all deep (length before.bound) xs before.tops) (length before.bound + length (names nat_eq known k i)) deep i) r.names_are
-          ∙ ap (λ (d : ℕ). walk known (is_lambda k) (bind_all d (length before.bound) (names nat_eq known k i) before.tops) (length before.bound + length (names nat_eq known k i)) d i) r.deep_is))))
-      ∙ ap (λ (xs : List ℕ). before.hits ++ xs) (sym (append-nil (walk known (is_lambda k) (bind_all (deeper (begins named k) depth) (length before.bound) (names nat_eq known k i) before.tops) (length before.bound + length (names nat_eq known k i)) (deeper (begins named k) depth) i))))))
-  ; same = r.now_tops
-  ; next = r.now_scope ∙ scope_is (begins named k) before.scope from behind.scope (length (scopes nat_eq known k i)) (scope_count nat_eq known (is_lambda k) i) r.from_is
-      (r.visits.next ∙ (ap (λ (s : ℕ). s + scope_count nat_eq known lambda i) r.scope ∙ ap (λ (b : Bool). (from + length (scopes nat_eq known k i)) + scope_count nat_eq known b i) r.lambda_is))
-  }
+      (walk_same known i lambda entered.tops (bind_all deep (length before.bound) ns before.tops) (length entered.bound) deep r.tops
+      ∙ (ap (λ (n : ℕ). walk known lambda (bind_all deep (length before.bound) ns before.tops) n deep i)
+      (ap length r.bound ∙ (length-append before.bound (bound_by own from (scopes nat_eq known k i)) ∙ ap (λ (n : ℕ). length before.bound + n) (length-bound_by own from (scopes nat_eq known k i))))
+      ∙ (ap (λ (b : Bool). walk known b (bind_all deep (length before.bound) ns before.tops) (length before.bound + length (names nat_eq known k i)) deep i) r.lambda_is
+      ∙ (ap (λ (xs : List ℕ). walk known (is_lambda k) (bind_all deep (length before.bound) xs before.tops) (length before.bound + length (names nat_eq known k i)) deep i) r.names_are
+      ∙ ap (λ (d : ℕ). walk known (is_lambda k) (bind_all d (length before.bound) (names nat_eq known k i) before.tops) (length before.bound + length (names nat_eq known k i)) d i) r.deep_is))))
+      ∙ ap (λ (xs : List ℕ). before.hits ++ xs) (sym (append-nil (walk known (is_lambda k) (bind_all (deeper (begins named k) depth) (length before.bound) (names nat_eq known k i) before.tops) (length before.bound + length (names nat_eq known k i)) (deeper (begins named k) depth) i))))));
+  same = r.now_tops;
+  next = r.now_scope ∙ scope_is (begins named k) before.scope from behind.scope (length (scopes nat_eq known k i)) (scope_count nat_eq known (is_lambda k) i) r.from_is
+      (r.visits.next ∙ (ap (λ (s : ℕ). s + scope_count nat_eq known lambda i) r.scope ∙ ap (λ (b : Bool). (from + length (scopes nat_eq known k i)) + scope_count nat_eq known b i) r.lambda_is));
+}
 
 -- the goals of the visit
 pub visit_step : (known : KnownNames ℕ) (named : Bool) (func : Option ℕ) (depth : ℕ) (parts : List Part) (inside : ℕ → Told ℕ) (start now next : Stand) (items : List row.Item) (index : ℕ) (x : row.Item)
@@ -219,15 +226,15 @@ pub visit_step : (known : KnownNames ℕ) (named : Bool) (func : Option ℕ) (de
     → (last : Stand) → Visits known named func depth next last (told_items parts inside (map item_of (drop (index + 1) items))) → Visits known named func depth start last (told_items parts inside (map item_of items))
 visit_step known named func depth parts inside start now next items index x d inv v last w =
     inv last (subst (λ (xs : List row.Item). Visits known named func depth now last (told_items parts inside (map item_of xs))) (sym d)
-      (visits_cons known named func depth now next last parts inside (item_of x) (map item_of (drop (index + 1) items)) v w))
+    (visits_cons known named func depth now next last parts inside (item_of x) (map item_of (drop (index + 1) items)) v w))
 
 pub visit_end : (known : KnownNames ℕ) (named : Bool) (func : Option ℕ) (depth : ℕ) (parts : List Part) (room n : ℕ) (start now : Stand) (items left : List row.Item) → left ≡ []
     → ((last : Stand) → Visits known named func depth now last (told_items parts (told_region (room - 1) parts) (map item_of left)) → Visits known named func depth start last (told_items parts (told_region (room - 1) parts) (map item_of items)))
     → map item_of items ≡ items_at room parts n → Visits known named func depth start now (told_region room parts n)
 visit_end known named func depth parts room n start now items left e inv f =
     subst (λ (t : Told ℕ). Visits known named func depth start now t) (sym (region_tells room parts n))
-      (subst (λ (is : List Item). Visits known named func depth start now (told_items parts (told_region (room - 1) parts) is)) f
-        (inv now (subst (λ (xs : List row.Item). Visits known named func depth now now (told_items parts (told_region (room - 1) parts) (map item_of xs))) (sym e) (visits_none known named func depth now))))
+    (subst (λ (is : List Item). Visits known named func depth start now (told_items parts (told_region (room - 1) parts) is)) f
+    (inv now (subst (λ (xs : List row.Item). Visits known named func depth now now (told_items parts (told_region (room - 1) parts) (map item_of xs))) (sym e) (visits_none known named func depth now))))
 
 -- the outermost regions of a script, one by one
 outer_then : (known : KnownNames ℕ) (named : Bool) (func : Option ℕ) (depth : ℕ) (a b c : Stand) (parts : List Part) (inside : ℕ → Told ℕ) (n : ℕ) (around : Option ℕ) (xs : List Item)
@@ -242,12 +249,12 @@ pub outer_step : (known : KnownNames ℕ) (named : Bool) (func : Option ℕ) (de
     → (last : Stand) → Visits known named func depth next last (told_items parts inside (log.outermost (index + 1) (map row_of (drop (index + 1) rows)))) → Visits known named func depth start last (told_items parts inside (log.outermost 0 (map row_of rows)))
 outer_step known named func depth parts inside start now next rows index x d inv v last w =
     inv last (subst (λ (xs : List Row). Visits known named func depth now last (told_items parts inside (log.outermost index (map row_of xs)))) (sym d)
-      (outer_then known named func depth now next last parts inside index x.around (log.outermost (index + 1) (map row_of (drop (index + 1) rows))) v w))
+    (outer_then known named func depth now next last parts inside index x.around (log.outermost (index + 1) (map row_of (drop (index + 1) rows))) v w))
 
 pub outer_end : (known : KnownNames ℕ) (rows left : List Row) (start now : Stand) (index : ℕ) → left ≡ []
     → ((last : Stand) → Visits known false None 0 now last (told_items (map row_of rows) (told_region (length rows) (map row_of rows)) (log.outermost index (map row_of left)))
-        → Visits known false None 0 start last (told_items (map row_of rows) (told_region (length rows) (map row_of rows)) (log.outermost 0 (map row_of rows))))
+    → Visits known false None 0 start last (told_items (map row_of rows) (told_region (length rows) (map row_of rows)) (log.outermost 0 (map row_of rows))))
     → Visits known false None 0 start now (log.told_of (map row_of rows))
 outer_end known rows left start now index e inv =
     subst (λ (n : ℕ). Visits known false None 0 start now (told_items (map row_of rows) (told_region n (map row_of rows)) (log.outermost 0 (map row_of rows)))) (sym (length-map rows row_of))
-      (inv now (subst (λ (xs : List Row). Visits known false None 0 now now (told_items (map row_of rows) (told_region (length rows) (map row_of rows)) (log.outermost index (map row_of xs)))) (sym e) (visits_none known false None 0 now)))
+    (inv now (subst (λ (xs : List Row). Visits known false None 0 now now (told_items (map row_of rows) (told_region (length rows) (map row_of rows)) (log.outermost index (map row_of xs)))) (sym e) (visits_none known false None 0 now)))

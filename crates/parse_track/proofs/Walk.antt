@@ -115,14 +115,15 @@ pub bind_clear : (xs : List ℕ) (q depth place : ℕ) (tops : Tops) → Clear q
 bind_clear [] q depth place tops c h = c
 bind_clear (x ∷ xs) q depth place tops c h =
     bind_clear xs q depth (place + 1) (put tops x (record { place = place; depth = depth }))
-      (put_clear q tops x (record { place = place; depth = depth }) (apart h) c) (later_on h)
+    (put_clear q tops x (record { place = place; depth = depth }) (apart h) c) (later_on h)
   where
-  apart : (q < place) ⊎ (place + length (x ∷ xs) ≤ q) → nat_eq q place ≡ false
-  apart (inl l) = tell_less q place l
-  apart (inr l) = tell_more q place (omega arith)
-  later_on : (q < place) ⊎ (place + length (x ∷ xs) ≤ q) → (q < place + 1) ⊎ ((place + 1) + length xs ≤ q)
-  later_on (inl l) = inl (omega arith)
-  later_on (inr l) = inr (omega arith)
+    apart : (q < place) ⊎ (place + length (x ∷ xs) ≤ q) → nat_eq q place ≡ false
+    apart (inl l) = tell_less q place l
+    apart (inr l) = tell_more q place (omega arith)
+
+    later_on : (q < place) ⊎ (place + length (x ∷ xs) ≤ q) → (q < place + 1) ⊎ ((place + 1) + length xs ≤ q)
+    later_on (inl l) = inl (omega arith)
+    later_on (inr l) = inr (omega arith)
 
 pub false_is_true : false ≡ true → ⊥
 false_is_true e = cc
@@ -142,10 +143,10 @@ put_only_at q d x tops z top y true e f g h = f
 put_only_at q d x tops z top y false e f g h = g h
 
 put_other : (q d x : ℕ) (tops : Tops) (z : ℕ) (top : Top) → nat_eq x z ≡ false → nat_eq q top.place ≡ false → Only q d x tops → Only q d x (put tops z top)
-put_other q d x tops z top ne f o = record
-  { here = ap (λ (b : Bool). cond b (Some top) (tops x)) (differ z x (λ e. let g : nat_eq x z ≡ true = eq-eqb x z (sym e) in absurd (false_is_true (sym ne ∙ g)))) ∙ o.here
-  ; others = λ y h. put_only_at q d x tops z top y (nat_eq z y) refl f (o.others y) h
-  }
+put_other q d x tops z top ne f o = record {
+  here = ap (λ (b : Bool). cond b (Some top) (tops x)) (differ z x (λ e. let g : nat_eq x z ≡ true = eq-eqb x z (sym e) in absurd (false_is_true (sym ne ∙ g)))) ∙ o.here;
+  others = λ y h. put_only_at q d x tops z top y (nat_eq z y) refl f (o.others y) h;
+}
 
 put_same_at : (q d x : ℕ) (tops : Tops) (z : ℕ) (top : Top) (y : ℕ) (b : Bool) → nat_eq z y ≡ b → x ≡ z → nat_eq q top.place ≡ false → ((w : ℕ) → nat_eq x w ≡ false → is_at q (tops w) ≡ false)
     → is_at q (cond b (Some top) (tops y)) ≡ false
@@ -159,20 +160,21 @@ pub bind_keeps : (xs : List ℕ) (q d x depth place : ℕ) (tops : Tops) → Onl
 bind_keeps [] q d x depth place tops o e h = o
 bind_keeps (z ∷ zs) q d x depth place tops o e h =
     bind_keeps zs q d x depth (place + 1) (put tops z (record { place = place; depth = depth }))
-      (put_other q d x tops z (record { place = place; depth = depth }) (or_left (nat_eq x z) (has nat_eq x zs) e) (tell_less q place h) o)
-      (or_right (nat_eq x z) (has nat_eq x zs) e) (omega arith)
+    (put_other q d x tops z (record { place = place; depth = depth }) (or_left (nat_eq x z) (has nat_eq x zs) e) (tell_less q place h) o)
+    (or_right (nat_eq x z) (has nat_eq x zs) e) (omega arith)
 
 pub bind_hides : (xs : List ℕ) (q d x depth place : ℕ) (tops : Tops) → Only q d x tops → has nat_eq x xs ≡ true → q < place → Clear q (bind_all depth place xs tops)
 bind_hides [] q d x depth place tops o e h = absurd (false_is_true e)
 bind_hides (z ∷ zs) q d x depth place tops o e h =
     hides (nat_eq x z) refl e (λ o'. bind_hides zs q d x depth (place + 1) (put tops z top) o') where
-  top : Top
-  top = record { place = place; depth = depth }
-  hides : (b : Bool) → nat_eq x z ≡ b → (b || has nat_eq x zs) ≡ true
-      → (Only q d x (put tops z top) → has nat_eq x zs ≡ true → q < place + 1 → Clear q (bind_all depth (place + 1) zs (put tops z top)))
-      → Clear q (bind_all depth (place + 1) zs (put tops z top))
-  hides true g f rest = bind_clear zs q depth (place + 1) (put tops z top) (put_same q d x tops z top g (tell_less q place h) o) (inl (omega arith))
-  hides false g f rest = rest (put_other q d x tops z top g (tell_less q place h) o) f (omega arith)
+      top : Top
+      top = record { place = place; depth = depth }
+
+      hides : (b : Bool) → nat_eq x z ≡ b → (b || has nat_eq x zs) ≡ true
+          → (Only q d x (put tops z top) → has nat_eq x zs ≡ true → q < place + 1 → Clear q (bind_all depth (place + 1) zs (put tops z top)))
+          → Clear q (bind_all depth (place + 1) zs (put tops z top))
+      hides true g f rest = bind_clear zs q depth (place + 1) (put tops z top) (put_same q d x tops z top g (tell_less q place h) o) (inl (omega arith))
+      hides false g f rest = rest (put_other q d x tops z top g (tell_less q place h) o) f (omega arith)
 
 -- a place that no name has innermost, and that is none of what is told, is not hit
 pub untouched : (known : KnownNames ℕ) (t : Told ℕ) (named : Bool) (tops : Tops) (q place depth : ℕ) → Clear q tops → (q < place) ⊎ (place + size known t ≤ q)
@@ -186,24 +188,29 @@ untouched known (leaf (Used x) t) named tops q place depth c h =
 untouched known (inner k at i t) named tops q place depth c h =
     has-append q (walk known (is_lambda k) inside (place + length ns) deep i) (walk known named tops (place + (length ns + size known i)) depth t)
     ∙ or_none (has nat_eq q (walk known (is_lambda k) inside (place + length ns) deep i)) (has nat_eq q (walk known named tops (place + (length ns + size known i)) depth t))
-        (untouched known i (is_lambda k) inside q (place + length ns) deep (bind_clear ns q deep place tops c (names_apart h)) (inside_apart h))
-        (untouched known t named tops q (place + (length ns + size known i)) depth c (behind_apart h))
+    (untouched known i (is_lambda k) inside q (place + length ns) deep (bind_clear ns q deep place tops c (names_apart h)) (inside_apart h))
+    (untouched known t named tops q (place + (length ns + size known i)) depth c (behind_apart h))
   where
-  ns : List ℕ
-  ns = names nat_eq known k i
-  deep : ℕ
-  deep = deeper (begins named k) depth
-  inside : Tops
-  inside = bind_all deep place ns tops
-  names_apart : (q < place) ⊎ (place + (length ns + (size known i + size known t)) ≤ q) → (q < place) ⊎ (place + length ns ≤ q)
-  names_apart (inl l) = inl l
-  names_apart (inr l) = inr (omega arith)
-  inside_apart : (q < place) ⊎ (place + (length ns + (size known i + size known t)) ≤ q) → (q < place + length ns) ⊎ ((place + length ns) + size known i ≤ q)
-  inside_apart (inl l) = inl (omega arith)
-  inside_apart (inr l) = inr (omega arith)
-  behind_apart : (q < place) ⊎ (place + (length ns + (size known i + size known t)) ≤ q) → (q < place + (length ns + size known i)) ⊎ ((place + (length ns + size known i)) + size known t ≤ q)
-  behind_apart (inl l) = inl (omega arith)
-  behind_apart (inr l) = inr (omega arith)
+    ns : List ℕ
+    ns = names nat_eq known k i
+
+    deep : ℕ
+    deep = deeper (begins named k) depth
+
+    inside : Tops
+    inside = bind_all deep place ns tops
+
+    names_apart : (q < place) ⊎ (place + (length ns + (size known i + size known t)) ≤ q) → (q < place) ⊎ (place + length ns ≤ q)
+    names_apart (inl l) = inl l
+    names_apart (inr l) = inr (omega arith)
+
+    inside_apart : (q < place) ⊎ (place + (length ns + (size known i + size known t)) ≤ q) → (q < place + length ns) ⊎ ((place + length ns) + size known i ≤ q)
+    inside_apart (inl l) = inl (omega arith)
+    inside_apart (inr l) = inr (omega arith)
+
+    behind_apart : (q < place) ⊎ (place + (length ns + (size known i + size known t)) ≤ q) → (q < place + (length ns + size known i)) ⊎ ((place + (length ns + size known i)) + size known t ≤ q)
+    behind_apart (inl l) = inl (omega arith)
+    behind_apart (inr l) = inr (omega arith)
 
 -- Where q is the innermost binding of x alone, it is hit where a use in a function inside leaves x unbound.
 used_at : (q d x depth y : ℕ) (o : Option Top) (b : Bool) → nat_eq x y ≡ b → (b ≡ true → o ≡ Some (record { place = q; depth = d })) → (b ≡ false → is_at q o ≡ false)
@@ -214,12 +221,12 @@ used_at q d x depth y o false e f g = hit_other q depth o (g refl) ∙ sym (and_
 inner_found : (known : KnownNames ℕ) (i : Told ℕ) (k : Region ℕ) (named : Bool) (tops : Tops) (q d x place depth : ℕ) (ns : List ℕ) (b : Bool)
     → has nat_eq x ns ≡ b → Only q d x tops → q < place → d ≤ depth
     → ((T : Tops) → Only q d x T → q < place + length ns → d ≤ deeper (begins named k) depth
-        → has nat_eq q (walk known (is_lambda k) T (place + length ns) (deeper (begins named k) depth) i) ≡ reaches nat_eq known (is_lambda k) (nat_lt d (deeper (begins named k) depth)) x i)
+    → has nat_eq q (walk known (is_lambda k) T (place + length ns) (deeper (begins named k) depth) i) ≡ reaches nat_eq known (is_lambda k) (nat_lt d (deeper (begins named k) depth)) x i)
     → has nat_eq q (walk known (is_lambda k) (bind_all (deeper (begins named k) depth) place ns tops) (place + length ns) (deeper (begins named k) depth) i)
-      ≡ (not b && reaches nat_eq known (is_lambda k) (nat_lt d depth || begins named k) x i)
+    ≡ (not b && reaches nat_eq known (is_lambda k) (nat_lt d depth || begins named k) x i)
 inner_found known i k named tops q d x place depth ns true e o h l f =
     untouched known i (is_lambda k) (bind_all (deeper (begins named k) depth) place ns tops) q (place + length ns) (deeper (begins named k) depth)
-      (bind_hides ns q d x (deeper (begins named k) depth) place tops o e h) (inl (omega arith))
+    (bind_hides ns q d x (deeper (begins named k) depth) place tops o e h) (inl (omega arith))
 inner_found known i k named tops q d x place depth ns false e o h l f =
     f (bind_all (deeper (begins named k) depth) place ns tops) (bind_keeps ns q d x (deeper (begins named k) depth) place tops o e h) (omega arith) (le_deeper d depth (begins named k) l)
     ∙ ap (λ (b : Bool). reaches nat_eq known (is_lambda k) b x i) (below_deeper d depth (begins named k) l)
@@ -232,16 +239,16 @@ found known (leaf (Jumped _ _ _) t) named tops q d x place depth o h l = found k
 found known (leaf (Used y) t) named tops q d x place depth o h l =
     has-append q (hit (tops y) depth) (walk known named tops place depth t)
     ∙ or_both (has nat_eq q (hit (tops y) depth)) (has nat_eq q (walk known named tops place depth t)) (nat_lt d depth && nat_eq x y) (reaches nat_eq known named (nat_lt d depth) x t)
-        (used_at q d x depth y (tops y) (nat_eq x y) refl (λ e. subst (λ (z : ℕ). tops z ≡ Some (record { place = q; depth = d })) (eqb-true x y e) o.here) (o.others y))
-        (found known t named tops q d x place depth o h l)
+    (used_at q d x depth y (tops y) (nat_eq x y) refl (λ e. subst (λ (z : ℕ). tops z ≡ Some (record { place = q; depth = d })) (eqb-true x y e) o.here) (o.others y))
+    (found known t named tops q d x place depth o h l)
 found known (inner k at i t) named tops q d x place depth o h l =
     has-append q (walk known (is_lambda k) (bind_all (deeper (begins named k) depth) place (names nat_eq known k i) tops) (place + length (names nat_eq known k i)) (deeper (begins named k) depth) i)
-      (walk known named tops (place + (length (names nat_eq known k i) + size known i)) depth t)
+    (walk known named tops (place + (length (names nat_eq known k i) + size known i)) depth t)
     ∙ or_both
-        (has nat_eq q (walk known (is_lambda k) (bind_all (deeper (begins named k) depth) place (names nat_eq known k i) tops) (place + length (names nat_eq known k i)) (deeper (begins named k) depth) i))
-        (has nat_eq q (walk known named tops (place + (length (names nat_eq known k i) + size known i)) depth t))
-        (not (has nat_eq x (names nat_eq known k i)) && reaches nat_eq known (is_lambda k) (nat_lt d depth || begins named k) x i)
-        (reaches nat_eq known named (nat_lt d depth) x t)
-        (inner_found known i k named tops q d x place depth (names nat_eq known k i) (has nat_eq x (names nat_eq known k i)) refl o h l
-          (λ T o' h' l'. found known i (is_lambda k) T q d x (place + length (names nat_eq known k i)) (deeper (begins named k) depth) o' h' l'))
-        (found known t named tops q d x (place + (length (names nat_eq known k i) + size known i)) depth o (let m : q < place + (length (names nat_eq known k i) + size known i) = omega arith in m) l)
+    (has nat_eq q (walk known (is_lambda k) (bind_all (deeper (begins named k) depth) place (names nat_eq known k i) tops) (place + length (names nat_eq known k i)) (deeper (begins named k) depth) i))
+    (has nat_eq q (walk known named tops (place + (length (names nat_eq known k i) + size known i)) depth t))
+    (not (has nat_eq x (names nat_eq known k i)) && reaches nat_eq known (is_lambda k) (nat_lt d depth || begins named k) x i)
+    (reaches nat_eq known named (nat_lt d depth) x t)
+    (inner_found known i k named tops q d x place depth (names nat_eq known k i) (has nat_eq x (names nat_eq known k i)) refl o h l
+    (λ T o' h' l'. found known i (is_lambda k) T q d x (place + length (names nat_eq known k i)) (deeper (begins named k) depth) o' h' l'))
+    (found known t named tops q d x (place + (length (names nat_eq known k i) + size known i)) depth o (let m : q < place + (length (names nat_eq known k i) + size known i) = omega arith in m) l)

@@ -130,7 +130,7 @@ bindings same known named func scope (inner k at i t) =
     bound_by own from (scopes same known k i)
     ++ (bindings same known (is_lambda k) own (from + length (scopes same known k i)) i
     ++ bindings same known named func
-        (scope + cond (begins named k) 0 (length (scopes same known k i) + scope_count same known (is_lambda k) i)) t)
+    (scope + cond (begins named k) 0 (length (scopes same known k i) + scope_count same known (is_lambda k) i)) t)
 
 -- those whose flag is true
 abbrev pub kept : {B : Type 0} → List Bool → List B → List B

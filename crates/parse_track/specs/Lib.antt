@@ -11,3 +11,5 @@ pub mod Scopes
 pub mod Visited
 pub mod Rules
 pub mod Clashes
+pub mod Targets
+pub mod Errors

@@ -62,10 +62,10 @@ with_leaf log leaf = record log { parts = tell log.present (Leaf leaf) log.parts
 
 -- the log after a region is entered, which becomes the present one
 abbrev pub entered : Log → Region → ℕ → Log
-entered log kind at = record log
-  { parts = tell log.present (Inner (length log.parts)) log.parts ++ record { kind = kind; at = at; around = log.present; items = [] } ∷ []
-  ; present = Some (length log.parts)
-  }
+entered log kind at = record log {
+  parts = tell log.present (Inner (length log.parts)) log.parts ++ record { kind = kind; at = at; around = log.present; items = [] } ∷ [];
+  present = Some (length log.parts);
+}
 
 abbrev pub around_of : Option Part → Option ℕ
 around_of None = None

@@ -44,8 +44,8 @@ walk known named tops place depth (leaf (Declared _ _) t) = walk known named top
 walk known named tops place depth (leaf (Jumped _ _ _) t) = walk known named tops place depth t
 walk known named tops place depth (inner k at i t) =
     walk known (is_lambda k)
-      (bind_all (deeper (begins named k) depth) place (names nat_eq known k i) tops)
-      (place + length (names nat_eq known k i)) (deeper (begins named k) depth) i
+    (bind_all (deeper (begins named k) depth) place (names nat_eq known k i) tops)
+    (place + length (names nat_eq known k i)) (deeper (begins named k) depth) i
     ++ walk known named tops (place + (length (names nat_eq known k i) + size known i)) depth t
 
 -- of each of so many places, from one on, whether it is hit

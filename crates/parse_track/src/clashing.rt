@@ -35,8 +35,29 @@ fn clash(firsts: &BTreeMap<u32, u32>, heads: bool, name: Ident) -> Option<u32>
     match firsts.get(&name.atom) {
         None => None,
         Some(first) => {
-            if heads { Some(name.at) } else { Some(name.at.max(*first)) }
+            if heads {
+                Some(name.at)
+            } else {
+                Some(name.at.max(*first))
+            }
         }
+    }
+}
+
+/// No name has an offset.
+fn no_names(alloc: Global) -> BTreeMap<u32, u32>
+    ensures { (y : ℕ) → get nat_cmp result y ≡ None }
+{
+    BTreeMap::new(alloc)
+}
+
+/// The smallest offset of a name, with this one.
+fn first_with(firsts: &BTreeMap<u32, u32>, name: Ident) -> u32
+    ensures { Some result ≡ smaller (Some name.at) (get nat_cmp firsts.now name.atom) }
+{
+    match firsts.get(&name.atom) {
+        None => name.at,
+        Some(first) => name.at.min(*first),
     }
 }
 
@@ -45,10 +66,7 @@ fn open_names(firsts: &mut BTreeMap<u32, u32>, names: &[Ident]) -> Result<(), Al
     ensures { OnOk result ((y : ℕ) → get nat_cmp firsts.new y ≡ open_all (map name_of names.now) (get nat_cmp firsts.old) y) }
 {
     for name in names {
-        let first = match firsts.get(&name.atom) {
-            None => name.at,
-            Some(first) => name.at.min(*first),
-        };
+        let first = first_with(firsts, *name);
         firsts.insert(name.atom, first)?;
     }
     Ok(())
@@ -56,7 +74,14 @@ fn open_names(firsts: &mut BTreeMap<u32, u32>, names: &[Ident]) -> Result<(), Al
 
 /// The first clash in what an item tells.
 #[cycle(clashing)]
-fn clash_in_item(alloc: Global, rows: &[Row], room: usize, heads: bool, item: Item, firsts: &mut BTreeMap<u32, u32>) -> Result<Option<u32>, AllocError>
+fn clash_in_item(
+    alloc: Global,
+    rows: &[Row],
+    room: usize,
+    heads: bool,
+    item: Item,
+    firsts: &mut BTreeMap<u32, u32>,
+) -> Result<Option<u32>, AllocError>
     ensures { IfOk result (IsClash heads (get nat_cmp firsts.old) (get nat_cmp firsts.new) (told_items (map row_of rows.now) (told_region room (map row_of rows.now)) (item_of item ∷ []))) }
 {
     match item {
@@ -78,20 +103,38 @@ fn clash_in_item(alloc: Global, rows: &[Row], room: usize, heads: bool, item: It
 
 /// The first clash inside a region out of which no var name hoists.
 #[cycle(clashing)]
-fn clash_in_function(alloc: Global, rows: &[Row], room: usize, heads: bool, kind: Region, region: u32) -> Result<Option<u32>, AllocError>
+fn clash_in_function(
+    alloc: Global,
+    rows: &[Row],
+    room: usize,
+    heads: bool,
+    kind: Region,
+    region: u32,
+) -> Result<Option<u32>, AllocError>
     ensures { IfOk result (λ first. first ≡ clashes heads (cond (opens heads (region_of kind)) (open_all (directly is_lexical (told_region room (map row_of rows.now) region)) no_firsts) no_firsts) (told_region room (map row_of rows.now) region)) }
 {
-    let mut firsts = BTreeMap::new(alloc);
-    if opens(heads, kind) {
-        let names = names_in(alloc, rows, room, region, Asked::Lexical)?;
-        open_names(&mut firsts, &names)?;
+    let mut firsts = no_names(alloc);
+    if !opens(heads, kind) {
+        let first = clash_in(alloc, rows, room, heads, region, &mut firsts)?;
+        return Ok(first);
     }
-    clash_in(alloc, rows, room, heads, region, &mut firsts)
+    let names = names_in(alloc, rows, room, region, Asked::Lexical)?;
+    open_names(&mut firsts, &names)?;
+    let first = clash_in(alloc, rows, room, heads, region, &mut firsts)?;
+    Ok(first)
 }
 
 /// The first clash inside a region out of which var names hoist.
 #[cycle(clashing)]
-fn clash_in_open(alloc: Global, rows: &[Row], room: usize, heads: bool, kind: Region, region: u32, firsts: &mut BTreeMap<u32, u32>) -> Result<Option<u32>, AllocError>
+fn clash_in_open(
+    alloc: Global,
+    rows: &[Row],
+    room: usize,
+    heads: bool,
+    kind: Region,
+    region: u32,
+    firsts: &mut BTreeMap<u32, u32>,
+) -> Result<Option<u32>, AllocError>
     ensures { IfOk result (λ first. (first ≡ clashes heads (cond (opens heads (region_of kind)) (open_all (directly is_lexical (told_region room (map row_of rows.now) region)) (get nat_cmp firsts.old)) (get nat_cmp firsts.old)) (told_region room (map row_of rows.now) region)) × ((y : ℕ) → get nat_cmp firsts.new y ≡ get nat_cmp firsts.old y)) }
 {
     if !opens(heads, kind) {
@@ -108,13 +151,60 @@ fn clash_in_open(alloc: Global, rows: &[Row], room: usize, heads: bool, kind: Re
 
 /// The first clash in what a region tells.
 #[cycle(clashing)]
-fn clash_in(alloc: Global, rows: &[Row], room: usize, heads: bool, region: u32, firsts: &mut BTreeMap<u32, u32>) -> Result<Option<u32>, AllocError>
+fn clash_in(
+    alloc: Global,
+    rows: &[Row],
+    room: usize,
+    heads: bool,
+    region: u32,
+    firsts: &mut BTreeMap<u32, u32>,
+) -> Result<Option<u32>, AllocError>
     ensures { IfOk result (IsClash heads (get nat_cmp firsts.old) (get nat_cmp firsts.new) (told_region room (map row_of rows.now) region)) }
 {
     let mut first = None;
     let items = items_at(rows, room, region);
     for item in items {
         let here = clash_in_item(alloc, rows, room - 1, heads, *item, firsts)?;
+        first = lesser(first, here);
+    }
+    Ok(first)
+}
+
+/// The first clash in an outermost region.
+fn clash_in_outermost(
+    alloc: Global,
+    rows: &[Row],
+    heads: bool,
+    region: u32,
+    around: Option<u32>,
+) -> Result<Option<u32>, AllocError>
+    ensures { IfOk result (λ first. first ≡ clashes heads no_firsts (told_items (map row_of rows.now) (told_region (length rows.now) (map row_of rows.now)) (outermost_if region around))) }
+{
+    match around {
+        Some(_) => Ok(None),
+        None => {
+            let mut firsts = no_names(alloc);
+            let first = clash_in_item(
+                alloc,
+                rows,
+                rows.len(),
+                heads,
+                Item::Inner(region),
+                &mut firsts,
+            )?;
+            Ok(first)
+        }
+    }
+}
+
+/// The first clash of a var name with a name that the head of a `for` statement declares, or with another lexical name.
+pub fn first_clash(alloc: Global, rows: &[Row], heads: bool) -> Result<Option<u32>, AllocError>
+    requires { length rows.now ≤ 2 ^ 32 - 2 }
+    ensures { IfOk result (λ first. first ≡ clashes heads no_firsts (told_of (map row_of rows.now))) }
+{
+    let mut first = None;
+    for (region, row) in rows.iter().enumerate() {
+        let here = clash_in_outermost(alloc, rows, heads, region as u32, row.around)?;
         first = lesser(first, here);
     }
     Ok(first)

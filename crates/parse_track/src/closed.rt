@@ -14,8 +14,8 @@ ghost use Rattle.parse_track.specs.Scopes.{items_of_lists, bound_of, bounds_of};
 ghost use Rattle.parse_track.specs.Walk.{bind_all, hit, deeper};
 ghost use Rattle.parse_track.specs.Visited.{IsVisited};
 
-use crate::region::{ClosedAt, Known, Region};
 use crate::names::items_at;
+use crate::region::{ClosedAt, Known, Region};
 use crate::scopes::scopes_of;
 use crate::track::{Item, Row};
 use std::alloc::{AllocError, Global};
@@ -29,14 +29,26 @@ pub struct Top {
 }
 
 /// The bindings to which these names were bound.
-pub fn look_up<V: Copy>(alloc: Global, env: &BTreeMap<u32, V>, names: &[u32]) -> Result<Vec<Option<V>>, AllocError>
+pub fn look_up<V: Copy>(
+    alloc: Global,
+    env: &BTreeMap<u32, V>,
+    names: &[u32],
+) -> Result<Vec<Option<V>>, AllocError>
     ensures { IfOk result (λ saved. saved.items ≡ map (get nat_cmp env.now) names.now) }
 {
-    names.iter().map(|name| env.get(name).copied()).collect(alloc)
+    names
+        .iter()
+        .map(|name| env.get(name).copied())
+        .collect(alloc)
 }
 
 /// Binds these names, the first at this place.
-fn bind(env: &mut BTreeMap<u32, Top>, names: &[u32], place: usize, depth: usize) -> Result<(), AllocError>
+fn bind(
+    env: &mut BTreeMap<u32, Top>,
+    names: &[u32],
+    place: usize,
+    depth: usize,
+) -> Result<(), AllocError>
     requires { place + length names.now < 2 ^ 64 }
     ensures { OnOk result ((y : ℕ) → get nat_cmp env.new y ≡ bind_all depth place names.now (get nat_cmp env.old) y) }
 {
@@ -53,7 +65,11 @@ fn bind(env: &mut BTreeMap<u32, Top>, names: &[u32], place: usize, depth: usize)
 }
 
 /// Binds these names to what they were bound to.
-pub fn put_back<V: Copy>(env: &mut BTreeMap<u32, V>, names: &[u32], saved: &[Option<V>]) -> Result<(), AllocError>
+pub fn put_back<V: Copy>(
+    env: &mut BTreeMap<u32, V>,
+    names: &[u32],
+    saved: &[Option<V>],
+) -> Result<(), AllocError>
     requires { length names.now ≡ length saved.now }
     ensures { (tops : ℕ → Option V) → saved.now ≡ map tops names.now → ((y : ℕ) → has nat_eq y names.now ≡ false → get nat_cmp env.old y ≡ tops y) → OnOk result ((y : ℕ) → get nat_cmp env.new y ≡ tops y) }
 {
@@ -82,7 +98,12 @@ fn join(alloc: Global, scopes: &[Vec<u32>]) -> Result<Vec<u32>, AllocError>
 }
 
 /// Adds the bindings of a scope.
-fn push_scope(bound: &mut Vec<ClosedAt>, func: Option<u32>, scope: u32, names: &[u32]) -> Result<(), AllocError>
+fn push_scope(
+    bound: &mut Vec<ClosedAt>,
+    func: Option<u32>,
+    scope: u32,
+    names: &[u32],
+) -> Result<(), AllocError>
     ensures { OnOk result (bounds_of bound.new.items ≡ bounds_of bound.old.items ++ bound_in func scope names.now) }
 {
     for name in names {
@@ -96,7 +117,12 @@ fn push_scope(bound: &mut Vec<ClosedAt>, func: Option<u32>, scope: u32, names: &
 }
 
 /// Adds the bindings of these scopes, of which the first has the number `from`.
-fn push_scopes(bound: &mut Vec<ClosedAt>, func: Option<u32>, from: u32, scopes: &[Vec<u32>]) -> Result<(), AllocError>
+fn push_scopes(
+    bound: &mut Vec<ClosedAt>,
+    func: Option<u32>,
+    from: u32,
+    scopes: &[Vec<u32>],
+) -> Result<(), AllocError>
     requires { from + length scopes.now < 2 ^ 32 }
     ensures { OnOk result (bounds_of bound.new.items ≡ bounds_of bound.old.items ++ bound_by func from (items_of_lists scopes.now)) }
 {
@@ -178,7 +204,11 @@ fn next_scope(from: u32, scopes: &[Vec<u32>]) -> Result<u32, AllocError>
     ensures { IfOk result (λ next. (next ≡ from + length scopes.now) × (next < 2 ^ 32)) }
 {
     let next = from as usize + scopes.len();
-    if next <= u32::MAX as usize { Ok(next as u32) } else { Err(AllocError) }
+    if next <= u32::MAX as usize {
+        Ok(next as u32)
+    } else {
+        Err(AllocError)
+    }
 }
 
 /// A use of a name hits its innermost binding, where that is of a function further out.
@@ -250,7 +280,11 @@ fn function_at(rows: &[Row], room: usize, kind: Region, region: u32) -> u32
     ensures { result ≡ at_of (region_of kind) (offset_of (slice_get (map row_of rows.now) region)) (told_region room (map row_of rows.now) region) }
 {
     let at = offset_of(rows, region);
-    if is_lambda(kind) { first_at(rows, items_at(rows, room, region), at) } else { at }
+    if is_lambda(kind) {
+        first_at(rows, items_at(rows, room, region), at)
+    } else {
+        at
+    }
 }
 
 /// What is around the parts of a region.

@@ -78,12 +78,26 @@ fn visit_outermost(
 {
     match around {
         Some(_) => Ok(scope),
-        None => visit_inner(alloc, known, rows, rows.len(), region, Around::script(), scope, found),
+        None => visit_inner(
+            alloc,
+            known,
+            rows,
+            rows.len(),
+            region,
+            Around::script(),
+            scope,
+            found,
+        ),
     }
 }
 
 /// The walk over a script, from its outermost regions.
-fn visit_script(alloc: Global, known: &Known, rows: &[Row], found: &mut Found) -> Result<u32, AllocError>
+fn visit_script(
+    alloc: Global,
+    known: &Known,
+    rows: &[Row],
+    found: &mut Found,
+) -> Result<u32, AllocError>
     requires { length rows.now ≤ 2 ^ 32 - 2 }
     ensures { IfOk result (λ next. Visits (known_names known.now) false None 0 (stand_of found.old 0) (stand_of found.new next) (told_of (map row_of rows.now))) }
 {

@@ -7,12 +7,16 @@
 //! `specs/EarlyErrors.antt` and `specs/ClosedNames.antt`.
 #![tactic(auto)]
 
-pub mod region;
-pub mod track;
-mod names;
-mod offsets;
-mod rules;
 mod clashing;
-mod scopes;
 mod closed;
 mod closed_names;
+mod errors;
+mod jumps;
+mod names;
+mod offsets;
+pub mod region;
+mod rules;
+mod scopes;
+#[cfg(test)]
+mod tests;
+pub mod track;

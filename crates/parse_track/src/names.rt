@@ -40,7 +40,11 @@ fn declared(asked: Asked, item: &Item) -> Option<Ident>
 {
     match item {
         Item::Declared(how, name) => {
-            if is_asked(asked, *how) { Some(*name) } else { None }
+            if is_asked(asked, *how) {
+                Some(*name)
+            } else {
+                None
+            }
         }
         Item::Used(_) => None,
         Item::Jumped(_, _, _) => None,
@@ -52,7 +56,10 @@ fn declared(asked: Asked, item: &Item) -> Option<Ident>
 pub fn direct_names(alloc: Global, asked: Asked, items: &[Item]) -> Result<Vec<Ident>, AllocError>
     ensures { IfOk result (λ names. names.items ≡ filter_map (asked_in asked) items.now) }
 {
-    items.iter().filter_map(|item| declared(asked, item)).collect(alloc)
+    items
+        .iter()
+        .filter_map(|item| declared(asked, item))
+        .collect(alloc)
 }
 
 /// What stands in a region, where so many regions may stand one in another; nothing where there is no room or no region.
@@ -61,9 +68,7 @@ pub fn items_at(rows: &[Row], room: usize, region: u32) -> &[Item]
     ensures room { 0 < length result.now → 0 < room }
 {
     match rows.get(region as usize) {
-        Some(row) => {
-            if room == 0 { &[] } else { &row.items }
-        }
+        Some(row) => { if room == 0 { &[] } else { &row.items } }
         None => &[],
     }
 }
@@ -90,7 +95,11 @@ fn open_region(rows: &[Row], region: u32) -> Option<u32>
 {
     match rows.get(region as usize) {
         Some(row) => {
-            if stops_vars(row.kind) { None } else { Some(region) }
+            if stops_vars(row.kind) {
+                None
+            } else {
+                Some(region)
+            }
         }
         None => Some(region),
     }
@@ -98,7 +107,12 @@ fn open_region(rows: &[Row], region: u32) -> Option<u32>
 
 /// The names of the `var` declarations of an item, and of a region inside those that hoist out of it.
 #[cycle(hoisting)]
-fn add_item_vars(rows: &[Row], room: usize, item: Item, names: &mut Vec<Ident>) -> Result<(), AllocError>
+fn add_item_vars(
+    rows: &[Row],
+    room: usize,
+    item: Item,
+    names: &mut Vec<Ident>,
+) -> Result<(), AllocError>
     ensures { OnOk result (map name_of names.new.items ≡ map name_of names.old.items ++ vars (told_items (map row_of rows.now) (told_region room (map row_of rows.now)) (item_of item ∷ []))) }
 {
     match item {
@@ -120,7 +134,12 @@ fn add_item_vars(rows: &[Row], room: usize, item: Item, names: &mut Vec<Ident>) 
 
 /// Adds the var names of a region.
 #[cycle(hoisting)]
-pub fn add_vars(rows: &[Row], room: usize, region: u32, names: &mut Vec<Ident>) -> Result<(), AllocError>
+pub fn add_vars(
+    rows: &[Row],
+    room: usize,
+    region: u32,
+    names: &mut Vec<Ident>,
+) -> Result<(), AllocError>
     ensures { OnOk result (map name_of names.new.items ≡ map name_of names.old.items ++ vars (told_region room (map row_of rows.now) region)) }
 {
     let items = items_at(rows, room, region);

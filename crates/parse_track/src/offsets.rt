@@ -26,7 +26,11 @@ pub fn lesser(x: Option<u32>, y: Option<u32>) -> Option<u32>
 pub fn lesser_if(first: Option<u32>, clash: bool, at: u32) -> Option<u32>
     ensures { result ≡ cond clash (smaller first (Some at)) first }
 {
-    if clash { lesser(first, Some(at)) } else { first }
+    if clash {
+        lesser(first, Some(at))
+    } else {
+        first
+    }
 }
 
 /// The smallest offset of a name that stands before it too.

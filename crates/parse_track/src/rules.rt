@@ -45,14 +45,27 @@ fn is_inner(inner: InnerKind, kind: Region) -> bool
 }
 
 /// The names that are declared so in a region itself.
-pub fn names_in(alloc: Global, rows: &[Row], room: usize, region: u32, asked: Asked) -> Result<Vec<Ident>, AllocError>
+pub fn names_in(
+    alloc: Global,
+    rows: &[Row],
+    room: usize,
+    region: u32,
+    asked: Asked,
+) -> Result<Vec<Ident>, AllocError>
     ensures { IfOk result (λ names. map name_of names.items ≡ directly (asks asked) (told_region room (map row_of rows.now) region)) }
 {
     direct_names(alloc, asked, items_at(rows, room, region))
 }
 
 /// Adds the lexical names of a region inside, where it is of this kind.
-fn add_inner(alloc: Global, rows: &[Row], room: usize, inner: InnerKind, item: Item, names: &mut Vec<Ident>) -> Result<(), AllocError>
+fn add_inner(
+    alloc: Global,
+    rows: &[Row],
+    room: usize,
+    inner: InnerKind,
+    item: Item,
+    names: &mut Vec<Ident>,
+) -> Result<(), AllocError>
     ensures { OnOk result (map name_of names.new.items ≡ map name_of names.old.items ++ lexical_below (is_inner inner) (told_items (map row_of rows.now) (told_region room (map row_of rows.now)) (item_of item ∷ []))) }
 {
     match item {
@@ -70,7 +83,14 @@ fn add_inner(alloc: Global, rows: &[Row], room: usize, inner: InnerKind, item: I
 }
 
 /// Adds the lexical names of the regions of this kind that are directly inside a region.
-fn add_inners(alloc: Global, rows: &[Row], room: usize, inner: InnerKind, region: u32, names: &mut Vec<Ident>) -> Result<(), AllocError>
+fn add_inners(
+    alloc: Global,
+    rows: &[Row],
+    room: usize,
+    inner: InnerKind,
+    region: u32,
+    names: &mut Vec<Ident>,
+) -> Result<(), AllocError>
     ensures { OnOk result (map name_of names.new.items ≡ map name_of names.old.items ++ lexical_below (is_inner inner) (told_region room (map row_of rows.now) region)) }
 {
     let items = items_at(rows, room, region);
@@ -92,7 +112,13 @@ fn lambda_name(alloc: Global, kind: Region) -> Result<Vec<Ident>, AllocError>
 }
 
 /// The first name that is declared so in a region and stands before it too.
-fn first_twice(alloc: Global, rows: &[Row], room: usize, region: u32, asked: Asked) -> Result<Option<u32>, AllocError>
+fn first_twice(
+    alloc: Global,
+    rows: &[Row],
+    room: usize,
+    region: u32,
+    asked: Asked,
+) -> Result<Option<u32>, AllocError>
     ensures { IfOk result (λ first. first ≡ smallest (repeated nat_eq [] (directly (asks asked) (told_region room (map row_of rows.now) region)))) }
 {
     let names = names_in(alloc, rows, room, region, asked)?;
@@ -100,7 +126,12 @@ fn first_twice(alloc: Global, rows: &[Row], room: usize, region: u32, asked: Ask
 }
 
 /// The first lexical name of the block of a catch clause that equals its parameter.
-fn first_catch(alloc: Global, rows: &[Row], room: usize, region: u32) -> Result<Option<u32>, AllocError>
+fn first_catch(
+    alloc: Global,
+    rows: &[Row],
+    room: usize,
+    region: u32,
+) -> Result<Option<u32>, AllocError>
     ensures { IfOk result (λ first. let told = told_region room (map row_of rows.now) region in first ≡ smallest (also_in nat_eq (directly is_catch_param told) (lexical_below is_block told))) }
 {
     let params = names_in(alloc, rows, room, region, Asked::Catch)?;
@@ -110,7 +141,12 @@ fn first_catch(alloc: Global, rows: &[Row], room: usize, region: u32) -> Result<
 }
 
 /// The first lexical name of the body of a function that equals a parameter.
-fn first_param(alloc: Global, rows: &[Row], room: usize, region: u32) -> Result<Option<u32>, AllocError>
+fn first_param(
+    alloc: Global,
+    rows: &[Row],
+    room: usize,
+    region: u32,
+) -> Result<Option<u32>, AllocError>
     ensures { IfOk result (λ first. let told = told_region room (map row_of rows.now) region in first ≡ smallest (also_in nat_eq (directly is_param told) (directly is_lexical told ++ lexical_below is_body told))) }
 {
     let params = names_in(alloc, rows, room, region, Asked::Param)?;
@@ -120,7 +156,14 @@ fn first_param(alloc: Global, rows: &[Row], room: usize, region: u32) -> Result<
 }
 
 /// The first name that a region binds and that may not be bound.
-fn first_bound_reserved(alloc: Global, known: &Known, rows: &[Row], room: usize, kind: Region, region: u32) -> Result<Option<u32>, AllocError>
+fn first_bound_reserved(
+    alloc: Global,
+    known: &Known,
+    rows: &[Row],
+    room: usize,
+    kind: Region,
+    region: u32,
+) -> Result<Option<u32>, AllocError>
     ensures { IfOk result (λ first. first ≡ smallest (binds_reserved nat_eq (known_names known.now) (region_of kind) (told_region room (map row_of rows.now) region))) }
 {
     let mut names = lambda_name(alloc, kind)?;
@@ -131,7 +174,15 @@ fn first_bound_reserved(alloc: Global, known: &Known, rows: &[Row], room: usize,
 }
 
 /// The smallest offset of an early error of this rule at a region itself.
-fn first_at(alloc: Global, known: &Known, rows: &[Row], room: usize, rule: RegionRule, kind: Region, region: u32) -> Result<Option<u32>, AllocError>
+fn first_at(
+    alloc: Global,
+    known: &Known,
+    rows: &[Row],
+    room: usize,
+    rule: RegionRule,
+    kind: Region,
+    region: u32,
+) -> Result<Option<u32>, AllocError>
     ensures { IfOk result (λ first. first ≡ smallest (rule_of rule (known_names known.now) (region_of kind) (told_region room (map row_of rows.now) region))) }
 {
     match rule {
@@ -145,12 +196,27 @@ fn first_at(alloc: Global, known: &Known, rows: &[Row], room: usize, rule: Regio
 
 /// The smallest offset of an early error of this rule in a region that an item is.
 #[cycle(seeking)]
-fn first_in_item(alloc: Global, known: &Known, rows: &[Row], room: usize, rule: RegionRule, item: Item) -> Result<Option<u32>, AllocError>
+fn first_in_item(
+    alloc: Global,
+    known: &Known,
+    rows: &[Row],
+    room: usize,
+    rule: RegionRule,
+    item: Item,
+) -> Result<Option<u32>, AllocError>
     ensures { IfOk result (λ first. first ≡ smallest (at_regions (rule_of rule (known_names known.now)) (told_items (map row_of rows.now) (told_region room (map row_of rows.now)) (item_of item ∷ [])))) }
 {
     match item {
         Item::Inner(region) => {
-            let own = first_at(alloc, known, rows, room, rule, kind_at(rows, region), region)?;
+            let own = first_at(
+                alloc,
+                known,
+                rows,
+                room,
+                rule,
+                kind_at(rows, region),
+                region,
+            )?;
             let inside = first_in(alloc, known, rows, room, rule, region)?;
             let first = lesser(own, inside);
             Ok(first)
@@ -163,7 +229,14 @@ fn first_in_item(alloc: Global, known: &Known, rows: &[Row], room: usize, rule: 
 
 /// The smallest offset of an early error of this rule in the regions inside a region.
 #[cycle(seeking)]
-fn first_in(alloc: Global, known: &Known, rows: &[Row], room: usize, rule: RegionRule, region: u32) -> Result<Option<u32>, AllocError>
+fn first_in(
+    alloc: Global,
+    known: &Known,
+    rows: &[Row],
+    room: usize,
+    rule: RegionRule,
+    region: u32,
+) -> Result<Option<u32>, AllocError>
     ensures { IfOk result (λ first. first ≡ smallest (at_regions (rule_of rule (known_names known.now)) (told_region room (map row_of rows.now) region))) }
 {
     let mut first = None;
@@ -176,7 +249,14 @@ fn first_in(alloc: Global, known: &Known, rows: &[Row], room: usize, rule: Regio
 }
 
 /// The smallest offset of an early error of this rule in an outermost region.
-fn first_in_outermost(alloc: Global, known: &Known, rows: &[Row], rule: RegionRule, region: u32, around: Option<u32>) -> Result<Option<u32>, AllocError>
+fn first_in_outermost(
+    alloc: Global,
+    known: &Known,
+    rows: &[Row],
+    rule: RegionRule,
+    region: u32,
+    around: Option<u32>,
+) -> Result<Option<u32>, AllocError>
     ensures { IfOk result (λ first. first ≡ smallest (at_regions (rule_of rule (known_names known.now)) (told_items (map row_of rows.now) (told_region (length rows.now) (map row_of rows.now)) (outermost_if region around)))) }
 {
     match around {
@@ -186,7 +266,12 @@ fn first_in_outermost(alloc: Global, known: &Known, rows: &[Row], rule: RegionRu
 }
 
 /// The smallest offset of an early error of this rule in a script.
-pub fn first_of(alloc: Global, known: &Known, rows: &[Row], rule: RegionRule) -> Result<Option<u32>, AllocError>
+pub fn first_of(
+    alloc: Global,
+    known: &Known,
+    rows: &[Row],
+    rule: RegionRule,
+) -> Result<Option<u32>, AllocError>
     requires { length rows.now ≤ 2 ^ 32 - 2 }
     ensures { IfOk result (λ first. first ≡ smallest (at_regions (rule_of rule (known_names known.now)) (told_of (map row_of rows.now)))) }
 {

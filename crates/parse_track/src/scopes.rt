@@ -39,7 +39,13 @@ pub fn atoms_of(alloc: Global, names: &[Ident]) -> Result<Vec<u32>, AllocError>
 }
 
 /// The atoms of the names that are declared so in a region itself.
-fn direct_atoms(alloc: Global, rows: &[Row], room: usize, region: u32, asked: Asked) -> Result<Vec<u32>, AllocError>
+fn direct_atoms(
+    alloc: Global,
+    rows: &[Row],
+    room: usize,
+    region: u32,
+    asked: Asked,
+) -> Result<Vec<u32>, AllocError>
     ensures { IfOk result (λ atoms. atoms.items ≡ names_of (directly (asks asked) (told_region room (map row_of rows.now) region))) }
 {
     let names = direct_names(alloc, asked, items_at(rows, room, region))?;
@@ -67,7 +73,11 @@ fn push_scope(alloc: Global, scopes: &mut Vec<Vec<u32>>, atoms: &[u32]) -> Resul
 }
 
 /// The scope of these names, which is there without a name too.
-fn push_whole_scope(alloc: Global, scopes: &mut Vec<Vec<u32>>, atoms: &[u32]) -> Result<(), AllocError>
+fn push_whole_scope(
+    alloc: Global,
+    scopes: &mut Vec<Vec<u32>>,
+    atoms: &[u32],
+) -> Result<(), AllocError>
     ensures { OnOk result (items_of_lists scopes.new.items ≡ items_of_lists scopes.old.items ++ distinct nat_eq atoms.now ∷ []) }
 {
     let scope = distinct(alloc, atoms)?;
@@ -106,7 +116,13 @@ fn has_body(rows: &[Row], room: usize, region: u32) -> bool
 
 /// The scopes of a function: the parameters with the var names and what is implicit, and the lexical names; or, where the body
 /// is a region of its own, the parameters alone.
-fn function_scopes(alloc: Global, implicit: &[u32], rows: &[Row], room: usize, region: u32) -> Result<Vec<Vec<u32>>, AllocError>
+fn function_scopes(
+    alloc: Global,
+    implicit: &[u32],
+    rows: &[Row],
+    room: usize,
+    region: u32,
+) -> Result<Vec<Vec<u32>>, AllocError>
     ensures { IfOk result (λ scopes. let told = told_region room (map row_of rows.now) region in items_of_lists scopes.items ≡ function_scopes nat_eq implicit.now (has_body told) told) }
 {
     let mut scopes = Vec::new(alloc);
@@ -126,7 +142,13 @@ fn function_scopes(alloc: Global, implicit: &[u32], rows: &[Row], room: usize, r
 }
 
 /// The one scope of the names that are declared so in a region, where there are any.
-fn one_scope(alloc: Global, rows: &[Row], room: usize, region: u32, asked: Asked) -> Result<Vec<Vec<u32>>, AllocError>
+fn one_scope(
+    alloc: Global,
+    rows: &[Row],
+    room: usize,
+    region: u32,
+    asked: Asked,
+) -> Result<Vec<Vec<u32>>, AllocError>
     ensures { IfOk result (λ scopes. items_of_lists scopes.items ≡ scope_if_any (distinct nat_eq (names_of (directly (asks asked) (told_region room (map row_of rows.now) region))))) }
 {
     let mut scopes = Vec::new(alloc);
@@ -136,7 +158,12 @@ fn one_scope(alloc: Global, rows: &[Row], room: usize, region: u32, asked: Asked
 }
 
 /// The scope of a script.
-fn script_scopes(alloc: Global, rows: &[Row], room: usize, region: u32) -> Result<Vec<Vec<u32>>, AllocError>
+fn script_scopes(
+    alloc: Global,
+    rows: &[Row],
+    room: usize,
+    region: u32,
+) -> Result<Vec<Vec<u32>>, AllocError>
     ensures { IfOk result (λ scopes. let told = told_region room (map row_of rows.now) region in items_of_lists scopes.items ≡ distinct nat_eq (names_of (vars told) ++ names_of (directly (asks Asked.Lexical) told)) ∷ []) }
 {
     let mut scopes = Vec::new(alloc);
@@ -148,7 +175,12 @@ fn script_scopes(alloc: Global, rows: &[Row], room: usize, region: u32) -> Resul
 }
 
 /// The scopes of a body that is a region of its own: its var names, and its lexical names.
-fn body_scopes(alloc: Global, rows: &[Row], room: usize, region: u32) -> Result<Vec<Vec<u32>>, AllocError>
+fn body_scopes(
+    alloc: Global,
+    rows: &[Row],
+    room: usize,
+    region: u32,
+) -> Result<Vec<Vec<u32>>, AllocError>
     ensures { IfOk result (λ scopes. let told = told_region room (map row_of rows.now) region in items_of_lists scopes.items ≡ scope_if_any (distinct nat_eq (names_of (vars told))) ++ scope_if_any (distinct nat_eq (names_of (directly (asks Asked.Lexical) told)))) }
 {
     let mut scopes = Vec::new(alloc);
@@ -171,7 +203,14 @@ fn name_scope(alloc: Global, name: Ident) -> Result<Vec<Vec<u32>>, AllocError>
 }
 
 /// The scopes of a region of this kind from the outermost in, each with the atoms of its names in the order of its bindings.
-pub fn scopes_of(alloc: Global, known: &Known, rows: &[Row], room: usize, kind: Region, region: u32) -> Result<Vec<Vec<u32>>, AllocError>
+pub fn scopes_of(
+    alloc: Global,
+    known: &Known,
+    rows: &[Row],
+    room: usize,
+    kind: Region,
+    region: u32,
+) -> Result<Vec<Vec<u32>>, AllocError>
     ensures { IfOk result (λ some. items_of_lists some.items ≡ scopes nat_eq (known_names known.now) (region_of kind) (told_region room (map row_of rows.now) region)) }
 {
     match kind {

@@ -1,12 +1,16 @@
 //! The log of what is told.
 
-ghost use Rattle.std.specs.Prelude.{◌≡◌, ◌<◌, ◌≤◌, ◌+◌, ◌^◌, ◌-◌, ◌⊎◌, length, map, IsSome, IfSome, IfOk, OnOk, OnErr, Some, None, []};
+ghost use Rattle.std.specs.Prelude.{◌≡◌, ◌<◌, ◌≤◌, ◌+◌, ◌^◌, ◌-◌, ◌⊎◌, length, map, IsSome, IfSome, IfOk, OnOk, OnErr, Some, None, [], nat_eq};
 ghost use Rattle.parse_track.specs.Told.{Declared, Used, Jumped};
-ghost use Rattle.parse_track.specs.Log.{name_of, label_of, with_leaf, entered, left, noting, tell, around_at};
-ghost use Rattle.parse_track.specs.EarlyErrors.{sooner};
+ghost use Rattle.parse_track.specs.Log.{name_of, label_of, with_leaf, entered, left, noting, tell, around_at, known_names, told_of};
+ghost use Rattle.parse_track.specs.EarlyErrors.{first_error};
+ghost use Rattle.parse_track.specs.ClosedNames.{closed};
+ghost use Rattle.parse_track.specs.Scopes.{bounds_of};
 ghost use Rattle.parse_track.specs.Rows.{item_of, row_of};
 
-use crate::region::{Declare, Early, Jump, Known, Region};
+use crate::closed_names::closed_names;
+use crate::errors::{first_error, sooner_early};
+use crate::region::{Declare, Early, Jump, Known, Region, Tracked};
 use script_grammar::tree::Ident;
 use std::alloc::{AllocError, Global};
 use std::marker::Model;
@@ -42,8 +46,10 @@ pub struct Track {
 impl Model for Track {
     ghost use Rattle.std.specs.Prelude.{map};
     ghost use Rattle.parse_track.specs.Log.{Log};
-    ghost use Rattle.parse_track.specs.EarlyErrors.{sooner};
-ghost use Rattle.parse_track.specs.Rows.{row_of, IsInOrder};
+    ghost use Rattle.parse_track.specs.EarlyErrors.{first_error};
+    ghost use Rattle.parse_track.specs.ClosedNames.{closed};
+    ghost use Rattle.parse_track.specs.Scopes.{bounds_of};
+    ghost use Rattle.parse_track.specs.Rows.{row_of, IsInOrder};
 
     ghost Value = { Log };
 
@@ -159,6 +165,17 @@ impl Track {
     {
         self.noted = sooner_early(Some(Early { offset, rule }), self.noted);
     }
+
+    /// What follows from all that was told: the first early error, and the names that inner functions close over, in order of
+    /// functions, scopes and bindings. There are fewer than 2^32 scopes in one function.
+    pub fn finish(self) -> Result<Tracked, AllocError>
+        ensures early { IfOk result (λ tracked. tracked.early ≡ first_error nat_eq (known_names self.known) self.noted (told_of self.parts)) }
+        ensures closed { IfOk result (λ tracked. bounds_of tracked.closed.items ≡ closed nat_eq (known_names self.known) (told_of self.parts)) }
+    {
+        let early = first_error(self.alloc, &self.known, &self.rows, self.noted)?;
+        let closed = closed_names(self.alloc, &self.known, &self.rows)?;
+        Ok(Tracked { early, closed })
+    }
 }
 
 /// The number of the next region, where there may be one more.
@@ -166,7 +183,11 @@ fn next_number(rows: &[Row]) -> Result<u32, AllocError>
     ensures { IfOk result (λ n. (n ≡ length rows.now) × (n < 2 ^ 32 - 2)) }
 {
     let count = rows.len();
-    if count < u32::MAX as usize - 1 { Ok(count as u32) } else { Err(AllocError) }
+    if count < u32::MAX as usize - 1 {
+        Ok(count as u32)
+    } else {
+        Err(AllocError)
+    }
 }
 
 /// The region around this one.
@@ -176,18 +197,5 @@ fn around(rows: &[Row], region: Option<u32>) -> Option<u32>
     match rows.get(region? as usize) {
         Some(row) => row.around,
         None => None,
-    }
-}
-
-/// Of two early errors the first.
-fn sooner_early(x: Option<Early>, y: Option<Early>) -> Option<Early>
-    ensures { result ≡ sooner x y }
-{
-    match (x, y) {
-        (None, y) => y,
-        (x, None) => x,
-        (Some(a), Some(b)) => {
-            if b.offset < a.offset || (b.offset == a.offset && b.rule < a.rule) { y } else { x }
-        }
     }
 }

@@ -1,5 +1,5 @@
 -- Laws of balanced lists of tokens.
-use Rattle.std.proofs.Common.{◌≡◌, ◌≢◌, ◌∙◌, ◌<◌, ◌≤◌, ◌+◌, ℕ, zero, suc, List, [], ◌∷◌, ◌++◌, Bool, true, false, Option, Some, None, length, take, drop, get_or, refl, ap, sym, subst, arith, option_and_then, if◌then◌else◌}
+use Rattle.std.proofs.Common.{◌≡◌, ◌∙◌, ◌<◌, ◌≤◌, ◌+◌, ℕ, zero, suc, List, [], ◌∷◌, ◌++◌, Bool, true, false, Option, Some, None, length, take, drop, get_or, refl, ap, sym, subst, arith, option_and_then, if◌then◌else◌}
 use Rattle.std.proofs.Math.Seq.{take-suc}
 use Rattle.std.proofs.lemmas.List.{drop-append-le, length-take-le, append_assoc}
 use Rattle.script_grammar.specs.declared.token.Kind.{Kind}
@@ -8,7 +8,7 @@ use Rattle.script_grammar.specs.declared.brackets.Bracket.{Bracket}
 use Rattle.script_grammar.specs.declared.brackets.Bracket.TheVariants.{Paren, Square, Brace, Template}
 use Rattle.script_grammar.specs.declared.brackets.BracketPart.{BracketPart}
 use Rattle.script_grammar.specs.declared.brackets.BracketPart.TheVariants.{Opening, Closing, Middle, Other}
-use Rattle.script_grammar.specs.Matching.{part_of, part_at, is_same, next_open, all_open, opened_by, closed_by, between, IsBalanced}
+use Rattle.script_grammar.specs.Matching.{part_of, is_same, next_open, all_open, opened_by, closed_by, between, IsBalanced}
 
 -- a chain of steps is one step behind another
 and_then_twice : (g h : List Bracket → Option (List Bracket)) (o : Option (List Bracket)) → option_and_then h (option_and_then g o) ≡ option_and_then (λ s. option_and_then h (g s)) o
@@ -91,6 +91,7 @@ opens-some Middle c (b ∷ s) o h e = same (is_same b Template) e
     option_or : Option (List Bracket) → List Bracket
     option_or None = []
     option_or (Some x) = x
+
     same : (t : Bool) → (if t then Some (b ∷ s) else None) ≡ Some o → (first : Bracket) × ((rest : List Bracket) × (o ≡ first ∷ rest))
     same true g = (b, (s, ap option_or (sym g)))
     same false g = absurd (cc)
@@ -115,6 +116,7 @@ opens-not_balanced xs ys k b opened ys_balanced all_balanced = before (all_open 
       where
         some_ne : {c : Bracket} {r : List Bracket} → Some (c ∷ r) ≡ Some [] → ⊥
         some_ne h = cc
+
     before : (o : Option (List Bracket)) → all_open [] xs ≡ o → option_and_then (λ t. all_open t (k ∷ ys)) o ≡ Some [] → ⊥
     before None e g = cc
     before (Some s) e g = after s (next_open s (part_of k)) refl g

@@ -1,24 +1,16 @@
 -- What each variant of an expression, a property, a key and a part of a chain stands for.
-use Rattle.std.proofs.Common.{◌≡◌, ◌∙◌, ℕ, List, [], ◌∷◌, Bool, Option, Some, None, map, option_map, unwrap_or, refl, ap, sym}
+use Rattle.std.proofs.Common.{◌≡◌, ◌∙◌, ℕ, List, [], ◌∷◌, Bool, Option, Some, None, map, option_map, refl, ap, sym}
 use Rattle.std.specs.declared.boxed.Box.{Box}
 use Rattle.std.specs.declared.vec.Vec.{Vec}
 use Rattle.std.specs.declared.alloc.Global.{Global}
-use Rattle.script_grammar.specs.declared.token.Decl.{Decl}
 use Rattle.script_grammar.specs.declared.tree.Ident.{Ident}
-use Rattle.script_grammar.specs.declared.tree.Each.{Each}
 use Rattle.script_grammar.specs.declared.tree.Expr.{Expr}
-use Rattle.script_grammar.specs.declared.tree.FuncBody.{FuncBody}
-use Rattle.script_grammar.specs.declared.tree.Init.{Init}
 use Rattle.script_grammar.specs.declared.tree.Key.{Key}
 use Rattle.script_grammar.specs.declared.tree.Prop.{Prop}
-use Rattle.script_grammar.specs.declared.tree.Stmt.{Stmt}
 use Rattle.script_grammar.specs.declared.tree.Tail.{Tail}
 use Rattle.script_grammar.specs.declared.tree.Args.{Args}
-use Rattle.script_grammar.specs.declared.tree.Bind.{Bind}
-use Rattle.script_grammar.specs.declared.tree.Clause.{Clause}
 use Rattle.script_grammar.specs.declared.tree.Func.{Func}
 use Rattle.script_grammar.specs.declared.tree.Operand.{Operand}
-use Rattle.script_grammar.specs.declared.tree.Param.{Param}
 use Rattle.script_grammar.specs.declared.tree.TemplatePart.{TemplatePart}
 use Rattle.script_grammar.specs.declared.tree.Expr.TheVariants as in_expr
 use Rattle.script_grammar.specs.declared.tree.Prop.TheVariants as in_prop
@@ -26,11 +18,11 @@ use Rattle.script_grammar.specs.declared.tree.Key.TheVariants as in_key
 use Rattle.script_grammar.specs.declared.tree.Tail.TheVariants as in_tail
 use Rattle.script_grammar.specs.declared.tree.Each.TheFolds.{fold-roll-Expr, fold-roll-Prop, fold-roll-Key, fold-roll-Tail}
 use Rattle.script_grammar.specs.declared.tree.Each.TheOpen as layer
-use Rattle.script_grammar.specs.Interpretation.{Interpretation, text_of, named, maybe_named}
+use Rattle.script_grammar.specs.Interpretation.{Interpretation, text_of, named}
 use Rattle.script_grammar.specs.Tree as model
 use Rattle.script_grammar.specs.TreeLists as part
 use Rattle.script_grammar.specs.TreeLists.{exprs_of, maybe_expr_of, items_of, maybe_args_of, operands_of, parts_of, tails_of, props_of, params_of, binds_of, clauses_of, stmts_of, maybe_stmt_of}
-use Rattle.script_grammar.specs.TreeOf.{each_of, each_step, expr_of, expr_step, body_of, body_step, init_of, init_step, key_of, key_step, prop_of, prop_step, stmt_of, stmt_step, tail_of, tail_step, args_of, args_step, bind_of, bind_step, clause_of, clause_step, func_of, func_step, operand_of, operand_step, param_of, param_step, part_of, part_step}
+use Rattle.script_grammar.specs.TreeOf.{each_step, expr_of, expr_step, body_step, init_step, key_of, key_step, prop_of, prop_step, stmt_step, tail_of, tail_step, args_of, args_step, bind_step, clause_step, func_of, func_step, operand_of, operand_step, param_step, part_of, part_step}
 use Rattle.script_grammar.specs.declared.tree.Each.TheShapes.{former-Expr-Array-1-at-1}
 
 -- the items of an array, of which some are holes

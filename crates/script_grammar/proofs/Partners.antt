@@ -1,18 +1,11 @@
 -- What a walk over the tokens knows of their partners.
-use Rattle.std.proofs.Common.{◌≡◌, ◌≢◌, ◌∙◌, ◌<◌, ◌≤◌, ◌+◌, ◌-◌, ◌⊎◌, inl, inr, ℕ, zero, suc, List, [], ◌∷◌, ◌++◌, Bool, true, false, Option, Some, None, length, take, drop, get_or, set, map, replicate, refl, ap, sym, subst, arith, option_and_then}
-use Rattle.std.proofs.Math.Seq.{take-suc}
+use Rattle.std.proofs.Common.{◌≡◌, ◌≢◌, ◌∙◌, ◌<◌, ◌≤◌, ◌+◌, ◌-◌, ◌⊎◌, inl, inr, ℕ, zero, suc, List, [], ◌∷◌, ◌++◌, Option, Some, None, length, get_or, refl, ap, sym, subst, arith, option_and_then}
 use Rattle.std.proofs.lemmas.Bool.{cases_eq}
-use Rattle.std.proofs.lemmas.List.{get_or-set_same, get_or-set_other, length-set}
 use Rattle.script_grammar.specs.declared.token.Kind.{Kind}
 use Rattle.script_grammar.specs.declared.token.Kind.TheVariants as kind
 use Rattle.script_grammar.specs.declared.brackets.Bracket.{Bracket}
-use Rattle.script_grammar.specs.declared.brackets.Bracket.TheVariants.{Paren, Square, Brace, Template}
-use Rattle.script_grammar.specs.declared.brackets.BracketPart.{BracketPart}
-use Rattle.script_grammar.specs.declared.brackets.BracketPart.TheVariants.{Opening, Closing, Middle, Other}
-use Rattle.script_grammar.specs.declared.brackets.Open.{Open}
-use Rattle.script_grammar.specs.Matching.{part_of, part_at, is_same, next_open, all_open, opened_by, closed_by, between, IsBalanced, Pairs, IsPartner, IsStop, IsMatching, Matching, partner_of}
-use Rattle.script_grammar.specs.BracketWalk.{brackets_of, AllOpen, Walked}
-use Rattle.script_grammar.proofs.Balance.{all_open-more, is_same-eq, closes-none, opens-not_balanced, between-more, between-none, between-split, all_open-append}
+use Rattle.script_grammar.specs.Matching.{part_at, all_open, opened_by, closed_by, between, IsBalanced, IsPartner}
+use Rattle.script_grammar.proofs.Balance.{closes-none, opens-not_balanced, between-split, all_open-append}
 
 abbrev some_is : {A : Type 0} (a : A) → Option A → A
 some_is a None = a
@@ -32,10 +25,10 @@ first-before ks t x n b t_x x_n within opened x_balanced t_balanced =
 pub opener-unique : (ks : List Kind) (t x n : ℕ) (b c : Bracket) → t < n → x < n → n ≤ length ks → opened_by (part_at ks t) ≡ Some b → opened_by (part_at ks x) ≡ Some c → IsBalanced (between ks t n) → IsBalanced (between ks x n) → t ≡ x
 opener-unique ks t x n b c t_n x_n within t_opens x_opens t_balanced x_balanced =
     elim (cases_eq t x) [
-      inl same ↦ same
-    | inr other ↦ elim (apart t x other) [
-        inl t_x ↦ absurd (first-before ks t x n c t_x x_n within x_opens x_balanced t_balanced)
-      | inr x_t ↦ absurd (first-before ks x t n b x_t t_n within t_opens t_balanced x_balanced)
+      | inl same ↦ same
+      | inr other ↦ elim (apart t x other) [
+        | inl t_x ↦ absurd (first-before ks t x n c t_x x_n within x_opens x_balanced t_balanced)
+        | inr x_t ↦ absurd (first-before ks x t n b x_t t_n within t_opens t_balanced x_balanced)
       ]
     ]
   where
@@ -67,11 +60,12 @@ partner-earlier ks n t p t_n p_n h = record { token = t_n; partner = p_n; pairs 
 -- A token that closes nothing brings no partner.
 pub partner-same : (ks : List Kind) (n t p : ℕ) → closed_by (part_at ks n) ≡ None → IsPartner ks (suc n) t p → IsPartner ks n t p
 partner-same ks n t p none h = elim h.pairs [
-      inl pair ↦ (let l = below p h.partner (λ e. clash pair.bracket (sym (ap (λ m. closed_by (part_at ks m)) e ∙ none) ∙ pair.closed)) in let before = pair.before in partner-earlier ks n t p (omega arith) l h)
-    | inr back ↦ (let pair = back.1 in let l = below t h.token (λ e. clash pair.bracket (sym (ap (λ m. closed_by (part_at ks m)) e ∙ none) ∙ pair.closed)) in let before = pair.before in partner-earlier ks n t p l (omega arith) h)
-    ]
+  | inl pair ↦ (let l = below p h.partner (λ e. clash pair.bracket (sym (ap (λ m. closed_by (part_at ks m)) e ∙ none) ∙ pair.closed)) in let before = pair.before in partner-earlier ks n t p (omega arith) l h)
+  | inr back ↦ (let pair = back.1 in let l = below t h.token (λ e. clash pair.bracket (sym (ap (λ m. closed_by (part_at ks m)) e ∙ none) ∙ pair.closed)) in let before = pair.before in partner-earlier ks n t p l (omega arith) h)
+]
   where
     clash : (b : Bracket) → None ≡ Some b → ⊥
     clash b e = cc
+
     below : (m : ℕ) → m < suc n → (m ≡ n → ⊥) → m < n
     below m l ne = elim (cases_eq m n) [ inl e ↦ absurd (ne e) | inr e ↦ omega arith ]

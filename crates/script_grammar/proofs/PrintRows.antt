@@ -1,5 +1,5 @@
 -- Small trees, and how they are written, computed: the kind and the depth of each token, and each unwritten semicolon.
-use Rattle.std.proofs.Common.{◌≡◌, ℕ, List, [], ◌∷◌, Bool, true, false, refl, Option, Some, None}
+use Rattle.std.proofs.Common.{◌≡◌, ℕ, List, [], ◌∷◌, true, false, refl, None}
 use Rattle.script_grammar.specs.declared.token.Kind.{Kind}
 use Rattle.script_grammar.specs.declared.token.Kind.TheVariants.{Name, Number, Mark, Word}
 use Rattle.script_grammar.specs.declared.token.mark.TheConstants as mark

@@ -1,5 +1,5 @@
 -- What each variant of a statement and of its parts stands for.
-use Rattle.std.proofs.Common.{◌≡◌, ◌∙◌, ℕ, List, [], ◌∷◌, Bool, Option, Some, None, map, option_map, unwrap_or, refl, ap, sym}
+use Rattle.std.proofs.Common.{◌≡◌, ◌∙◌, ℕ, Bool, Option, Some, None, map, option_map, ap, sym}
 use Rattle.std.specs.declared.boxed.Box.{Box}
 use Rattle.std.specs.declared.vec.Vec.{Vec}
 use Rattle.std.specs.declared.alloc.Global.{Global}
@@ -7,30 +7,22 @@ use Rattle.script_grammar.specs.declared.token.Decl.{Decl}
 use Rattle.script_grammar.specs.declared.tree.Ident.{Ident}
 use Rattle.script_grammar.specs.declared.tree.Each.{Each}
 use Rattle.script_grammar.specs.declared.tree.Expr.{Expr}
-use Rattle.script_grammar.specs.declared.tree.FuncBody.{FuncBody}
 use Rattle.script_grammar.specs.declared.tree.Init.{Init}
-use Rattle.script_grammar.specs.declared.tree.Key.{Key}
-use Rattle.script_grammar.specs.declared.tree.Prop.{Prop}
 use Rattle.script_grammar.specs.declared.tree.Stmt.{Stmt}
-use Rattle.script_grammar.specs.declared.tree.Tail.{Tail}
-use Rattle.script_grammar.specs.declared.tree.Args.{Args}
 use Rattle.script_grammar.specs.declared.tree.Bind.{Bind}
 use Rattle.script_grammar.specs.declared.tree.Clause.{Clause}
 use Rattle.script_grammar.specs.declared.tree.Func.{Func}
-use Rattle.script_grammar.specs.declared.tree.Operand.{Operand}
-use Rattle.script_grammar.specs.declared.tree.Param.{Param}
-use Rattle.script_grammar.specs.declared.tree.TemplatePart.{TemplatePart}
 use Rattle.script_grammar.specs.declared.tree.Stmt.TheVariants as in_stmt
 use Rattle.script_grammar.specs.declared.tree.FuncBody.TheVariants as in_funcbody
 use Rattle.script_grammar.specs.declared.tree.Init.TheVariants as in_init
 use Rattle.script_grammar.specs.declared.tree.Each.TheVariants as in_each
 use Rattle.script_grammar.specs.declared.tree.Each.TheFolds.{fold-roll-Stmt, fold-roll-FuncBody, fold-roll-Init, fold-roll-Each}
 use Rattle.script_grammar.specs.declared.tree.Each.TheOpen as layer
-use Rattle.script_grammar.specs.Interpretation.{Interpretation, text_of, named, maybe_named}
+use Rattle.script_grammar.specs.Interpretation.{Interpretation, named, maybe_named}
 use Rattle.script_grammar.specs.Tree as model
 use Rattle.script_grammar.specs.TreeLists as part
 use Rattle.script_grammar.specs.TreeLists.{exprs_of, maybe_expr_of, items_of, maybe_args_of, operands_of, parts_of, tails_of, props_of, params_of, binds_of, clauses_of, stmts_of, maybe_stmt_of}
-use Rattle.script_grammar.specs.TreeOf.{each_of, each_step, expr_of, expr_step, body_of, body_step, init_of, init_step, key_of, key_step, prop_of, prop_step, stmt_of, stmt_step, tail_of, tail_step, args_of, args_step, bind_of, bind_step, clause_of, clause_step, func_of, func_step, operand_of, operand_step, param_of, param_step, part_of, part_step}
+use Rattle.script_grammar.specs.TreeOf.{each_of, each_step, expr_of, expr_step, body_of, body_step, init_of, init_step, key_step, prop_step, stmt_of, stmt_step, tail_step, args_step, bind_of, bind_step, clause_of, clause_step, func_of, func_step, operand_step, param_step, part_step}
 
 pub stmt_of-Block : (i : Interpretation) (items : Vec Stmt Global) → stmt_of i (in_stmt.Block items) ≡ model.Block (stmts_of (map (stmt_of i) items.items))
 stmt_of-Block i items = ap (stmt_of i) (sym (in_stmt.rolls-Block items)) ∙ fold-roll-Stmt model.Each model.Expr (Option model.Body) model.Init model.Key model.Prop model.Stmt model.Tail part.Args part.Bind part.Clause model.Function part.Operand part.Param part.Part (each_step i) (expr_step i) (body_step i) (init_step i) (key_step i) (prop_step i) (stmt_step i) (tail_step i) (args_step i) (bind_step i) (clause_step i) (func_step i) (operand_step i) (param_step i) (part_step i) (layer.Block items)

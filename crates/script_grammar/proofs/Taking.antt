@@ -1,5 +1,5 @@
 -- What the walk knows behind one more token, by what its calls did to partners and open tokens.
-use Rattle.std.proofs.Common.{◌≡◌, ◌∙◌, ◌<◌, ◌≤◌, ◌+◌, ℕ, zero, suc, List, [], ◌∷◌, Bool, true, false, Option, Some, None, length, get_or, set, replicate, refl, ap, sym, subst, arith, if◌then◌else◌}
+use Rattle.std.proofs.Common.{◌≡◌, ◌∙◌, ◌<◌, ◌+◌, ℕ, suc, List, [], ◌∷◌, Bool, true, false, Option, Some, None, length, get_or, set, replicate, refl, ap, sym, subst, arith, if◌then◌else◌}
 use Rattle.std.proofs.lemmas.List.{get_or-map, length-map}
 use Rattle.script_grammar.specs.declared.token.Token.{Token}
 use Rattle.script_grammar.specs.declared.token.Kind.TheVariants as kind
@@ -25,7 +25,7 @@ taken-other ts n d ps os within read h = walked-other (kinds_of ts) n ps os (kin
 pub taken-opening : (ts : List Token) (n : ℕ) (d : Token) (b : Bracket) (ps qs : List (Option ℕ)) (os us : List Open) → n < length ts → Opening b ≡ part_of (get_or ts n d).kind → Walked (kinds_of ts) n ps os → qs ≡ ps → us ≡ record { token = n; bracket = b } ∷ os → Walked (kinds_of ts) (suc n) qs us
 taken-opening ts n d b ps qs os us within read h partners opened =
     subst (λ q. Walked (kinds_of ts) (suc n) q us) (sym partners) (subst (λ u. Walked (kinds_of ts) (suc n) ps u) (sym opened)
-      (walked-opening (kinds_of ts) n b ps os (kinds-within ts n within) (part-read ts n d (Opening b) within read) h))
+    (walked-opening (kinds_of ts) n b ps os (kinds-within ts n within) (part-read ts n d (Opening b) within read) h))
 
 pub taken-closing : (ts : List Token) (n : ℕ) (d : Token) (b : Bracket) (x : ℕ) (ps qs rs ss : List (Option ℕ)) (os us vs : List Open) → n < length ts → Closing b ≡ part_of (get_or ts n d).kind → Walked (kinds_of ts) n ps os
     → Closes os us b (Some x) → qs ≡ ps → rs ≡ set qs x (Some n) → ss ≡ set rs n (Some x) → vs ≡ us → Walked (kinds_of ts) (suc n) ss vs
@@ -47,7 +47,7 @@ taken-middle ts n d x ps qs rs ss os us vs ws within read h closed same first ke
 pub misfit-closing : (ts : List Token) (n : ℕ) (d : Token) (b : Bracket) (ps qs : List (Option ℕ)) (os us : List Open) → n < length ts → Closing b ≡ part_of (get_or ts n d).kind → Walked (kinds_of ts) n ps os → Closes os us b None → qs ≡ ps → IsMatching (kinds_of ts) (record { partners = qs; stop = n })
 misfit-closing ts n d b ps qs os us within read h closed same =
     subst (λ q. IsMatching (kinds_of ts) (record { partners = q; stop = n })) (sym same)
-      (walked-misfit (kinds_of ts) n ps os (kinds-within ts n within) (ap (next_open (brackets_of os)) (part-read ts n d (Closing b) within read) ∙ closed) h)
+    (walked-misfit (kinds_of ts) n ps os (kinds-within ts n within) (ap (next_open (brackets_of os)) (part-read ts n d (Closing b) within read) ∙ closed) h)
 
 -- what does not close a template does not stand in the middle of one
 middle-none : (os : List Open) → next_open (brackets_of os) (Closing Template) ≡ None → next_open (brackets_of os) Middle ≡ None
@@ -61,7 +61,7 @@ middle-none (o ∷ os) h = same (is_same o.bracket Template) h
 pub misfit-middle : (ts : List Token) (n : ℕ) (d : Token) (ps qs : List (Option ℕ)) (os us : List Open) → n < length ts → Middle ≡ part_of (get_or ts n d).kind → Walked (kinds_of ts) n ps os → Closes os us Template None → qs ≡ ps → IsMatching (kinds_of ts) (record { partners = qs; stop = n })
 misfit-middle ts n d ps qs os us within read h closed same =
     subst (λ q. IsMatching (kinds_of ts) (record { partners = q; stop = n })) (sym same)
-      (walked-misfit (kinds_of ts) n ps os (kinds-within ts n within) (ap (next_open (brackets_of os)) (part-read ts n d Middle within read) ∙ middle-none os closed) h)
+    (walked-misfit (kinds_of ts) n ps os (kinds-within ts n within) (ap (next_open (brackets_of os)) (part-read ts n d Middle within read) ∙ middle-none os closed) h)
 
 pub taken-start : (ts : List Token) (ps : List (Option ℕ)) (os : List Open) → ps ≡ replicate (length ts) None → os ≡ [] → Walked (kinds_of ts) 0 ps os
 taken-start ts ps os made none = subst (λ l. Walked (kinds_of ts) 0 ps l) (sym none) (walked-start (kinds_of ts) ps (made ∙ ap (λ m. replicate m None) (sym (length-map ts (λ t. t.kind)))))

@@ -1,7 +1,6 @@
 -- The steps of a walk over the tokens that matches brackets.
-use Rattle.std.proofs.Common.{◌≡◌, ◌≢◌, ◌∙◌, ◌<◌, ◌≤◌, ◌+◌, ◌⊎◌, inl, inr, ℕ, zero, suc, List, [], ◌∷◌, ◌++◌, Bool, true, false, Option, Some, None, length, take, get_or, set, map, replicate, refl, ap, sym, subst, arith, option_and_then, if◌then◌else◌}
+use Rattle.std.proofs.Common.{◌≡◌, ◌≢◌, ◌∙◌, ◌<◌, ◌⊎◌, inl, inr, ℕ, zero, suc, List, [], ◌∷◌, ◌++◌, true, Option, Some, None, length, take, get_or, set, replicate, refl, ap, sym, subst, arith, if◌then◌else◌}
 use Rattle.std.proofs.Math.Seq.{take-suc}
-use Rattle.std.proofs.Math.ListN.{get_or-eq_default}
 use Rattle.std.proofs.lemmas.Bool.{cases_eq}
 use Rattle.std.proofs.lemmas.List.{get_or-set_same, get_or-set_other, length-set, length-replicate}
 use Rattle.script_grammar.specs.declared.token.Kind.{Kind}
@@ -10,7 +9,7 @@ use Rattle.script_grammar.specs.declared.brackets.Bracket.{Bracket}
 use Rattle.script_grammar.specs.declared.brackets.Bracket.TheVariants.{Template}
 use Rattle.script_grammar.specs.declared.brackets.BracketPart.TheVariants.{Opening, Closing, Middle, Other}
 use Rattle.script_grammar.specs.declared.brackets.Open.{Open}
-use Rattle.script_grammar.specs.Matching.{part_of, part_at, is_same, next_open, all_open, opened_by, closed_by, between, IsBalanced, Pairs, IsPartner, IsStop, IsMatching, Matching, partner_of}
+use Rattle.script_grammar.specs.Matching.{part_at, is_same, next_open, all_open, opened_by, closed_by, between, IsBalanced, Pairs, IsPartner, IsMatching}
 use Rattle.script_grammar.specs.BracketWalk.{brackets_of, AllOpen, Walked}
 use Rattle.script_grammar.proofs.Balance.{all_open-more, is_same-eq, between-more, between-none}
 use Rattle.script_grammar.proofs.Partners.{opener-unique, closer-not_before, partner-later, partner-earlier, partner-same}
@@ -23,12 +22,13 @@ opened-step : (ks : List Kind) (n : ℕ) → n < length ks
     → ((above : List Bracket) → next_open (f above) (part_at ks n) ≡ Some (g above))
     → (above : List Bracket) (stack : List Open) → AllOpen ks n (f above) stack → AllOpen ks (suc n) (g above) stack
 opened-step ks n within f g fs gs next above [] h = tt
-opened-step ks n within f g fs gs next above (o ∷ os) h =
-    (let before = h.0 in omega arith,
-     h.1,
-     ap (all_open []) (between-more ks o.token n h.0 within) ∙ all_open-more [] (f above) (between ks o.token n) (get_or ks n kind.End) h.2 ∙ next above,
-     subst (λ a. AllOpen ks (suc n) a os) (gs above o.bracket)
-       (opened-step ks n within f g fs gs next (above ++ (o.bracket ∷ [])) os (subst (λ a. AllOpen ks n a os) (fs above o.bracket) h.3)))
+opened-step ks n within f g fs gs next above (o ∷ os) h = (
+  let before = h.0 in omega arith,
+  h.1,
+  ap (all_open []) (between-more ks o.token n h.0 within) ∙ all_open-more [] (f above) (between ks o.token n) (get_or ks n kind.End) h.2 ∙ next above,
+  subst (λ a. AllOpen ks (suc n) a os) (gs above o.bracket)
+      (opened-step ks n within f g fs gs next (above ++ (o.bracket ∷ [])) os (subst (λ a. AllOpen ks n a os) (fs above o.bracket) h.3)),
+)
 
 -- what fits with one token more
 fit-step : (ks : List Kind) (n : ℕ) (s t : List Bracket) → n < length ks → all_open [] (take n ks) ≡ Some s → next_open s (part_at ks n) ≡ Some t → all_open [] (take (suc n) ks) ≡ Some t
@@ -40,11 +40,12 @@ walked-start ks partners made = record {
   fit = refl;
   opened = tt;
   partner = λ t p h. absurd (no_some (sym (none_there (length ks) t) ∙ ap (λ l. get_or l t None) (sym made) ∙ h));
-  only = λ t p h. let l = h.token in absurd (omega arith)
+  only = λ t p h. let l = h.token in absurd (omega arith);
 }
   where
     no_some : {A : Type 0} {a : A} → None ≡ Some a → ⊥
     no_some h = cc
+
     none_there : (n t : ℕ) → get_or {A = Option ℕ} (replicate n None) t None ≡ None
     none_there zero t = refl
     none_there (suc n) zero = refl
@@ -56,7 +57,7 @@ walked-other ks n partners stack within part h = record {
   fit = fit-step ks n (brackets_of stack) (brackets_of stack) within h.fit (ap (next_open (brackets_of stack)) part);
   opened = opened-step ks n within (λ a. a) (λ a. a) (λ a b. refl) (λ a b. refl) (λ a. ap (next_open a) part) [] stack h.opened;
   partner = λ t p e. partner-later ks n t p (h.partner t p e);
-  only = λ t p e. h.only t p (partner-same ks n t p (ap closed_by part) e)
+  only = λ t p e. h.only t p (partner-same ks n t p (ap closed_by part) e);
 }
 
 pub walked-opening : (ks : List Kind) (n : ℕ) (b : Bracket) (partners : List (Option ℕ)) (stack : List Open) → n < length ks → part_at ks n ≡ Opening b → Walked ks n partners stack → Walked ks (suc n) partners (record { token = n; bracket = b } ∷ stack)
@@ -65,7 +66,7 @@ walked-opening ks n b partners stack within part h = record {
   fit = fit-step ks n (brackets_of stack) (b ∷ brackets_of stack) within h.fit (ap (next_open (brackets_of stack)) part);
   opened = (omega arith, ap opened_by part, ap (all_open []) (between-none ks n), opened-step ks n within (λ a. a) (λ a. b ∷ a) (λ a c. refl) (λ a c. refl) (λ a. ap (next_open a) part) [] stack h.opened);
   partner = λ t p e. partner-later ks n t p (h.partner t p e);
-  only = λ t p e. h.only t p (partner-same ks n t p (ap closed_by part) e)
+  only = λ t p e. h.only t p (partner-same ks n t p (ap closed_by part) e);
 }
 
 -- the innermost open token and one that closes its bracket
@@ -75,10 +76,10 @@ pair-of ks n b o stack closes same h = record { before = h.0; bracket = b; opene
 -- Of a pair among the tokens up to token n, which closes what token x opened: it is this one, or an earlier one.
 pair-cases : (ks : List Kind) (n x t p : ℕ) → n < length ks → Pairs ks x n → p < suc n → Pairs ks t p → ((p ≡ n) × (t ≡ x)) ⊎ ((t < n) × (p < n) × (t ≢ x))
 pair-cases ks n x t p within pair p_n tp = elim (cases_eq p n) [
-      inl e ↦ inl (e, opener-unique ks t x n tp.bracket pair.bracket (subst (λ m. t < m) e tp.before) pair.before (omega arith) tp.opened pair.opened (subst (λ m. IsBalanced (between ks t m)) e tp.balanced) pair.balanced)
-    | inr ne ↦ (let here : p < n = omega arith in let before = tp.before in
-        inr (omega arith, here, λ same. closer-not_before ks x p n tp.bracket (subst (λ m. m < p) same tp.before) here (omega arith) tp.closed (subst (λ m. IsBalanced (between ks m p)) same tp.balanced) pair.balanced))
-    ]
+  | inl e ↦ inl (e, opener-unique ks t x n tp.bracket pair.bracket (subst (λ m. t < m) e tp.before) pair.before (omega arith) tp.opened pair.opened (subst (λ m. IsBalanced (between ks t m)) e tp.balanced) pair.balanced)
+  | inr ne ↦ (let here : p < n = omega arith in let before = tp.before in
+      inr (omega arith, here, λ same. closer-not_before ks x p n tp.bracket (subst (λ m. m < p) same tp.before) here (omega arith) tp.closed (subst (λ m. IsBalanced (between ks m p)) same tp.balanced) pair.balanced))
+]
 
 no_some : {A : Type 0} {a : A} → None ≡ Some a → ⊥
 no_some h = cc
@@ -97,104 +98,125 @@ walked-closing ks n b partners o stack within part same h = record {
   fit = fit-step ks n (o.bracket ∷ brackets_of stack) (brackets_of stack) within h.fit (next (brackets_of stack));
   opened = opened-step ks n within (λ a. o.bracket ∷ a) (λ a. a) (λ a c. refl) (λ a c. refl) next [] stack h.opened.3;
   partner = sound;
-  only = complete
+  only = complete;
 }
   where
     x : ℕ
     x = o.token
+
     x_n : o.token < n
     x_n = h.opened.0
+
     pair : Pairs ks o.token n
     pair = pair-of ks n b o stack (ap closed_by part) same h.opened
+
     next : (a : List Bracket) → next_open (o.bracket ∷ a) (part_at ks n) ≡ Some a
     next a = ap (next_open (o.bracket ∷ a)) part ∙ ap (λ t. if t then Some a else None) same
+
     x_within : o.token < length partners
     x_within = let size = h.size in let before = h.opened.0 in omega arith
+
     n_within : n < length (set partners o.token (Some n))
     n_within = let size = h.size in let kept = length-set partners o.token (Some n) in omega arith
+
     at_n : get_or (set (set partners o.token (Some n)) n (Some o.token)) n None ≡ Some o.token
     at_n = get_or-set_same (set partners o.token (Some n)) n (Some o.token) None n_within
+
     at_x : get_or (set (set partners o.token (Some n)) n (Some o.token)) o.token None ≡ Some n
     at_x = get_or-set_other (set partners o.token (Some n)) n o.token (Some o.token) None (λ e. let before = h.opened.0 in omega arith) ∙ get_or-set_same partners o.token (Some n) None x_within
+
     at_other : (t : ℕ) → t ≢ o.token → t ≢ n → get_or (set (set partners o.token (Some n)) n (Some o.token)) t None ≡ get_or partners t None
     at_other t not_x not_n = get_or-set_other (set partners o.token (Some n)) n t (Some o.token) None not_n ∙ get_or-set_other partners o.token t (Some n) None not_x
+
     sound : (t p : ℕ) → get_or (set (set partners o.token (Some n)) n (Some o.token)) t None ≡ Some p → IsPartner ks (suc n) t p
     sound t p e = elim (cases_eq t n) [
-          inl is_n ↦ (let p_x : o.token ≡ p = some-eq (sym at_n ∙ ap (λ m. get_or (set (set partners o.token (Some n)) n (Some o.token)) m None) (sym is_n) ∙ e) in
+      | inl is_n ↦ (let p_x : o.token ≡ p = some-eq (sym at_n ∙ ap (λ m. get_or (set (set partners o.token (Some n)) n (Some o.token)) m None) (sym is_n) ∙ e) in
+          let before = x_n in
+          record { token = omega arith; partner = omega arith; pairs = inr (ap (λ m. opened_by (part_at ks m)) is_n ∙ ap opened_by part, subst (λ m. Pairs ks m t) p_x (subst (λ m. Pairs ks o.token m) (sym is_n) pair)) })
+      | inr not_n ↦ elim (cases_eq t o.token) [
+        | inl is_x ↦ (let p_n : n ≡ p = some-eq (sym at_x ∙ ap (λ m. get_or (set (set partners o.token (Some n)) n (Some o.token)) m None) (sym is_x) ∙ e) in
             let before = x_n in
-            record { token = omega arith; partner = omega arith; pairs = inr (ap (λ m. opened_by (part_at ks m)) is_n ∙ ap opened_by part, subst (λ m. Pairs ks m t) p_x (subst (λ m. Pairs ks o.token m) (sym is_n) pair)) })
-        | inr not_n ↦ elim (cases_eq t o.token) [
-              inl is_x ↦ (let p_n : n ≡ p = some-eq (sym at_x ∙ ap (λ m. get_or (set (set partners o.token (Some n)) n (Some o.token)) m None) (sym is_x) ∙ e) in
-                let before = x_n in
-                record { token = omega arith; partner = omega arith; pairs = inl (subst (λ m. Pairs ks m p) (sym is_x) (subst (λ m. Pairs ks o.token m) p_n pair)) })
-            | inr not_x ↦ partner-later ks n t p (h.partner t p (sym (at_other t not_x not_n) ∙ e))
-            ]
-        ]
+            record { token = omega arith; partner = omega arith; pairs = inl (subst (λ m. Pairs ks m p) (sym is_x) (subst (λ m. Pairs ks o.token m) p_n pair)) })
+        | inr not_x ↦ partner-later ks n t p (h.partner t p (sym (at_other t not_x not_n) ∙ e))
+      ]
+    ]
+
     complete : (t p : ℕ) → IsPartner ks (suc n) t p → get_or (set (set partners o.token (Some n)) n (Some o.token)) t None ≡ Some p
     complete t p e = elim e.pairs [
-          inl tp ↦ elim (pair-cases ks n o.token t p within pair e.partner tp) [
-              inl new ↦ ap (λ m. get_or (set (set partners o.token (Some n)) n (Some o.token)) m None) new.1 ∙ at_x ∙ ap Some (sym new.0)
-            | inr old ↦ at_other t old.2 (λ is_n. let l = old.0 in omega arith) ∙ h.only t p (partner-earlier ks n t p old.0 old.1 e)
-            ]
-        | inr back ↦ elim (pair-cases ks n o.token p t within pair e.token back.1) [
-              inl new ↦ ap (λ m. get_or (set (set partners o.token (Some n)) n (Some o.token)) m None) new.0 ∙ at_n ∙ ap Some (sym new.1)
-            | inr old ↦ at_other t (λ is_x. no_some (sym back.0 ∙ ap (λ m. opened_by (part_at ks m)) is_x ∙ h.opened.1)) (λ is_n. let l = old.1 in omega arith) ∙ h.only t p (partner-earlier ks n t p old.1 old.0 e)
-            ]
-        ]
+      | inl tp ↦ elim (pair-cases ks n o.token t p within pair e.partner tp) [
+        | inl new ↦ ap (λ m. get_or (set (set partners o.token (Some n)) n (Some o.token)) m None) new.1 ∙ at_x ∙ ap Some (sym new.0)
+        | inr old ↦ at_other t old.2 (λ is_n. let l = old.0 in omega arith) ∙ h.only t p (partner-earlier ks n t p old.0 old.1 e)
+      ]
+      | inr back ↦ elim (pair-cases ks n o.token p t within pair e.token back.1) [
+        | inl new ↦ ap (λ m. get_or (set (set partners o.token (Some n)) n (Some o.token)) m None) new.0 ∙ at_n ∙ ap Some (sym new.1)
+        | inr old ↦ at_other t (λ is_x. no_some (sym back.0 ∙ ap (λ m. opened_by (part_at ks m)) is_x ∙ h.opened.1)) (λ is_n. let l = old.1 in omega arith) ∙ h.only t p (partner-earlier ks n t p old.1 old.0 e)
+      ]
+    ]
 
 -- the token n that closes what the innermost open token opened, and opens again
 pub walked-middle : (ks : List Kind) (n : ℕ) (partners : List (Option ℕ)) (o : Open) (stack : List Open) → n < length ks → part_at ks n ≡ Middle → is_same o.bracket Template ≡ true → Walked ks n partners (o ∷ stack) → Walked ks (suc n) (set partners o.token (Some n)) (record { token = n; bracket = Template } ∷ stack)
 walked-middle ks n partners o stack within part same h = record {
   size = length-set partners o.token (Some n) ∙ h.size;
   fit = fit-step ks n (o.bracket ∷ brackets_of stack) (Template ∷ brackets_of stack) within h.fit (next (brackets_of stack) ∙ ap (λ c. Some (c ∷ brackets_of stack)) is_template);
-  opened = (omega arith, ap opened_by part, ap (all_open []) (between-none ks n),
-    subst (λ c. AllOpen ks (suc n) (c ∷ []) stack) is_template (opened-step ks n within (λ a. o.bracket ∷ a) (λ a. o.bracket ∷ a) (λ a c. refl) (λ a c. refl) next [] stack h.opened.3));
+  opened = (
+    omega arith,
+    ap opened_by part,
+    ap (all_open []) (between-none ks n),
+    subst (λ c. AllOpen ks (suc n) (c ∷ []) stack) is_template (opened-step ks n within (λ a. o.bracket ∷ a) (λ a. o.bracket ∷ a) (λ a c. refl) (λ a c. refl) next [] stack h.opened.3),
+  );
   partner = sound;
-  only = complete
+  only = complete;
 }
   where
     is_template : o.bracket ≡ Template
     is_template = is_same-eq o.bracket Template same
+
     pair : Pairs ks o.token n
     pair = pair-of ks n Template o stack (ap closed_by part) same h.opened
+
     next : (a : List Bracket) → next_open (o.bracket ∷ a) (part_at ks n) ≡ Some (o.bracket ∷ a)
     next a = ap (next_open (o.bracket ∷ a)) part ∙ ap (λ t. if t then Some (o.bracket ∷ a) else None) same
+
     x_within : o.token < length partners
     x_within = let size = h.size in let before = h.opened.0 in omega arith
+
     at_x : get_or (set partners o.token (Some n)) o.token None ≡ Some n
     at_x = get_or-set_same partners o.token (Some n) None x_within
+
     at_other : (t : ℕ) → t ≢ o.token → get_or (set partners o.token (Some n)) t None ≡ get_or partners t None
     at_other t not_x = get_or-set_other partners o.token t (Some n) None not_x
+
     sound : (t p : ℕ) → get_or (set partners o.token (Some n)) t None ≡ Some p → IsPartner ks (suc n) t p
     sound t p e = elim (cases_eq t o.token) [
-          inl is_x ↦ (let p_n : n ≡ p = some-eq (sym at_x ∙ ap (λ m. get_or (set partners o.token (Some n)) m None) (sym is_x) ∙ e) in
-            let before = h.opened.0 in
-            record { token = omega arith; partner = omega arith; pairs = inl (subst (λ m. Pairs ks m p) (sym is_x) (subst (λ m. Pairs ks o.token m) p_n pair)) })
-        | inr not_x ↦ partner-later ks n t p (h.partner t p (sym (at_other t not_x) ∙ e))
-        ]
+      | inl is_x ↦ (let p_n : n ≡ p = some-eq (sym at_x ∙ ap (λ m. get_or (set partners o.token (Some n)) m None) (sym is_x) ∙ e) in
+          let before = h.opened.0 in
+          record { token = omega arith; partner = omega arith; pairs = inl (subst (λ m. Pairs ks m p) (sym is_x) (subst (λ m. Pairs ks o.token m) p_n pair)) })
+      | inr not_x ↦ partner-later ks n t p (h.partner t p (sym (at_other t not_x) ∙ e))
+    ]
+
     complete : (t p : ℕ) → IsPartner ks (suc n) t p → get_or (set partners o.token (Some n)) t None ≡ Some p
     complete t p e = elim e.pairs [
-          inl tp ↦ elim (pair-cases ks n o.token t p within pair e.partner tp) [
-              inl new ↦ ap (λ m. get_or (set partners o.token (Some n)) m None) new.1 ∙ at_x ∙ ap Some (sym new.0)
-            | inr old ↦ at_other t old.2 ∙ h.only t p (partner-earlier ks n t p old.0 old.1 e)
-            ]
-        | inr back ↦ elim (pair-cases ks n o.token p t within pair e.token back.1) [
-              inl new ↦ absurd (no_some (sym back.0 ∙ ap (λ m. opened_by (part_at ks m)) new.0 ∙ ap opened_by part))
-            | inr old ↦ at_other t (λ is_x. no_some (sym back.0 ∙ ap (λ m. opened_by (part_at ks m)) is_x ∙ h.opened.1)) ∙ h.only t p (partner-earlier ks n t p old.1 old.0 e)
-            ]
-        ]
+      | inl tp ↦ elim (pair-cases ks n o.token t p within pair e.partner tp) [
+        | inl new ↦ ap (λ m. get_or (set partners o.token (Some n)) m None) new.1 ∙ at_x ∙ ap Some (sym new.0)
+        | inr old ↦ at_other t old.2 ∙ h.only t p (partner-earlier ks n t p old.0 old.1 e)
+      ]
+      | inr back ↦ elim (pair-cases ks n o.token p t within pair e.token back.1) [
+        | inl new ↦ absurd (no_some (sym back.0 ∙ ap (λ m. opened_by (part_at ks m)) new.0 ∙ ap opened_by part))
+        | inr old ↦ at_other t (λ is_x. no_some (sym back.0 ∙ ap (λ m. opened_by (part_at ks m)) is_x ∙ h.opened.1)) ∙ h.only t p (partner-earlier ks n t p old.1 old.0 e)
+      ]
+    ]
 
 -- where a walk ends, at the last token or at one that does not fit
 pub walked-last : (ks : List Kind) (n : ℕ) (partners : List (Option ℕ)) (stack : List Open) → suc n ≡ length ks → Walked ks n partners stack → IsMatching ks (record { partners = partners; stop = n })
 walked-last ks n partners stack last h = record {
   stop = record { within = omega arith; stack = brackets_of stack; fit = h.fit; stops = inl last };
   partner = h.partner;
-  only = h.only
+  only = h.only;
 }
 
 pub walked-misfit : (ks : List Kind) (n : ℕ) (partners : List (Option ℕ)) (stack : List Open) → n < length ks → next_open (brackets_of stack) (part_at ks n) ≡ None → Walked ks n partners stack → IsMatching ks (record { partners = partners; stop = n })
 walked-misfit ks n partners stack within misfit h = record {
   stop = record { within = within; stack = brackets_of stack; fit = h.fit; stops = inr misfit };
   partner = h.partner;
-  only = h.only
+  only = h.only;
 }

@@ -1,10 +1,10 @@
 -- How far a walk over the tokens has come, for the private calls of the matching of brackets.
-use Rattle.std.specs.Prelude.{Bool, true, false, ℕ, suc, List, [], ◌∷◌, ◌++◌, Option, Some, None, ◌≡◌, ◌<◌, ◌⊎◌, length, take, map}
+use Rattle.std.specs.Prelude.{Bool, true, false, ℕ, suc, List, [], ◌∷◌, ◌++◌, Option, Some, None, ◌≡◌, ◌<◌, length, take, map}
 use Rattle.script_grammar.specs.declared.token.Kind.{Kind}
 use Rattle.script_grammar.specs.declared.brackets.Bracket.{Bracket}
 use Rattle.script_grammar.specs.declared.brackets.BracketPart.TheVariants.{Closing}
 use Rattle.script_grammar.specs.declared.brackets.Open.{Open}
-use Rattle.script_grammar.specs.Matching.{is_same, next_open, IsMatching, all_open, opened_by, part_at, between, IsPartner, Matching, partner_of}
+use Rattle.script_grammar.specs.Matching.{is_same, next_open, IsMatching, all_open, opened_by, part_at, between, IsPartner, partner_of}
 
 abbrev pub brackets_of : List Open → List Bracket
 brackets_of = map (λ o. o.bracket)

@@ -1,14 +1,14 @@
 -- What numbers and gaps of the code's trees stand for. This is this project's own choice: the standard has neither.
 use Rattle.std.specs.Prelude.{ℕ, List, [], Option, option_map, slice_index_or}
 use Rattle.script_grammar.specs.declared.tree.Ident.{Ident}
-use Rattle.script_grammar.specs.Tree.{Named, Body}
+use Rattle.script_grammar.specs.Tree.{Named, Stmts}
 
--- An interpretation gives each atom a text, by its place in a list, and each function whose body was passed over a
--- body, by the offset where its parameters start. Clauses range over all interpretations; who has the texts and the
--- bodies that were read applies them to its own.
+-- An interpretation gives each atom a text, by its place in a list, and each function whose body was passed over the
+-- statements of that body, by the offset where its parameters start. Clauses range over all interpretations; who has
+-- the texts and the bodies that were read applies them to its own.
 pub record Interpretation : Type 0 where
   pub texts : List (List ℕ)
-  pub bodies : ℕ → Body
+  pub bodies : ℕ → Stmts
 
 -- the text of an atom; one that is no place in the list has the empty text
 abbrev pub text_of : Interpretation → ℕ → List ℕ

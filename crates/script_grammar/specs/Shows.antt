@@ -2,7 +2,7 @@
 --
 -- A handler says by a relation which tree a node stands for. For each struct and enum over nodes there is a definition
 -- `XOf .. n k`: the part n stands for some x of the model of which the fact k holds. With `ShowX .. n x` n stands for x.
-use Rattle.std.specs.Prelude.{ℕ, List, [], ◌∷◌, ◌≡◌, Bool, Option, Some, None}
+use Rattle.std.specs.Prelude.{ℕ, List, [], ◌∷◌, ◌≡◌, Option, Some, None}
 use Rattle.script_grammar.specs.declared.node.NodeArgs.{NodeArgs}
 use Rattle.script_grammar.specs.declared.node.NodeOperand.{NodeOperand}
 use Rattle.script_grammar.specs.declared.node.NodeTemplatePart.{NodeTemplatePart}
@@ -23,7 +23,7 @@ use Rattle.script_grammar.specs.declared.node.NodeClause.{NodeClause}
 use Rattle.script_grammar.specs.Interpretation.{Interpretation, text_of, named, maybe_named}
 use Rattle.script_grammar.specs.Tree as model
 use Rattle.script_grammar.specs.Tree.{Expr, Stmt, Stmts, Key, Tail, Body, Function, Init, Each}
-use Rattle.script_grammar.specs.TreeLists.{Args, Operand, Part, Param, Bind, Clause, exprs_of, params_of, binds_of, stmts_of}
+use Rattle.script_grammar.specs.TreeLists.{Args, Operand, Part, Param, Bind, Clause, exprs_of, params_of, binds_of}
 
 -- A list of nodes stands for a list of trees, one for one.
 abbrev pub ShowAll : {E A : Type 0} → (E → A → Type 0) → List E → List A → Type 0
@@ -81,11 +81,11 @@ KeyOf i shows (keys.Computed e) k = (t : Expr) × shows e t × k (model.Computed
 abbrev pub ShowKey : {E : Type 0} → Interpretation → (E → Expr → Type 0) → NodeKey E → Key → Type 0
 ShowKey i shows n key = KeyOf i shows n (λ x. key ≡ x)
 
--- A body that was passed over stands for the one that the interpretation gives to its function, by its start.
+-- A body that was passed over has the statements that the interpretation gives to its function, by its start.
 abbrev pub FuncBodyOf : {E B : Type 0} → Interpretation → (E → Expr → Type 0) → (B → Stmts → Type 0) → (start : ℕ) → NodeFuncBody E B → (Body → Type 0) → Type 0
 FuncBodyOf i shows shows_body start (bodies.Braced b) k = (ss : Stmts) × shows_body b ss × k (model.BracedBody ss)
 FuncBodyOf i shows shows_body start (bodies.Short e) k = (t : Expr) × shows e t × k (model.ShortBody t)
-FuncBodyOf i shows shows_body start (bodies.Passed) k = k (i.bodies start)
+FuncBodyOf i shows shows_body start (bodies.Passed) k = k (model.BracedBody (i.bodies start))
 
 abbrev pub ParamOf : {E : Type 0} → Interpretation → (E → Expr → Type 0) → NodeParam E → (Param → Type 0) → Type 0
 ParamOf i shows n k = MaybeOf shows n.value (λ v. k (record { name = named i n.name; value = v; rest = n.rest }))

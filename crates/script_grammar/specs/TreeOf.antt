@@ -1,7 +1,7 @@
 -- What a tree of the code stands for under an interpretation: the tree of the model with a text for each atom and a body
 -- for each function that was passed over. This is this project's own choice. Each function is the generated fold of the
 -- code's types, made of one step for each type; a step has one equation for each variant.
-use Rattle.std.specs.Prelude.{ℕ, List, Bool, Option, Some, None, option_map, unwrap_or}
+use Rattle.std.specs.Prelude.{Option, Some, None, option_map, unwrap_or}
 use Rattle.std.specs.declared.boxed.Box.{Box}
 use Rattle.std.specs.declared.alloc.Global.{Global}
 use Rattle.script_grammar.specs.declared.tree.Each.{Each}
@@ -161,7 +161,7 @@ abbrev pub clause_step : Interpretation → ClauseLayer → part.Clause
 clause_step i row = record { test = row.test; items = row.items.items }
 
 abbrev pub func_step : Interpretation → FuncLayer → model.Function
-func_step i row = model.function row.form row.start row.end (maybe_named i row.name) (params_of row.params.items) row.comma row.bare (unwrap_or row.body (i.bodies row.start))
+func_step i row = model.function row.form row.start row.end (maybe_named i row.name) (params_of row.params.items) row.comma row.bare (unwrap_or row.body (model.BracedBody (i.bodies row.start)))
 
 abbrev pub operand_step : Interpretation → OperandLayer → part.Operand
 operand_step i row = record { op = row.op; is_word = row.is_word; value = row.value }

@@ -1,3 +1,5 @@
 pub mod ChainWalk
+pub mod ResolveFits
 pub mod ResolveRows
 pub mod SlotRows
+pub mod StandsForRows

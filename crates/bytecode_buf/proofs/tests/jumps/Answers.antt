@@ -11,4 +11,4 @@ between = record { op = op.GetAliasedVar; a = 1; b = 2 }
 pub target-requires : goal.target-requires
 target-requires g c =
     subst (AllRoom (length c.put.new.self)) (sym c.deref.ensures.value)
-    (appends_room c.new-inner.ensures.items (appends_both (c.in_ok-jump_to.ensures [] []) (appends_one [] _ _ _ [] between (record { first = lit< tt; second = lit< tt }) c.in_ok-put.ensures.ok)))
+    (appends_room c.new-inner.ensures.items (appends_both (c.in_ok-jump_to.ensures.jumps [] []) (appends_one [] _ _ _ [] between (record { first = lit< tt; second = lit< tt }) c.in_ok-put.ensures.ok)))

@@ -1,4 +1,4 @@
-use Rattle.std.proofs.Common.{take, ◌+◌, ◌++◌, ◌∷◌, [], List, ap, sym, ◌∙◌}
+use Rattle.std.proofs.Common.{take, ◌+◌, ◌++◌, ◌∷◌, [], ap, sym, ◌∙◌}
 use Rattle.std.proofs.lemmas.List.{take_more}
 use Rattle.compile_session.specs.declared.parser.Statement.{Statement}
 use Rattle.compile_session.proofs.EmitLemmas.{emits_statement}

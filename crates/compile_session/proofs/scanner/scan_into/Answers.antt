@@ -1,6 +1,6 @@
-use Rattle.std.proofs.Common.{refl, arith, ap, ◌∙◌, length-drop, ◌≡◌, ◌<◌, false}
+use Rattle.std.proofs.Common.{refl, ap, ◌∙◌}
 use Rattle.std.specs.List.{list_any}
-use Rattle.compile_session.specs.BuiltTokens.{found, is_last, is_line_end}
+use Rattle.compile_session.specs.BuiltTokens.{is_line_end}
 use Rattle.compile_session.proofs.ScanLemmas.{IsScanning-next, tokens-last, AtomsFit-last, rest-shorter}
 use Rattle.compile_session.proofs.scanner.scan_into.Goals as goal
 

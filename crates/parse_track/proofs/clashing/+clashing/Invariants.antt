@@ -23,4 +23,4 @@ abbrev pub invariant-clash_in-loop-item : goal.invariant-clash_in-loop-item
 invariant-clash_in-loop-item l =
     ((y : ℕ) → get nat_cmp l.firsts y ≡ get nat_cmp l.fn.firsts y)
     × (smaller l.first (clashes l.heads (get nat_cmp l.fn.firsts) (told_items (map row_of l.rows) (told_region (l.room - 1) (map row_of l.rows)) (map item_of (drop l.item-index l.items))))
-      ≡ clashes l.heads (get nat_cmp l.fn.firsts) (told_items (map row_of l.rows) (told_region (l.room - 1) (map row_of l.rows)) (map item_of l.items)))
+    ≡ clashes l.heads (get nat_cmp l.fn.firsts) (told_items (map row_of l.rows) (told_region (l.room - 1) (map row_of l.rows)) (map item_of l.items)))

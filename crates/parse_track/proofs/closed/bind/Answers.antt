@@ -9,5 +9,5 @@ use Rattle.parse_track.proofs.closed.bind.Goals as goal
 pub loop-index-preserved : goal.loop-index-preserved
 loop-index-preserved c =
     bind_step c.args.names.now c.loop-index.index c.args.depth c.args.place (get nat_cmp c.loop-index.env) (get nat_cmp c.insert.new.self) _ (omega arith)
-      (λ y. grind (arith, common_steps))
-      c.loop-index.invariant
+    (λ y. grind (arith, common_steps))
+    c.loop-index.invariant

@@ -10,8 +10,8 @@ pub loop-region-preserved : goal.loop-region-preserved
 loop-region-preserved c =
     let l : c.loop-region.region < length c.args.rows.now = omega arith in
     seek_outer_step (rule_of c.args.rule (known_names c.args.known.now)) (map row_of c.args.rows.now) (told_region (length c.args.rows.now) (map row_of c.args.rows.now)) c.args.rows.now c.loop-region.region c.index-rows-region.result
-      c.loop-region.first c.in_ok-here.here c.lesser-first.result _
-      (rw add-one (drop-cons c.args.rows.now c.loop-region.region c.index-rows-region.result l ∙ ap (λ x. x ∷ drop (suc c.loop-region.region) c.args.rows.now) (sym c.index-rows-region.is)))
-      c.in_ok-here.ensures
-      c.lesser-first.ensures
-      c.loop-region.invariant
+    c.loop-region.first c.in_ok-here.here c.lesser-first.result _
+    (rw add-one (drop-cons c.args.rows.now c.loop-region.region c.index-rows-region.result l ∙ ap (λ x. x ∷ drop (suc c.loop-region.region) c.args.rows.now) (sym c.index-rows-region.is)))
+    c.in_ok-here.ensures
+    c.lesser-first.ensures
+    c.loop-region.invariant

@@ -10,6 +10,6 @@ use Rattle.parse_track.proofs.scopes.var_atoms.Goals as goal
 pub returns : goal.returns
 returns c = IfOk-weaker c.atoms_of.result _ _
     (λ atoms e. var_atoms_are _ c.args.room c.args.region c.add_vars.new.names.items atoms.items
-      (c.in_ok-add_vars.ensures ∙ ap (λ (xs : List Ident). map name_of xs ++ vars (told_region c.args.room (map row_of c.args.rows.now) c.args.region)) c.new-names.ensures.items)
-      (e ∙ ap (map (λ (name : Ident). name.atom)) c.deref.ensures.value))
+    (c.in_ok-add_vars.ensures ∙ ap (λ (xs : List Ident). map name_of xs ++ vars (told_region c.args.room (map row_of c.args.rows.now) c.args.region)) c.new-names.ensures.items)
+    (e ∙ ap (map (λ (name : Ident). name.atom)) c.deref.ensures.value))
     c.atoms_of.ensures

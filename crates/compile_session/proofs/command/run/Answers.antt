@@ -1,7 +1,7 @@
 use Rattle.std.proofs.Common.{map}
 use Rattle.std.specs.String.{string_bytes}
 use Rattle.compile_session.proofs.RunLemmas.{settled, answers, front_of_answer, GainsFront-all, GainsFront-none}
-use Rattle.compile_session.proofs.session.run.Goals as goal
+use Rattle.compile_session.proofs.command.run.Goals as goal
 
 pub returns-in-Ok-write_bytes-clause-answer : goal.returns-in-Ok-write_bytes-clause-answer
 returns-in-Ok-write_bytes-clause-answer g c = λ held tells whole. answers (map string_bytes c.args.words.now) held c.in-Some.name.now c.in-Ok-answer_of.answer.text.items c.deref.result.now c.in-Ok-answer_of.answer.refused c.status_of.result _ _ c.in-Some.ensures (settled _ held c.in-Some.name.now c.in-Ok.bytes c.in-Ok-answer_of.answer tells c.in-Ok.ensures.read c.in-Ok-answer_of.ensures) c.status_of.ensures c.deref.ensures.value c.in-Ok-write_bytes.ensures.took

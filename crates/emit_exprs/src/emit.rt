@@ -1,0 +1,60 @@
+// Code in the making, and the code of names in it.
+ghost use Rattle.std.specs.Prelude.{◌≡◌, OnOk, slice_index_or, []};
+ghost use Rattle.stencil_data.specs.Fits.{PlaceFits};
+ghost use Rattle.bytecode_buf.specs.Emits.{Emits};
+ghost use Rattle.emit_exprs.specs.Names as code;
+ghost use Rattle.emit_exprs.specs.Whole.{whole};
+
+use std::alloc::AllocError;
+
+use bytecode_buf::CodeBuf;
+use stencil_data::{Extent, Place, Text};
+
+use crate::names::{base_at, read_at, write_at};
+
+/// Code in the making. Its atoms are indexes into `texts`, and the operand of a Lambda is an index into `inner`, which
+/// is in order of rising start.
+#[derive(Drop)]
+pub struct Emit {
+    pub code: CodeBuf,
+    pub texts: Vec<Text>,
+    pub inner: Vec<Extent>,
+}
+
+/// Appends the code that reads the name with this atom, which lives at this place.
+///
+/// After an error `out` holds a front of it and is only dropped.
+pub fn read(out: &mut Emit, atom: u32, place: &Place) -> Result<(), AllocError>
+    requires { PlaceFits place.now }
+    ensures code { OnOk result (Emits out.old.texts.items out.old.code out.new.code (whole (code.read (slice_index_or out.old.texts.items atom []) place.now))) }
+    ensures texts { out.new.texts ≡ out.old.texts }
+    ensures inner { out.new.inner ≡ out.old.inner }
+{
+    read_at(&mut out.code, atom, place)?;
+    Ok(())
+}
+
+/// Appends what stands below the value when the name is written: its base, where it is global, else nothing.
+///
+/// After an error `out` holds a front of it and is only dropped.
+pub fn base(out: &mut Emit, atom: u32, place: &Place) -> Result<(), AllocError>
+    ensures code { OnOk result (Emits out.old.texts.items out.old.code out.new.code (whole (code.base (slice_index_or out.old.texts.items atom []) place.now))) }
+    ensures texts { out.new.texts ≡ out.old.texts }
+    ensures inner { out.new.inner ≡ out.old.inner }
+{
+    base_at(&mut out.code, atom, place)?;
+    Ok(())
+}
+
+/// Appends the code that writes the value on top of the stack to the name.
+///
+/// After an error `out` holds a front of it and is only dropped.
+pub fn write(out: &mut Emit, atom: u32, place: &Place) -> Result<(), AllocError>
+    requires { PlaceFits place.now }
+    ensures code { OnOk result (Emits out.old.texts.items out.old.code out.new.code (whole (code.write (slice_index_or out.old.texts.items atom []) place.now))) }
+    ensures texts { out.new.texts ≡ out.old.texts }
+    ensures inner { out.new.inner ≡ out.old.inner }
+{
+    write_at(&mut out.code, atom, place)?;
+    Ok(())
+}

@@ -1,0 +1,10 @@
+use Rattle.std.proofs.Common.{◌++◌}
+use Rattle.std.specs.List.{flat_map}
+use Rattle.script_grammar.specs.TreeLists.{exprs_of}
+use Rattle.parse_handlers.specs.Inner.{in_exprs}
+use Rattle.parse_handlers.specs.Held.{held}
+use Rattle.parse_handlers.proofs.Gathered.{then_put, put_nothing, puts-append, puts-nothing, puts-exprs, if_puts}
+use Rattle.parse_handlers.proofs.syntax.SyntaxHandler.make_comma.Goals as goal
+
+pub returns : goal.returns
+returns c = λ i ts h. if_puts i c.with.result (c.nothing.result.found.items ++ (flat_map held c.args.items.items)) (then_put put_nothing (in_exprs (exprs_of ts))) c.with.ensures (puts-append i c.nothing.result.found.items (flat_map held c.args.items.items) put_nothing (in_exprs (exprs_of ts)) (puts-nothing i c.nothing.result.found.items c.nothing.ensures) (puts-exprs i c.args.items.items ts h))

@@ -1,0 +1,72 @@
+-- The functions that parts over syntax nodes hold, in the order of their fields.
+use Rattle.std.specs.Prelude.{List, [], ◌++◌, Option, None, Some}
+use Rattle.std.specs.List.{flat_map}
+use Rattle.script_grammar.specs.declared.node.NodeArgs.{NodeArgs}
+use Rattle.script_grammar.specs.declared.node.NodeOperand.{NodeOperand}
+use Rattle.script_grammar.specs.declared.node.NodeTemplatePart.{NodeTemplatePart}
+use Rattle.script_grammar.specs.declared.node.NodeTail.{NodeTail}
+use Rattle.script_grammar.specs.declared.node.NodeTail.TheVariants as tails
+use Rattle.script_grammar.specs.declared.node.NodeKey.{NodeKey}
+use Rattle.script_grammar.specs.declared.node.NodeKey.TheVariants as keys
+use Rattle.script_grammar.specs.declared.node.NodeFuncBody.{NodeFuncBody}
+use Rattle.script_grammar.specs.declared.node.NodeFuncBody.TheVariants as bodies
+use Rattle.script_grammar.specs.declared.node.NodeParam.{NodeParam}
+use Rattle.script_grammar.specs.declared.node.NodeBind.{NodeBind}
+use Rattle.script_grammar.specs.declared.node.NodeInit.{NodeInit}
+use Rattle.script_grammar.specs.declared.node.NodeInit.TheVariants as inits
+use Rattle.script_grammar.specs.declared.node.NodeEach.{NodeEach}
+use Rattle.script_grammar.specs.declared.node.NodeEach.TheVariants as eaches
+use Rattle.script_grammar.specs.declared.node.NodeClause.{NodeClause}
+use Rattle.parse_handlers.specs.declared.found.Found.{Found}
+use Rattle.parse_handlers.specs.declared.found.SyntaxNode.{SyntaxNode}
+use Rattle.parse_handlers.specs.declared.found.SyntaxBody.{SyntaxBody}
+
+abbrev pub held : SyntaxNode → List Found
+held n = n.found.items
+
+abbrev pub held_maybe : {A : Type 0} → (A → List Found) → Option A → List Found
+held_maybe f None = []
+held_maybe f (Some a) = f a
+
+abbrev pub held_args : NodeArgs SyntaxNode → List Found
+held_args n = flat_map held n.items.items
+
+abbrev pub held_operand : NodeOperand SyntaxNode → List Found
+held_operand n = n.value.found.items
+
+abbrev pub held_part : NodeTemplatePart SyntaxNode → List Found
+held_part n = n.value.found.items
+
+abbrev pub held_tail : NodeTail SyntaxNode → List Found
+held_tail (tails.Dot atom) = []
+held_tail (tails.Index e) = e.found.items
+held_tail (tails.Call n) = flat_map held n.items.items
+
+abbrev pub held_key : NodeKey SyntaxNode → List Found
+held_key (keys.Word name) = []
+held_key (keys.Str name) = []
+held_key (keys.Number at value) = []
+held_key (keys.Computed e) = e.found.items
+
+abbrev pub held_body : NodeFuncBody SyntaxNode SyntaxBody → List Found
+held_body (bodies.Braced b) = []
+held_body (bodies.Short e) = e.found.items
+held_body (bodies.Passed) = []
+
+abbrev pub held_param : NodeParam SyntaxNode → List Found
+held_param n = held_maybe held n.value
+
+abbrev pub held_bind : NodeBind SyntaxNode → List Found
+held_bind n = held_maybe held n.value
+
+abbrev pub held_init : NodeInit SyntaxNode → List Found
+held_init (inits.Nothing) = []
+held_init (inits.Value e) = e.found.items
+held_init (inits.Binds decl ns) = flat_map held_bind ns.items
+
+abbrev pub held_each : NodeEach SyntaxNode → List Found
+held_each (eaches.Target e) = e.found.items
+held_each (eaches.Bind decl name) = []
+
+abbrev pub held_clause : NodeClause SyntaxNode SyntaxNode → List Found
+held_clause n = held_maybe held n.test ++ flat_map held n.items.items

@@ -1,0 +1,25 @@
+//! The functions that were found in a part of a script, and how they are gathered.
+
+use stencil_data::{Extent, FuncKind};
+
+/// A function: its extent, its kind, the atom of its name, and the functions directly in it, which are those in its
+/// parameters' initializers and, where it is an arrow with an expression as body, those in that body.
+#[derive(Drop)]
+pub struct Found {
+    pub extent: Extent,
+    pub kind: FuncKind,
+    pub name: Option<u32>,
+    pub inner: Vec<Found>,
+}
+
+/// The functions directly in an expression, a statement or a property, by rising start.
+#[derive(Drop)]
+pub struct SyntaxNode {
+    pub found: Vec<Found>,
+}
+
+/// The functions directly in a body, by rising start.
+#[derive(Drop)]
+pub struct SyntaxBody {
+    pub found: Vec<Found>,
+}

@@ -1,0 +1,99 @@
+//! The first early error of all rules.
+
+ghost use Rattle.std.specs.Prelude.{◌≡◌, ◌≤◌, ◌-◌, ◌^◌, ◌<◌, false, true, length, IfOk, map, nat_eq};
+ghost use Rattle.parse_track.specs.EarlyErrors.{sooner, error_of, first_error};
+ghost use Rattle.parse_track.specs.Log.{known_names, told_of};
+ghost use Rattle.parse_track.specs.Rows.{row_of};
+ghost use Rattle.parse_track.specs.Errors.{clash_error, rule_error};
+
+use crate::clashing::first_clash;
+use crate::jumps::first_wrong_jump;
+use crate::region::{Early, Known};
+use crate::rules::{RegionRule, first_of};
+use crate::track::Row;
+use std::alloc::{AllocError, Global};
+
+/// Of two early errors the first.
+pub fn sooner_early(x: Option<Early>, y: Option<Early>) -> Option<Early>
+    ensures { result ≡ sooner x y }
+{
+    match (x, y) {
+        (None, y) => y,
+        (x, None) => x,
+        (Some(a), Some(b)) => {
+            if b.offset < a.offset || (b.offset == a.offset && b.rule < a.rule) {
+                y
+            } else {
+                x
+            }
+        }
+    }
+}
+
+/// The early error of this rule at an offset, where there is one.
+fn error_of(rule: u8, offset: Option<u32>) -> Option<Early>
+    ensures { result ≡ error_of rule offset }
+{
+    match offset {
+        None => None,
+        Some(offset) => Some(Early { offset, rule }),
+    }
+}
+
+/// The first early error of a rule that looks at one region.
+fn error_of_rule(
+    alloc: Global,
+    known: &Known,
+    rows: &[Row],
+    rule: RegionRule,
+) -> Result<Option<Early>, AllocError>
+    requires { length rows.now ≤ 2 ^ 32 - 2 }
+    ensures { IfOk result (λ error. error ≡ rule_error rule (known_names known.now) (told_of (map row_of rows.now))) }
+{
+    let number = match rule {
+        RegionRule::TwiceLexical => 1,
+        RegionRule::CatchAndLexical => 4,
+        RegionRule::ParamAndLexical => 5,
+        RegionRule::TwiceParam => 6,
+        RegionRule::BindsReserved => 9,
+    };
+    let first = first_of(alloc, known, rows, rule)?;
+    Ok(error_of(number, first))
+}
+
+/// The first clash of a lexical and a var name, of heads of `for` statements or of other regions.
+fn error_of_clash(alloc: Global, rows: &[Row], heads: bool) -> Result<Option<Early>, AllocError>
+    requires { length rows.now ≤ 2 ^ 32 - 2 }
+    ensures { IfOk result (λ error. error ≡ clash_error heads (told_of (map row_of rows.now))) }
+{
+    let first = first_clash(alloc, rows, heads)?;
+    if heads {
+        Ok(error_of(3, first))
+    } else {
+        Ok(error_of(2, first))
+    }
+}
+
+/// The first early error of all rules, where the first of those that were noted is `noted`.
+pub fn first_error(
+    alloc: Global,
+    known: &Known,
+    rows: &[Row],
+    noted: Option<Early>,
+) -> Result<Option<Early>, AllocError>
+    requires { length rows.now ≤ 2 ^ 32 - 2 }
+    ensures { IfOk result (λ error. error ≡ first_error nat_eq (known_names known.now) noted (told_of (map row_of rows.now))) }
+{
+    let lexical = error_of_rule(alloc, known, rows, RegionRule::TwiceLexical)?;
+    let clash = error_of_clash(alloc, rows, false)?;
+    let head = error_of_clash(alloc, rows, true)?;
+    let catch = error_of_rule(alloc, known, rows, RegionRule::CatchAndLexical)?;
+    let param = error_of_rule(alloc, known, rows, RegionRule::ParamAndLexical)?;
+    let params = error_of_rule(alloc, known, rows, RegionRule::TwiceParam)?;
+    let reserved = error_of_rule(alloc, known, rows, RegionRule::BindsReserved)?;
+    let jump = error_of(11, first_wrong_jump(alloc, rows)?);
+    let late = sooner_early(params, sooner_early(reserved, jump));
+    let middle = sooner_early(head, sooner_early(catch, sooner_early(param, late)));
+    let first = sooner_early(noted, sooner_early(lexical, sooner_early(clash, middle)));
+    Ok(first)
+}

@@ -5,12 +5,10 @@ ghost use Rattle.bytecode_buf.specs.Emits.{Emits};
 ghost use Rattle.emit_exprs.specs.Names as code;
 ghost use Rattle.emit_exprs.specs.Whole.{whole};
 
-use std::alloc::AllocError;
-
+use crate::names::{base_at, init_at, read_at, write_at};
 use bytecode_buf::CodeBuf;
+use std::alloc::AllocError;
 use stencil_data::{Extent, Place, Text};
-
-use crate::names::{base_at, read_at, write_at};
 
 /// Code in the making. Its atoms are indexes into `texts`, and the operand of a Lambda is an index into `inner`, which
 /// is in order of rising start.
@@ -56,5 +54,18 @@ pub fn write(out: &mut Emit, atom: u32, place: &Place) -> Result<(), AllocError>
     ensures inner { out.new.inner ≡ out.old.inner }
 {
     write_at(&mut out.code, atom, place)?;
+    Ok(())
+}
+
+/// Appends the code that gives a lexical name or a catch parameter its first value, which is on top of the stack.
+///
+/// After an error `out` holds a front of it and is only dropped.
+pub fn init(out: &mut Emit, atom: u32, place: &Place) -> Result<(), AllocError>
+    requires { PlaceFits place.now }
+    ensures code { OnOk result (Emits out.old.texts.items out.old.code out.new.code (whole (code.init (slice_index_or out.old.texts.items atom []) place.now))) }
+    ensures texts { out.new.texts ≡ out.old.texts }
+    ensures inner { out.new.inner ≡ out.old.inner }
+{
+    init_at(&mut out.code, atom, place)?;
     Ok(())
 }

@@ -6,12 +6,10 @@ ghost use Rattle.bytecode_buf.specs.Command as command;
 ghost use Rattle.emit_exprs.specs.Names as code;
 ghost use Rattle.emit_exprs.specs.Whole.{whole};
 
-use std::alloc::AllocError;
-
-use bytecode_buf::{CodeBuf, Op};
-use stencil_data::{BindKind, Place};
-
 use crate::steps::{aliased, counted, named, plain};
+use bytecode_buf::{CodeBuf, Op};
+use std::alloc::AllocError;
+use stencil_data::{BindKind, Place};
 
 /// How a binding in a slot is read and written.
 #[derive(Clone, Copy)]
@@ -25,7 +23,6 @@ pub enum Access {
     /// Read after that check, and never written: `const`.
     Constant,
 }
-
 
 fn access_of_kind(kind: BindKind) -> Access
     ensures { result ≡ code.access_of kind }
@@ -175,7 +172,13 @@ fn write_frame(out: &mut CodeBuf, atom: u32, slot: u32, access: Access) -> Resul
     }
 }
 
-fn write_env(out: &mut CodeBuf, atom: u32, hops: u32, slot: u32, access: Access) -> Result<(), AllocError>
+fn write_env(
+    out: &mut CodeBuf,
+    atom: u32,
+    hops: u32,
+    slot: u32,
+    access: Access,
+) -> Result<(), AllocError>
     requires hops { hops < 2 ^ 16 }
     requires slot { slot < 2 ^ 24 }
     ensures { OnOk result ((texts : List (List ℕ)) → Emits texts out.old out.new (whole (code.write_env (slice_index_or texts atom []) hops slot access))) }
@@ -197,7 +200,13 @@ pub fn write_at(out: &mut CodeBuf, atom: u32, place: &Place) -> Result<(), Alloc
         Place::Global => Ok(named(out, Op::StrictSetGName, atom)?),
         Place::Arg(index) => Ok(counted(out, Op::SetArg, index)?),
         Place::Frame { slot, kind } => Ok(write_frame(out, atom, slot, access_of_kind(kind))?),
-        Place::Env { hops, slot, kind } => Ok(write_env(out, atom, hops, slot, access_of_kind(kind))?),
+        Place::Env { hops, slot, kind } => Ok(write_env(
+            out,
+            atom,
+            hops,
+            slot,
+            access_of_kind(kind),
+        )?),
         Place::Callee => Ok(named(out, Op::ThrowSetConst, atom)?),
     }
 }
@@ -211,7 +220,11 @@ pub fn init_at(out: &mut CodeBuf, atom: u32, place: &Place) -> Result<(), AllocE
         Place::Global => Ok(named(out, Op::InitGLexical, atom)?),
         Place::Arg(index) => Ok(counted(out, Op::SetArg, index)?),
         Place::Frame { slot, kind: _ } => Ok(counted(out, Op::InitLexical, slot)?),
-        Place::Env { hops, slot, kind: _ } => Ok(aliased(out, Op::InitAliasedLexical, hops, slot)?),
+        Place::Env {
+            hops,
+            slot,
+            kind: _,
+        } => Ok(aliased(out, Op::InitAliasedLexical, hops, slot)?),
         Place::Callee => Ok(named(out, Op::ThrowSetConst, atom)?),
     }
 }

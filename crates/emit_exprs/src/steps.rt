@@ -7,9 +7,8 @@ ghost use Rattle.bytecode_buf.specs.Pieces.{one};
 ghost use Rattle.bytecode_buf.specs.Emits.{Emits};
 ghost use Rattle.emit_exprs.specs.Steps.{is_counted};
 
-use std::alloc::AllocError;
-
 use bytecode_buf::{CodeBuf, Op};
+use std::alloc::AllocError;
 
 /// An instruction without an operand.
 pub fn plain(out: &mut CodeBuf, op: Op) -> Result<(), AllocError>

@@ -97,8 +97,8 @@ body_code scopes starts initialized params (ShortBody value) number base = expr_
 body_code scopes starts initialized params (BracedBody items) number base =
     body_vars_code scopes starts (body_var_names initialized items) params number base
     ++ in_scope (body_setting scopes starts (body_base scopes (body_var_names initialized items) number base)) (top_lexical_names items) (λ scene. top_functions scene items)
-      (stmts_code (body_setting scopes starts (body_base scopes (body_var_names initialized items) number base)) items)
-      (number + scope_count (body_var_names initialized items)) []
+    (stmts_code (body_setting scopes starts (body_base scopes (body_var_names initialized items) number base)) items)
+    (number + scope_count (body_var_names initialized items)) []
     ++ just op.RetRval
 
 abbrev pub params_scene : List NamedScope → List ℕ → List Declaration → List LinkView → Scene

@@ -179,10 +179,10 @@ for_code level test body fresh update =
 abbrev pub for_in_code : ℕ → Code → Code → Code → Code
 for_in_code level fresh store body =
     here (aim.Break level)
-      (turning op.Goto
-        (here (aim.Continue level)
-          (whole (plain op.LoopHead ∷ plain op.MoreIter ∷ plain op.IsNoIter ∷ []) ++ (Waiting op.JumpIfTrue (aim.Break level) ∷ []) ++ fresh ++ just op.Dup ++ store ++ just op.Pop ++ body)
-          ++ just op.Pop))
+    (turning op.Goto
+    (here (aim.Continue level)
+    (whole (plain op.LoopHead ∷ plain op.MoreIter ∷ plain op.IsNoIter ∷ []) ++ (Waiting op.JumpIfTrue (aim.Break level) ∷ []) ++ fresh ++ just op.Dup ++ store ++ just op.Pop ++ body)
+    ++ just op.Pop))
     ++ just op.EndIter
 
 -- ---- choices
@@ -261,17 +261,17 @@ abbrev mutual
   stmt_code the (While test body) number frames = while_code (length frames) (value_at the (Loop ∷ frames) test) (stmt_code the body number (Loop ∷ frames))
   stmt_code the (For init test update body) number frames =
       in_scope the (init_lexical_names init) no_functions
-        (λ inside around.
-          init_code (scene_at the around) init ++ freshen the (init_lexical_names init) number
-          ++ for_code (length around) (test_code (scene_at the (Loop ∷ around)) (length around) test) (stmt_code the body inside (Loop ∷ around))
-            (freshen the (init_lexical_names init) number) (update_code (scene_at the (Loop ∷ around)) update))
-        number frames
+      (λ inside around.
+      init_code (scene_at the around) init ++ freshen the (init_lexical_names init) number
+      ++ for_code (length around) (test_code (scene_at the (Loop ∷ around)) (length around) test) (stmt_code the body inside (Loop ∷ around))
+      (freshen the (init_lexical_names init) number) (update_code (scene_at the (Loop ∷ around)) update))
+      number frames
   stmt_code the (ForIn each over body) number frames =
       in_scope the (each_lexical_names each) no_functions
-        (λ inside around.
-          value_at the around over ++ just op.Iter
-          ++ for_in_code (length around) (freshen the (each_lexical_names each) number) (store_each (scene_at the (KeysLoop ∷ around)) each) (stmt_code the body inside (KeysLoop ∷ around)))
-        number frames
+      (λ inside around.
+      value_at the around over ++ just op.Iter
+      ++ for_in_code (length around) (freshen the (each_lexical_names each) number) (store_each (scene_at the (KeysLoop ∷ around)) each) (stmt_code the body inside (KeysLoop ∷ around)))
+      number frames
   stmt_code the (Continue at label semi) number frames = leaving the.scopes (Again (label_text label)) frames
   stmt_code the (Break at label semi) number frames = leaving the.scopes (Out (label_text label)) frames
   stmt_code the (Return value semi) number frames = return_code (value_or_undefined (scene_at the frames) value) (exits the.scopes frames)
@@ -279,21 +279,21 @@ abbrev mutual
   stmt_code the (Switch of clauses) number frames =
       value_at the frames of
       ++ in_scope the (clauses_lexical_names clauses) (λ scene. clause_functions scene clauses)
-        (λ inside around.
-          here (aim.Break (length around))
-            (clauses_code the 0 clauses inside (Switching ∷ around)
-              (cases_code (scene_at the (Switching ∷ around)) 0 clauses ++ (Waiting op.Default (default_aim (length around) 0 clauses) ∷ []))))
-        number frames
+      (λ inside around.
+      here (aim.Break (length around))
+      (clauses_code the 0 clauses inside (Switching ∷ around)
+      (cases_code (scene_at the (Switching ∷ around)) 0 clauses ++ (Waiting op.Default (default_aim (length around) 0 clauses) ∷ []))))
+      number frames
   stmt_code the (Label name body) number frames = here (aim.Break (length frames)) (stmt_code the body number (Labelled name.text ∷ frames))
   stmt_code the (Try body param handler) number frames =
       try_code (kept_values frames)
-        (in_scope the (lexical_names body) (λ scene. block_functions scene body) (stmts_code the body) number frames)
-        (catch_enter the (catch_names param) (number + (scope_count (lexical_names body) + count_stmts body))
-          ++ catch_code (scene_at the (frames_in (catch_names param) (number + (scope_count (lexical_names body) + count_stmts body)) frames)) param
-          ++ in_scope the (lexical_names handler) (λ scene. block_functions scene handler) (stmts_code the handler)
-            (number + (scope_count (lexical_names body) + count_stmts body) + scope_count (catch_names param))
-            (frames_in (catch_names param) (number + (scope_count (lexical_names body) + count_stmts body)) frames)
-          ++ catch_leave the (catch_names param) (number + (scope_count (lexical_names body) + count_stmts body)))
+      (in_scope the (lexical_names body) (λ scene. block_functions scene body) (stmts_code the body) number frames)
+      (catch_enter the (catch_names param) (number + (scope_count (lexical_names body) + count_stmts body))
+      ++ catch_code (scene_at the (frames_in (catch_names param) (number + (scope_count (lexical_names body) + count_stmts body)) frames)) param
+      ++ in_scope the (lexical_names handler) (λ scene. block_functions scene handler) (stmts_code the handler)
+      (number + (scope_count (lexical_names body) + count_stmts body) + scope_count (catch_names param))
+      (frames_in (catch_names param) (number + (scope_count (lexical_names body) + count_stmts body)) frames)
+      ++ catch_leave the (catch_names param) (number + (scope_count (lexical_names body) + count_stmts body)))
   stmt_code the (Declared f) number frames = []
 
   pub stmts_code : Setting → Stmts → ℕ → List Frame → Code

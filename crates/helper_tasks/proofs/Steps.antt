@@ -32,10 +32,10 @@ pushes bound port v x some_part small items views b at =
       record {
         parts = let s = total-set parts views port v w at in let p = b.parts in omega arith;
         each = λ y.
-          let s = total-set (pushed_of y) views port v w at in
-          let t = total-set (taken_of y) views port v w at in
-          let p = b.each y in
-          omega (arith, times-append y v.pushed (x ∷ []), times-append y items (x ∷ []));
+            let s = total-set (pushed_of y) views port v w at in
+            let t = total-set (taken_of y) views port v w at in
+            let p = b.each y in
+            omega (arith, times-append y v.pushed (x ∷ []), times-append y items (x ∷ []));
         idle = each-set IdleIsEmpty views port w b.idle (λ none. absurd (omega arith));
         below = each-snoc (λ (y : ℕ). y < bound) items x b.below small;
       },
@@ -50,11 +50,11 @@ takes_either bound port v xs items all views some_part split below b at =
     record {
       parts = let s = total-set parts views port v w at in let p = b.parts in omega arith;
       each = λ y.
-        let s = total-set (pushed_of y) views port v w at in
-        let t = total-set (taken_of y) views port v w at in
-        let p = b.each y in
-        let q = split y in
-        omega (arith, times-append y v.taken xs);
+          let s = total-set (pushed_of y) views port v w at in
+          let t = total-set (taken_of y) views port v w at in
+          let p = b.each y in
+          let q = split y in
+          omega (arith, times-append y v.taken xs);
       idle = each-set IdleIsEmpty views port w b.idle (λ none. absurd (omega arith));
       below = below;
     }
@@ -91,12 +91,12 @@ forks bound port v two items views b at =
     record {
       parts = let s = total-set parts views port v l at in let n = total-snoc parts vs r in let p = b.parts in omega arith;
       each = λ y.
-        let s = total-set (pushed_of y) views port v l at in
-        let t = total-set (taken_of y) views port v l at in
-        let n = total-snoc (pushed_of y) vs r in
-        let m = total-snoc (taken_of y) vs r in
-        let p = b.each y in
-        omega arith;
+          let s = total-set (pushed_of y) views port v l at in
+          let t = total-set (taken_of y) views port v l at in
+          let n = total-snoc (pushed_of y) vs r in
+          let m = total-snoc (taken_of y) vs r in
+          let p = b.each y in
+          omega arith;
       idle = each-snoc IdleIsEmpty vs r (each-set IdleIsEmpty views port l b.idle (λ none. absurd (omega arith))) (λ none. absurd (omega arith));
       below = b.below;
     }
@@ -109,12 +109,12 @@ merges bound port v other u some_part items views b at two at' =
     record {
       parts = let s = total-set parts views port v w at in let n = total-set parts vs other u none at' in let p = b.parts in omega arith;
       each = λ y.
-        let s = total-set (pushed_of y) views port v w at in
-        let t = total-set (taken_of y) views port v w at in
-        let n = total-set (pushed_of y) vs other u none at' in
-        let m = total-set (taken_of y) vs other u none at' in
-        let p = b.each y in
-        omega (arith, times-append y v.pushed u.pushed, times-append y v.taken u.taken);
+          let s = total-set (pushed_of y) views port v w at in
+          let t = total-set (taken_of y) views port v w at in
+          let n = total-set (pushed_of y) vs other u none at' in
+          let m = total-set (taken_of y) vs other u none at' in
+          let p = b.each y in
+          omega (arith, times-append y v.pushed u.pushed, times-append y v.taken u.taken);
       idle = each-set IdleIsEmpty vs other none (each-set IdleIsEmpty views port w b.idle (λ no. absurd (omega arith))) (λ no. (refl, refl));
       below = b.below;
     }

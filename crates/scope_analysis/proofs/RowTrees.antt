@@ -80,7 +80,7 @@ size_getter = function form.Getter 244 264 None no_params false false (BracedBod
 abbrev pub outer_switch : Stmt
 outer_switch = Switch (Chain (name_at (codes "names") 144) (more_tails (Index (name_at (codes "k") 150)) no_tails))
     (more_clauses (some_expr (Str 167 170 (codes "a"))) (only (Continue 172 (Some (at (codes "outer") 181)) true))
-      (more_clauses no_expr (only (Value (Chain (name_at (codes "next") 203) (more_tails (Call no_exprs false) no_tails)) true)) no_clauses))
+    (more_clauses no_expr (only (Value (Chain (name_at (codes "next") 203) (more_tails (Call no_exprs false) no_tails)) true)) no_clauses))
 
 abbrev pub module_function : Function
 module_function = function form.Function 10 281 None no_params false false (BracedBody
@@ -89,7 +89,7 @@ module_function = function form.Function 10 281 None no_params false false (Brac
     (more_stmts (Declared next_function)
     (more_stmts (Label (at (codes "outer") 100) (ForIn (BindEach decl.Var (at (codes "k") 116)) (name_at (codes "names") 121) (Block (only outer_switch))))
     (only (Value (Assign mark.ASSIGN (Chain (name_at (codes "window") 222) (dot (codes "app") no_tails))
-      (Object 235 (more_props (Get (WordKey (at (codes "size") 241)) size_getter) (more_props (Pair (WordKey (at (codes "next") 266)) (name_at (codes "next") 272)) no_props)) false)) true)))))))
+    (Object 235 (more_props (Get (WordKey (at (codes "size") 241)) size_getter) (more_props (Pair (WordKey (at (codes "next") 266)) (name_at (codes "next") 272)) no_props)) false)) true)))))))
 
 abbrev pub module_script : Stmts
 module_script = only (Value (Chain (Paren 0 (Func 1 module_function)) (more_tails (Call no_exprs false) no_tails)) true)

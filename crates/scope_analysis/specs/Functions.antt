@@ -149,9 +149,9 @@ abbrev mutual
   inner_stmt (Try body param handler) next around =
       inner_stmts body (next + scope_count (lexical_names body)) (enclosed (lexical_names body) next around)
       ++ inner_stmts handler
-        (next + (scope_count (lexical_names body) + count_stmts body) + scope_count (catch_names param) + scope_count (lexical_names handler))
-        (enclosed (lexical_names handler) (next + (scope_count (lexical_names body) + count_stmts body) + scope_count (catch_names param))
-          (enclosed (catch_names param) (next + (scope_count (lexical_names body) + count_stmts body)) around))
+      (next + (scope_count (lexical_names body) + count_stmts body) + scope_count (catch_names param) + scope_count (lexical_names handler))
+      (enclosed (lexical_names handler) (next + (scope_count (lexical_names body) + count_stmts body) + scope_count (catch_names param))
+      (enclosed (catch_names param) (next + (scope_count (lexical_names body) + count_stmts body)) around))
   inner_stmt (Declared f) next around = named_inner func.Declared f around
 
   pub inner_stmts : Stmts → ℕ → List ℕ → List Inner
@@ -176,7 +176,7 @@ abbrev pub inner_body : Bool → Body → ℕ → List ℕ → List Inner
 inner_body initialized (ShortBody value) next around = inner_expr value around
 inner_body initialized (BracedBody items) next around =
     inner_stmts items (next + scope_count (body_var_names initialized items) + scope_count (top_lexical_names items))
-      (enclosed (top_lexical_names items) (next + scope_count (body_var_names initialized items)) (enclosed (body_var_names initialized items) next around))
+    (enclosed (top_lexical_names items) (next + scope_count (body_var_names initialized items)) (enclosed (body_var_names initialized items) next around))
 
 -- the scopes around a function's parameters: its own, and that of its name
 abbrev pub params_around : FuncKind → Option Text → List ℕ

@@ -141,8 +141,8 @@ abbrev mutual
   scopes_stmt (Try body param handler) w =
       scope_around scope.Lexical (lexical_names body) (block_inner body) (scopes_stmts body) w
       ++ scope_around scope.SimpleCatch (catch_names param) (catch_inner handler)
-        (scope_around scope.Lexical (lexical_names handler) (block_inner handler) (scopes_stmts handler))
-        (behind (scope_count (lexical_names body) + count_stmts body) w)
+      (scope_around scope.Lexical (lexical_names handler) (block_inner handler) (scopes_stmts handler))
+      (behind (scope_count (lexical_names body) + count_stmts body) w)
   scopes_stmt (Declared f) w = []
 
   pub scopes_stmts : Stmts → Within → List NamedScope
@@ -195,7 +195,7 @@ abbrev pub scopes_body : Bool → Body → Within → List NamedScope
 scopes_body initialized (ShortBody value) w = []
 scopes_body initialized (BracedBody items) w =
     scope_around scope.FunctionBodyVar (body_var_names initialized items) (body_var_inner items)
-      (scope_around scope.FunctionLexical (top_lexical_names items) (block_inner items) (scopes_stmts items)) w
+    (scope_around scope.FunctionLexical (top_lexical_names items) (block_inner items) (scopes_stmts items)) w
 
 -- nothing is around
 abbrev pub outermost : Within
@@ -205,9 +205,9 @@ outermost = record { parent = None; next = 0; frame = 0 }
 abbrev pub function_scopes : FuncKind → Option Text → Function → List NamedScope
 function_scopes kind name (function form start end _ params comma bare body) =
     scope_around scope.StrictNamedLambda (callee_names kind name)
-      (uses_without (texts_of (function_names form params body)) (function_uses params body)).inner
-      (scope_and scope.Function (function_names form params body) (function_uses params body).inner (scopes_body (has_initializer params) body))
-      outermost
+    (uses_without (texts_of (function_names form params body)) (function_uses params body)).inner
+    (scope_and scope.Function (function_names form params body) (function_uses params body).inner (scopes_body (has_initializer params) body))
+    outermost
 
 -- The scopes of a script.
 abbrev pub global_names : Stmts → List Declaration

@@ -11,3 +11,6 @@
 mod resolving;
 
 pub use resolving::resolve;
+
+#[cfg(test)]
+mod tests;

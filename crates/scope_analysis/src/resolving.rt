@@ -31,7 +31,6 @@ fn place_of(hops: u32, kind: BindKind, slot: Slot) -> Place
 
 /// The place of the first binding of this name on the chain: the walk along the scopes around a use (ECMA-262, 12th
 /// edition, clause 9.1.2.1, GetIdentifierReference). It is global where the global scope is reached. It takes no memory.
-#[tactic(auto, using(crate::proofs::ScopeRows::own_name))]
 pub fn resolve(chain: &Chain, name: &Text) -> Place
     requires { ChainFits 65000 chain.now }
     ensures place { result ≡ defined.resolve chain.now name.now }

@@ -9,4 +9,4 @@ use Rattle.emit_exprs.proofs.names.write_checked_env.Goals as goal
 pub returns : goal.returns
 returns c texts =
     emits_after_check texts c.args.out.now c.read_env.new.out c.plain.new.out c.aliased.new.out (read_env c.args.hops c.args.slot access.Checked) (aliased op.SetAliasedVar c.args.hops c.args.slot)
-      (c.in_ok-read_env.ensures texts) (c.in_ok-plain.ensures texts) (c.in_ok-aliased.ensures texts)
+    (c.in_ok-read_env.ensures texts) (c.in_ok-plain.ensures texts) (c.in_ok-aliased.ensures texts)

@@ -9,4 +9,4 @@ use Rattle.emit_exprs.proofs.names.write_checked_frame.Goals as goal
 pub returns : goal.returns
 returns c texts =
     emits_after_check texts c.args.out.now c.read_frame.new.out c.plain.new.out c.counted.new.out (read_frame c.args.slot access.Checked) (counted op.SetLocal c.args.slot)
-      (c.in_ok-read_frame.ensures texts) (c.in_ok-plain.ensures texts) (c.in_ok-counted.ensures texts)
+    (c.in_ok-read_frame.ensures texts) (c.in_ok-plain.ensures texts) (c.in_ok-counted.ensures texts)

@@ -9,4 +9,4 @@ use Rattle.emit_exprs.proofs.names.write_constant_env.Goals as goal
 pub returns : goal.returns
 returns c texts =
     emits_after_check texts c.args.out.now c.read_env.new.out c.plain.new.out c.named.new.out (read_env c.args.hops c.args.slot access.Constant) (named op.ThrowSetConst (slice_index_or texts c.args.atom []))
-      (c.in_ok-read_env.ensures texts) (c.in_ok-plain.ensures texts) (c.in_ok-named.ensures texts)
+    (c.in_ok-read_env.ensures texts) (c.in_ok-plain.ensures texts) (c.in_ok-named.ensures texts)

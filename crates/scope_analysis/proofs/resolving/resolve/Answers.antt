@@ -10,7 +10,7 @@ use Rattle.scope_analysis.proofs.resolving.resolve.Goals as goal
 pub returns-in-Some-first_named-clause-fits : goal.returns-in-Some-first_named-clause-fits
 returns-in-Some-first_named-clause-fits c =
     subst PlaceFits (sym c.place_of.ensures)
-      (walking_fits c.args.chain.now c.args.name.now (links_outside c.loop-rest.rest) c.loop-rest.hops c.split_innermost.result.0.now (links_outside c.split_innermost.result.1) c.in-Some-first_named.binding.now
-        (ap (λ (o : Option (Bor (List LinkView))). links_outside o) c.in-Some.is ∙ c.split_innermost.ensures.all)
-        (c.in-Some-first_named.ensures ∙ ap (first_named c.args.name.now) (c.deref.ensures.value ∙ ap (λ (l : LinkView). l.names) c.link.view_is))
-        c.loop-rest.invariant)
+    (walking_fits c.args.chain.now c.args.name.now (links_outside c.loop-rest.rest) c.loop-rest.hops c.split_innermost.result.0.now (links_outside c.split_innermost.result.1) c.in-Some-first_named.binding.now
+    (ap (λ (o : Option (Bor (List LinkView))). links_outside o) c.in-Some.is ∙ c.split_innermost.ensures.all)
+    (c.in-Some-first_named.ensures ∙ ap (first_named c.args.name.now) (c.deref.ensures.value ∙ ap (λ (l : LinkView). l.names) c.link.view_is))
+    c.loop-rest.invariant)

@@ -49,10 +49,5 @@ pub mod StmtFronts
 pub mod StmtNext
 pub mod Stops
 pub mod Tests
-pub mod LocalExprs
-pub mod LocalArrows
-pub mod Nested
-pub mod NestedTrees
-pub mod LocalRace
 pub mod LocalHeads
 pub mod LocalCalls

@@ -72,3 +72,5 @@ pub mod Tests
 pub mod CompleteParams
 pub mod CompleteFunctions
 pub mod CompleteObjects
+pub mod LocalHeads
+pub mod LocalCalls

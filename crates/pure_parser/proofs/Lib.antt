@@ -5,6 +5,7 @@ pub mod Begins
 pub mod Complete
 pub mod CompleteBinds
 pub mod CompleteEach
+pub mod CompleteItems
 pub mod CompleteLoops
 pub mod CompleteParts
 pub mod CompleteSimple
@@ -17,7 +18,9 @@ pub mod Friendly
 pub mod Fronts
 pub mod Local
 pub mod LocalArrows
+pub mod LocalCalls
 pub mod LocalExprs
+pub mod LocalHeads
 pub mod LocalRace
 pub mod LocalStmts
 pub mod Lone
@@ -66,9 +69,8 @@ pub mod StmtFronts
 pub mod StmtNext
 pub mod Stops
 pub mod Tests
-pub mod LocalExprs
-pub mod LocalArrows
-pub mod Nested
-pub mod NestedTrees
-pub mod LocalRace
+pub mod CompleteParams
+pub mod CompleteFunctions
+pub mod CompleteObjects
 pub mod LocalHeads
+pub mod LocalCalls

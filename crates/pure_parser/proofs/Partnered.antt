@@ -6,12 +6,12 @@ use Rattle.std.proofs.lemmas.List.{take-append-drop, drop-append-le, length-take
 use Rattle.script_grammar.specs.declared.token.Kind.{Kind}
 use Rattle.script_grammar.specs.declared.token.Kind.TheVariants as kind
 use Rattle.script_grammar.specs.declared.brackets.Bracket.{Bracket}
-use Rattle.script_grammar.specs.declared.brackets.Bracket.TheVariants.{Template}
+use Rattle.script_grammar.specs.declared.brackets.Bracket.TheVariants.{Paren, Brace, Template}
 use Rattle.script_grammar.specs.declared.brackets.BracketPart.{BracketPart}
 use Rattle.script_grammar.specs.declared.brackets.BracketPart.TheVariants.{Opening, Closing, Middle, Other}
 use Rattle.script_grammar.specs.Lexeme.{Lexeme}
-use Rattle.script_grammar.specs.Pieces.{Opener, open_behind}
-use Rattle.script_grammar.specs.Matching.{part_of, part_at, is_same, next_open, all_open, opened_by, closed_by, between, Pairs, IsStop}
+use Rattle.script_grammar.specs.Pieces.{Opener, paren, brace, open_behind}
+use Rattle.script_grammar.specs.Matching.{part_of, part_at, is_same, next_open, all_open, opened_by, closed_by, between, Pairs, IsStop, IsPartner, IsMatching, Matching, partner_of}
 use Rattle.script_grammar.proofs.Balance.{all_open-append, all_open-more, is_same-eq, between-more, between-none}
 use Rattle.pure_parser.specs.Parser.{Read, Bad, head_of}
 use Rattle.pure_parser.specs.Exprs.{pass_case, pass_over, closed_case, arrow_behind, is_arrow}
@@ -224,3 +224,47 @@ arrow_behind-walks ps t ts = cases (open_behind t.kind ps)
     cases None = refl
     cases (Some []) = refl
     cases (Some (q ∷ qs)) = refl
+
+-- a token that opens a bracket is no closing one of its pair
+pairs-of : (ks : List Kind) (stop a p : ℕ) (b : Bracket) → part_at ks a ≡ Opening b → IsPartner ks stop a p → Pairs ks a p
+pairs-of ks stop a p b opens h = elim h.pairs [ inl pair ↦ pair | inr back ↦ absurd (no_some (sym back.0 ∙ ap opened_by opens)) ]
+  where
+    no_some : {A : Type 0} {a : A} → None ≡ Some a → ⊥
+    no_some e = cc
+
+-- a token that no other is the partner of
+alone-of : (ks : List Kind) (m : Matching) (a : ℕ) → IsMatching ks m → a < m.stop → partner_of m a ≡ None → (p : ℕ) → p < m.stop → Pairs ks a p → ⊥
+alone-of ks m a h a_stop none p p_stop pair = no_some (sym none ∙ h.only a p (record { token = a_stop; partner = p_stop; pairs = inl pair }))
+  where
+    no_some : {A : Type 0} {a : A} → None ≡ Some a → ⊥
+    no_some e = cc
+
+-- A braced body is passed over up to its partner.
+pub pass_over-partner : (ls : List Lexeme) (m : Matching) (a p : ℕ) (d : Lexeme) → IsMatching (kinds ls) m → AllInner (take m.stop ls) → part_at (kinds ls) a ≡ Opening Brace → partner_of m a ≡ Some p
+    → pass_over (brace ∷ []) (drop (suc a) ls) ≡ Read (get_or ls p d).end [] (drop (suc p) ls)
+pass_over-partner ls m a p d h inner opens partner =
+    let found = h.partner a p partner in
+    let within : m.stop ≤ length ls = (let w = h.stop.within in let size = length-map ls (λ t. t.kind) in omega arith) in
+    walk-paired pass_over (λ t ts. Bad [] (t ∷ ts)) (λ t ts. Read t.end [] ts) pass_over-walks ls a p m.stop Brace d refl opens found.partner within inner (pairs-of (kinds ls) m.stop a p Brace opens found)
+
+-- Where it has no partner, what is passed over ends at the stop.
+pub pass_over-alone : (ls : List Lexeme) (m : Matching) (a : ℕ) (d : Lexeme) → IsMatching (kinds ls) m → AllInner (take m.stop ls) → (suc m.stop ≡ length ls → IsInner (get_or ls m.stop d).kind → ⊥) → part_at (kinds ls) a ≡ Opening Brace → a < m.stop → partner_of m a ≡ None
+    → pass_over (brace ∷ []) (drop (suc a) ls) ≡ Bad [] (drop m.stop ls)
+pass_over-alone ls m a d h inner ends opens a_stop none =
+    let within : m.stop < length ls = (let w = h.stop.within in let size = length-map ls (λ t. t.kind) in omega arith) in
+    walk-unpaired pass_over (λ t ts. Bad [] (t ∷ ts)) (λ t ts. Read t.end [] ts) pass_over-walks ls a m.stop Brace d refl opens a_stop h.stop inner ends (alone-of (kinds ls) m a h a_stop none)
+    ∙ ap (Bad []) (sym (drop-cons ls m.stop d within))
+
+-- An arrow begins at a parenthesis where the arrow's mark stands behind its partner.
+pub arrow_behind-partner : (ls : List Lexeme) (m : Matching) (a p : ℕ) → IsMatching (kinds ls) m → AllInner (take m.stop ls) → part_at (kinds ls) a ≡ Opening Paren → partner_of m a ≡ Some p
+    → arrow_behind (paren ∷ []) (drop (suc a) ls) ≡ is_arrow (head_of (drop (suc p) ls))
+arrow_behind-partner ls m a p h inner opens partner =
+    let found = h.partner a p partner in
+    let within : m.stop ≤ length ls = (let w = h.stop.within in let size = length-map ls (λ t. t.kind) in omega arith) in
+    walk-paired arrow_behind (λ t ts. false) (λ t ts. is_arrow (head_of ts)) arrow_behind-walks ls a p m.stop Paren (head_of []) refl opens found.partner within inner (pairs-of (kinds ls) m.stop a p Paren opens found)
+
+-- No arrow begins at a parenthesis without a partner.
+pub arrow_behind-alone : (ls : List Lexeme) (m : Matching) (a : ℕ) → IsMatching (kinds ls) m → AllInner (take m.stop ls) → (suc m.stop ≡ length ls → IsInner (get_or ls m.stop (head_of [])).kind → ⊥) → part_at (kinds ls) a ≡ Opening Paren → a < m.stop → partner_of m a ≡ None
+    → arrow_behind (paren ∷ []) (drop (suc a) ls) ≡ false
+arrow_behind-alone ls m a h inner ends opens a_stop none =
+    walk-unpaired arrow_behind (λ t ts. false) (λ t ts. is_arrow (head_of ts)) arrow_behind-walks ls a m.stop Paren (head_of []) refl opens a_stop h.stop inner ends (alone-of (kinds ls) m a h a_stop none)

@@ -200,13 +200,13 @@ module _ (limit : ℕ) (m : Bodies) (d : ℕ) (low : d ≤ limit) (v : Env) (c :
   members_last (x ∷ []) = lead_any
   members_last (x ∷ y ∷ xs) = members_last (y ∷ xs)
 
-  tails_complete : (ts : Tails) → ProperTails m ts → Completes limit (print_tails m d ts) TailStops (loop (parser.tail_turn v)) (record { items = tails_list ts; last = tt })
+  pub tails_complete : (ts : Tails) → ProperTails m ts → Completes limit (print_tails m d ts) TailStops (loop (parser.tail_turn v)) (record { items = tails_list ts; last = tt })
   tails_complete ts h = c_pieces limit (flat_tails ts) (c_loop limit (ProperTail m) (λ t. print_tail m d t) (λ t. Any) [] TailStops tt (parser.tail_turn v) tail_each (λ t k. tail_some t) (λ x y kx ky w n h. tt) (c_look limit tail_stop) (tails_list ts) (all_tails ts h) (tails_last (tails_list ts)))
 
-  members_complete : (ts : Tails) → ProperTails m ts → are_member_tails ts ≡ true → Completes limit (print_tails m d ts) MemberStops (loop (parser.member_turn v)) (record { items = tails_list ts; last = tt })
+  pub members_complete : (ts : Tails) → ProperTails m ts → are_member_tails ts ≡ true → Completes limit (print_tails m d ts) MemberStops (loop (parser.member_turn v)) (record { items = tails_list ts; last = tt })
   members_complete ts h k = c_pieces limit (flat_tails ts) (c_loop limit Member (λ t. print_tail m d t) (λ t. Any) [] MemberStops tt (parser.member_turn v) member_each (λ t k. tail_some t) (λ x y kx ky w n h. tt) (c_look limit member_stop) (tails_list ts) (all_members ts h k) (members_last (tails_list ts)))
 
-  chain_as : (e : Expr) (ts : Tails) → HasTails ts → chain_case e (tails_list ts) ≡ tree.Chain e ts
+  pub chain_as : (e : Expr) (ts : Tails) → HasTails ts → chain_case e (tails_list ts) ≡ tree.Chain e ts
   chain_as e no_tails h = absurd h
   chain_as e (more_tails t ts) h = ap (λ x. tree.Chain e (more_tails t x)) (tails_as ts)
 

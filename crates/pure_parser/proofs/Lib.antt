@@ -56,3 +56,4 @@ pub mod CompleteParams
 pub mod CompleteFunctions
 pub mod CompleteObjects
 pub mod CompleteChains
+pub mod CompleteUnary

@@ -247,7 +247,7 @@ module _ (limit : ℕ) (m : Bodies) (d : ℕ) (low : d ≤ limit) (v : Env) (c :
   postfix_here at op e t ts h k l = at_kind (λ u. u.after_line ≡ false → parser.postfix_of at e (u ∷ ts) ≡ Read (tree.Update at op false e) [] ts) (kind.Mark op) t k
       (λ z. ap (λ x. when (x && not t.after_line) (step (ret (tree.Update at op false e))) (ret e) (of_kind (kind.Mark op) t ∷ ts)) h ∙ ap (λ x. when (not x) (step (ret (tree.Update at op false e))) (ret e) (of_kind (kind.Mark op) t ∷ ts)) z) l
 
-  record UpdateStops (t : Lexeme) : Type 0 where
+  pub record UpdateStops (t : Lexeme) : Type 0 where
     pub tail : TailStops t
     pub update : (is_update t.kind && not t.after_line) ≡ false
 
@@ -255,7 +255,7 @@ module _ (limit : ℕ) (m : Bodies) (d : ℕ) (low : d ≤ limit) (v : Env) (c :
   left_update heads at e r h = c_pieces limit (append-nil (print m d e)) (c_bind limit (parser.postfix_of at) (left_complete heads e r h) (lead_map (λ t g. g.tail) lead_none) (c_look limit (λ rest g. postfix_none at e rest g.update)))
 
   -- an operand without an operator behind it
-  plain_update : (heads : Bool) (e : Expr) → rank e ≤ left_rank → Proper m e → Completes limit (print m d e) UpdateStops (parser.update_of v heads) e
+  pub plain_update : (heads : Bool) (e : Expr) → rank e ≤ left_rank → Proper m e → Completes limit (print m d e) UpdateStops (parser.update_of v heads) e
   unfolding parser.update_of
   plain_update heads e r h = record { at = λ w rest q g. record { by = ((left_update heads (head_of (lexemes w ++ rest)).start e r h).at w rest q g).by } }
 
@@ -281,7 +281,7 @@ module _ (limit : ℕ) (m : Bodies) (d : ℕ) (low : d ≤ limit) (v : Env) (c :
   postfix_at : (heads : Bool) (at op : ℕ) (e : Expr) → is_update_op op ≡ true → rank e ≤ left_rank → Proper m e → Completes limit (print m d e ++ glued_mark op d ∷ []) Any (bind (parser.left_of v heads) (parser.postfix_of at)) (tree.Update at op false e)
   postfix_at heads at op e k r h = c_bind limit (parser.postfix_of at) (left_complete heads e r h) (lead_at (λ t s. mark_stops op k t s.kind)) (c_at limit (λ t. ret (tree.Update at op false e)) low (λ t ts s. postfix_here at op e t ts k s.kind (s.line refl)) (λ t s. c_ret limit (tree.Update at op false e)))
 
-  postfix_complete : (heads : Bool) (at op : ℕ) (e : Expr) → is_update_op op ≡ true → rank e ≤ left_rank → Proper m e → Completes limit (from at (print m d e) ++ glued_mark op d ∷ []) Any (parser.update_of v heads) (tree.Update at op false e)
+  pub postfix_complete : (heads : Bool) (at op : ℕ) (e : Expr) → is_update_op op ≡ true → rank e ≤ left_rank → Proper m e → Completes limit (from at (print m d e) ++ glued_mark op d ∷ []) Any (parser.update_of v heads) (tree.Update at op false e)
   unfolding parser.update_of
   postfix_complete heads at op e k r h = record { at = λ w rest q g. by w rest q g }
     where
@@ -291,10 +291,10 @@ module _ (limit : ℕ) (m : Bodies) (d : ℕ) (low : d ≤ limit) (v : Env) (c :
 
   -- unary operators
 
-  prefix_first : (heads : Bool) (t : Lexeme) (ts : List Lexeme) → (is_prefix t.kind || is_update t.kind) ≡ true → parser.unary_of v heads (t ∷ ts) ≡ v.sub APrefix (t ∷ ts)
+  pub prefix_first : (heads : Bool) (t : Lexeme) (ts : List Lexeme) → (is_prefix t.kind || is_update t.kind) ≡ true → parser.unary_of v heads (t ∷ ts) ≡ v.sub APrefix (t ∷ ts)
   unfolding parser.unary_of
   prefix_first heads t ts h = ap (λ x. when x (v.sub APrefix) (parser.update_of v heads) (t ∷ ts)) h
 
-  operand_first : (heads : Bool) (t : Lexeme) (ts : List Lexeme) → (is_prefix t.kind || is_update t.kind) ≡ false → parser.unary_of v heads (t ∷ ts) ≡ parser.update_of v heads (t ∷ ts)
+  pub operand_first : (heads : Bool) (t : Lexeme) (ts : List Lexeme) → (is_prefix t.kind || is_update t.kind) ≡ false → parser.unary_of v heads (t ∷ ts) ≡ parser.update_of v heads (t ∷ ts)
   unfolding parser.unary_of
   operand_first heads t ts h = ap (λ x. when x (v.sub APrefix) (parser.update_of v heads) (t ∷ ts)) h

@@ -57,3 +57,4 @@ pub mod CompleteFunctions
 pub mod CompleteObjects
 pub mod CompleteChains
 pub mod CompleteUnary
+pub mod CompletePrefix

@@ -58,3 +58,4 @@ pub mod CompleteObjects
 pub mod CompleteChains
 pub mod CompleteUnary
 pub mod CompletePrefix
+pub mod CompleteLevels

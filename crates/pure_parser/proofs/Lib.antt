@@ -57,5 +57,6 @@ pub mod CompleteFunctions
 pub mod CompleteObjects
 pub mod CompleteChains
 pub mod CompleteUnary
+pub mod CompletePower
 pub mod CompletePrefix
 pub mod CompleteLevels

@@ -74,3 +74,8 @@ pub mod CompleteFunctions
 pub mod CompleteObjects
 pub mod LocalHeads
 pub mod LocalCalls
+pub mod CompleteChains
+pub mod CompleteUnary
+pub mod CompletePower
+pub mod CompletePrefix
+pub mod CompleteLevels

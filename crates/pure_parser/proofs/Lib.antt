@@ -51,3 +51,4 @@ pub mod Stops
 pub mod Tests
 pub mod LocalHeads
 pub mod LocalCalls
+pub mod CompleteItems

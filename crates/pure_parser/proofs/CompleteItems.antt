@@ -199,3 +199,93 @@ module _ (limit : ℕ) (m : Bodies) (d : ℕ) (low : d ≤ limit) (v : Env) (c :
   abbrev pub parts_list : Parts → List Part
   parts_list no_parts = []
   parts_list (more_parts value behind rest) = record { value = value; behind = behind } ∷ parts_list rest
+
+  part_of : (e : Expr) (t : Lexeme) (w : List ℕ) → t.text ≡ w → parser.part e t ≡ record { value = e; behind = w }
+  part_of e t w h = ap (λ x. record { value = e; behind = x }) h
+
+  middle_here : (e : Expr) (t : Lexeme) (ts : List Lexeme) → t.kind ≡ kind.TemplateMiddle → parser.part_end e (t ∷ ts) ≡ Read (Again (parser.part e t)) [] ts
+  unfolding parser.part_end
+  middle_here e t ts h = at_kind (λ u. parser.part_end e (u ∷ ts) ≡ Read (Again (parser.part e u)) [] ts) kind.TemplateMiddle t h refl
+
+  tail_here : (e : Expr) (t : Lexeme) (ts : List Lexeme) → t.kind ≡ kind.TemplateTail → parser.part_end e (t ∷ ts) ≡ Read (Stop (parser.part e t)) [] ts
+  unfolding parser.part_end
+  tail_here e t ts h = at_kind (λ u. parser.part_end e (u ∷ ts) ≡ Read (Stop (parser.part e u)) [] ts) kind.TemplateTail t h refl
+
+  stop_template : (w : Bool) (e : Ending) (t : Lexeme) (k : Kind) → t.kind ≡ k → ((x : Ending) → continues_expr w x (of_kind k t) ≡ false) → continues_expr w e t ≡ false
+  stop_template w e t k h f = at_kind (λ u. continues_expr w e u ≡ false) k t h (f e)
+
+  at_middle : (w : Bool) (t : Lexeme) (x : Ending) → continues_expr w x (of_kind kind.TemplateMiddle t) ≡ false
+  at_middle w t BracedArrow = refl
+  at_middle w t Postfix = refl
+  at_middle w t Operand = refl
+  at_middle w t BareBinding = refl
+  at_middle w t Keyword = refl
+  at_middle w t DoWhile = refl
+
+  at_tail : (w : Bool) (t : Lexeme) (x : Ending) → continues_expr w x (of_kind kind.TemplateTail t) ≡ false
+  at_tail w t BracedArrow = refl
+  at_tail w t Postfix = refl
+  at_tail w t Operand = refl
+  at_tail w t BareBinding = refl
+  at_tail w t Keyword = refl
+  at_tail w t DoWhile = refl
+
+  abbrev part_pieces : Part → List Piece
+  part_pieces x = print m (suc d) x.value ++ template_piece kind.TemplateMiddle x.behind d ∷ []
+
+  abbrev IsPart : Part → Type 0
+  IsPart x = Proper m x.value
+
+  middle_complete : (x : Part) → IsPart x → Completes limit (part_pieces x) Any (parser.part_turn v) (Again x)
+  unfolding parser.part_turn
+  middle_complete x h = c_bind limit parser.part_end (expr_complete limit m d low v c true x.value h refl) (lead_at (λ t s. stop_template true (ending x.value) t kind.TemplateMiddle s.kind (at_middle true t)))
+      (c_at limit (λ t. ret (Again (parser.part x.value t))) low (λ t ts s. middle_here x.value t ts s.kind) (λ t s. c_value (ap Again (part_of x.value t x.behind s.content)) (c_ret limit (Again (parser.part x.value t)))))
+
+  tail_complete : (e : Expr) (w : List ℕ) → Proper m e → Completes limit (print m (suc d) e ++ template_piece kind.TemplateTail w d ∷ []) Any (parser.part_turn v) (Stop (record { value = e; behind = w }))
+  unfolding parser.part_turn
+  tail_complete e w h = c_bind limit parser.part_end (expr_complete limit m d low v c true e h refl) (lead_at (λ t s. stop_template true (ending e) t kind.TemplateTail s.kind (at_tail true t)))
+      (c_at limit (λ t. ret (Stop (parser.part e t))) low (λ t ts s. tail_here e t ts s.kind) (λ t s. c_value (ap Stop (part_of e t w s.content)) (c_ret limit (Stop (parser.part e t)))))
+
+  part_some : (x : Part) → IsPart x → (w : List Marked) (n : Lexeme) → Stands (part_pieces x) w n → 0 < length (lexemes w)
+  part_some x h w n k = opens_some begins_assign (part_pieces x) w n (opens_append begins_assign (print m (suc d) x.value) (template_piece kind.TemplateMiddle x.behind d ∷ []) (expr_opens m (suc d) x.value h)) k
+
+  any_parts : (e : Expr) (w : List ℕ) (h : Proper m e) (xs : List Part) → LastLeads limit IsPart part_pieces (λ x. Any) (print m (suc d) e ++ template_piece kind.TemplateTail w d ∷ []) Any (record { value = e; behind = w }) (parser.part_turn v) middle_complete part_some (λ x y kx ky u n k. tt) (tail_complete e w h) xs
+  any_parts e w h [] = tt
+  any_parts e w h (x ∷ []) = lead_any
+  any_parts e w h (x ∷ y ∷ xs) = any_parts e w h (y ∷ xs)
+
+  -- all parts but the last, and the last
+  abbrev front_parts : Expr → List ℕ → Parts → List Part
+  front_parts e w no_parts = []
+  front_parts e w (more_parts f u ps) = record { value = e; behind = w } ∷ front_parts f u ps
+
+  abbrev last_part : Expr → List ℕ → Parts → Part
+  last_part e w no_parts = record { value = e; behind = w }
+  last_part e w (more_parts f u ps) = last_part f u ps
+
+  parts_all : (e : Expr) (w : List ℕ) (ps : Parts) → parts_of (front_parts e w ps ++ last_part e w ps ∷ []) ≡ more_parts e w ps
+  parts_all e w no_parts = refl
+  parts_all e w (more_parts f u ps) = ap (more_parts e w) (parts_all f u ps)
+
+  flat_parts : (e : Expr) (w : List ℕ) (ps : Parts) → flat part_pieces (front_parts e w ps) ++ (print m (suc d) (last_part e w ps).value ++ template_piece kind.TemplateTail (last_part e w ps).behind d ∷ []) ≡ print_parts m d (more_parts e w ps)
+  flat_parts e w no_parts = refl
+  flat_parts e w (more_parts f u ps) =
+      append_assoc (print m (suc d) e ++ template_piece kind.TemplateMiddle w d ∷ []) (flat part_pieces (front_parts f u ps)) _
+      ∙ ap (λ x. (print m (suc d) e ++ template_piece kind.TemplateMiddle w d ∷ []) ++ x) (flat_parts f u ps)
+      ∙ append_assoc (print m (suc d) e) (template_piece kind.TemplateMiddle w d ∷ []) (print_parts m d (more_parts f u ps))
+
+  front_proper : (e : Expr) (w : List ℕ) (ps : Parts) → ProperParts m (more_parts e w ps) → AllK IsPart (front_parts e w ps)
+  front_proper e w no_parts h = tt
+  front_proper e w (more_parts f u ps) h = (h.0, front_proper f u ps h.1)
+
+  part_proper : (e : Expr) (w : List ℕ) (ps : Parts) → ProperParts m (more_parts e w ps) → Proper m (last_part e w ps).value
+  part_proper e w no_parts h = h.0
+  part_proper e w (more_parts f u ps) h = part_proper f u ps h.1
+
+  -- behind the head of a template with values
+  pub template_complete : {F : Lexeme → Type 0} (at : ℕ) (first : List ℕ) (e : Expr) (w : List ℕ) (ps : Parts) → ProperParts m (more_parts e w ps) → Completes limit (print_parts m d (more_parts e w ps)) F (parser.template_of v at first) (tree.Template at first (more_parts e w ps))
+  unfolding parser.template_of
+  template_complete at first e w ps h =
+      let last : Part = last_part e w ps in
+      c_value (ap (tree.Template at first) (parts_all e w ps)) (c_weaken limit (λ t g. tt) (c_made limit (λ n. tree.Template at first (parts_of (n.items ++ n.last ∷ [])))
+          (c_pieces limit (flat_parts e w ps) (c_loop limit IsPart part_pieces (λ x. Any) (print m (suc d) last.value ++ template_piece kind.TemplateTail last.behind d ∷ []) Any last (parser.part_turn v) middle_complete part_some (λ x y kx ky u n k. tt) (tail_complete last.value last.behind (part_proper e w ps h)) (front_parts e w ps) (front_proper e w ps h) (any_parts last.value last.behind (part_proper e w ps h) (front_parts e w ps))))))

@@ -5,6 +5,7 @@ pub mod Begins
 pub mod Complete
 pub mod CompleteBinds
 pub mod CompleteEach
+pub mod CompleteItems
 pub mod CompleteLoops
 pub mod CompleteParts
 pub mod CompleteSimple
@@ -17,7 +18,9 @@ pub mod Friendly
 pub mod Fronts
 pub mod Local
 pub mod LocalArrows
+pub mod LocalCalls
 pub mod LocalExprs
+pub mod LocalHeads
 pub mod LocalRace
 pub mod LocalStmts
 pub mod Lone
@@ -52,3 +55,4 @@ pub mod Tests
 pub mod LocalHeads
 pub mod LocalCalls
 pub mod CompleteItems
+pub mod CompleteParams

@@ -12,7 +12,7 @@ use Rattle.script_grammar.specs.Tree.{Named, Expr, Tail, Key, Prop, Function}
 use Rattle.script_grammar.specs.Tree as tree
 use Rattle.script_grammar.specs.Proper.{rank}
 use Rattle.script_grammar.specs.TreeLists.{Operand, Param}
-use Rattle.pure_parser.specs.Parser.{Recorded, Reply, Read, Bad, Deep, Parser, head_of, rest_of, put_before, noted, after, ret, bad, bind, step, when, Turn, Again, Stop, stopped, loop}
+use Rattle.pure_parser.specs.Parser.{Recorded, Reply, Read, Bad, Deep, Parser, head_of, rest_of, put_before, noted, after, ret, bad, bind, step, when, Turn, Again, Stop, stopped, loop, peek}
 use Rattle.pure_parser.specs.Exprs
 use Rattle.pure_parser.specs.Exprs.{Env, Call, AnAssign, APrefix, ANew, AParam, ARest, ParamsEnd, Plain, Trailing, Rest, Head, expect, name_of, named, param, peek_two, again, begins_value, ends_key, is_param_form, is_atom, atom_case, is_chain_head, is_update_expr, is_op, is_arrow}
 use Rattle.pure_parser.proofs.Local.{Local, Same, out, kept, left, after_shorter, local_ret, local_bad, local_bind, local_peek, local_when, local_step, local_loop, local_led, Gains, Moves, gains_peek, gains_step, gains_eats, moves_when, moves_eats, Eats, Ate, eats_bind}

@@ -52,7 +52,4 @@ pub mod StmtFronts
 pub mod StmtNext
 pub mod Stops
 pub mod Tests
-pub mod LocalHeads
-pub mod LocalCalls
-pub mod CompleteItems
 pub mod CompleteParams

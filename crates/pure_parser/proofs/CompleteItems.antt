@@ -50,7 +50,7 @@ last_of i no_items = i
 last_of i (more_items j is) = last_of j is
 
 module _ (limit : ℕ) (m : Bodies) (d : ℕ) (low : d ≤ limit) (v : Env) (c : CompleteEnv limit m d v) where
-  stop_bracket : (w : Bool) (e : Expr) (t : Lexeme) → t.kind ≡ kind.Mark mark.CLOSE_BRACKET → continues_assign w (ending e) t ≡ false
+  pub stop_bracket : (w : Bool) (e : Expr) (t : Lexeme) → t.kind ≡ kind.Mark mark.CLOSE_BRACKET → continues_assign w (ending e) t ≡ false
   stop_bracket w e t h = at_kind (λ u. continues_assign w (ending e) u ≡ false) (kind.Mark mark.CLOSE_BRACKET) t h (by (ending e))
     where
       by : (x : Ending) → continues_assign w x (of_kind (kind.Mark mark.CLOSE_BRACKET) t) ≡ false

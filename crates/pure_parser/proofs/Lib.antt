@@ -53,3 +53,5 @@ pub mod StmtNext
 pub mod Stops
 pub mod Tests
 pub mod CompleteParams
+pub mod CompleteFunctions
+pub mod CompleteObjects

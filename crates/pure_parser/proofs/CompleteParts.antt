@@ -50,6 +50,11 @@ abbrev pub IsNew : Expr → Type 0
 IsNew (tree.New at callee args) = Unit {0}
 IsNew _ = ⊥
 
+-- what may follow a `new`: with arguments anything, without them nothing that goes on with a chain
+abbrev pub NewFollow : Expr → Lexeme → Type 0
+NewFollow (tree.New at callee (tree.some_args es comma)) t = Unit {0}
+NewFollow _ t = TailStops t
+
 -- what may follow a parameter
 abbrev pub ParamFollow : MaybeExpr → Lexeme → Type 0
 ParamFollow no_expr t = is_mark mark.ASSIGN t.kind ≡ false
@@ -58,7 +63,7 @@ ParamFollow (some_expr e) t = continues_assign true (ending e) t ≡ false
 pub record CompleteCalls (limit : ℕ) (m : Bodies) (d : ℕ) (sub : Calls) : Type 0 where
   pub assign : (w : Bool) (e : Expr) → rank e ≤ assign_rank → Proper m e → InIf w (free_of_in e) → Completes limit (print m (suc d) e) (λ t. continues_assign w (ending e) t ≡ false) (sub (AnAssign w)) e
   pub prefix : (e : Expr) → IsPrefixed e → Proper m e → Completes limit (print m d e) (UnaryStops (ending e)) (sub APrefix) e
-  pub new : (e : Expr) → IsNew e → Proper m e → Completes limit (print m d e) TailStops (sub ANew) e
+  pub new : (e : Expr) → IsNew e → Proper m e → Completes limit (print m d e) (NewFollow e) (sub ANew) e
   pub param : (p : Param) → p.rest ≡ false → ProperMaybe m (maybe_expr_of p.value) → Completes limit (print_param m (suc d) p) (ParamFollow (maybe_expr_of p.value)) (sub AParam) p
   pub rest : (n : Named) → Completes limit (mark_piece mark.ELLIPSIS (suc d) ∷ name_piece n (suc d) ∷ []) Any (sub ARest) n
 

@@ -55,3 +55,5 @@ pub mod Tests
 pub mod CompleteParams
 pub mod CompleteFunctions
 pub mod CompleteObjects
+pub mod CompleteChains
+pub mod CompleteUnary

@@ -1,0 +1,234 @@
+-- Completeness of `new`, left-hand sides, updates and unary operators: at their lexemes they are read.
+use Rattle.std.proofs.Common.{◌≡◌, ℕ, zero, suc, ◌+◌, ◌≤◌, ◌<◌, List, [], ◌∷◌, ◌++◌, length, refl, sym, ap, ◌∙◌, subst, arith, append_assoc, append-nil, Bool, true, false, not, ◌&&◌, ◌||◌, Option, Some, None, nat_le, if◌then◌else◌, ◌⊎◌, inl, inr}
+use Rattle.std.proofs.lemmas.Bool.{leb-true, le-leb}
+use Rattle.script_grammar.specs.declared.token.Kind.{Kind}
+use Rattle.script_grammar.specs.declared.token.Kind.TheVariants as kind
+use Rattle.script_grammar.specs.declared.token.mark.TheConstants as mark
+use Rattle.script_grammar.specs.declared.token.word.TheConstants as word
+use Rattle.script_grammar.specs.declared.token.FuncForm.TheVariants as form
+use Rattle.script_grammar.specs.Lexeme.{Lexeme}
+use Rattle.script_grammar.specs.Kinds.{is_mark, is_word, is_any_word, is_prefix, is_prefix_op, is_update, is_update_op, op_kind, is_arrow_form}
+use Rattle.script_grammar.specs.Tree.{Expr, MaybeArgs, no_args, some_args, Tail, Tails, no_tails, more_tails, Function, function, Parts, no_parts, more_parts, Exprs}
+use Rattle.script_grammar.specs.Tree as tree
+use Rattle.script_grammar.specs.TreeLists.{Args, exprs_of, maybe_args_of, tails_of}
+use Rattle.script_grammar.specs.Pieces.{Bodies, comma_piece, Ending, Postfix, Operand, Piece, At, Slot, Is, mark_piece, any_word, from}
+use Rattle.script_grammar.specs.Endings.{ending}
+use Rattle.script_grammar.specs.Print.{print, print_list, print_tails, print_tail, print_args, first_kind}
+use Rattle.script_grammar.specs.Proper.{rank, Proper, ProperTail, ProperTails, ProperArgs, HasTails, is_member_tail, are_member_tails, member_rank, left_rank, update_rank, unary_rank, callee_rank, new_rank, function_rank, updated_rank}
+use Rattle.pure_parser.specs.Parser.{Reply, Read, Parser, head_of, ret, bad, bind, peek, step, when, Turn, Again, Stop, loop, Many}
+use Rattle.pure_parser.specs.Exprs as parser
+use Rattle.pure_parser.specs.Exprs.{Env, ANew, APrefix, expect, chain_case, is_chain_head, again}
+use Rattle.pure_parser.specs.Follow.{continues_expr, continues_assign}
+use Rattle.pure_parser.proofs.Friendly.{first_of}
+use Rattle.pure_parser.proofs.Tests.{not_true, false_true, true_false, bool_cases, neither_left, neither_right, and_left, and_right}
+use Rattle.pure_parser.proofs.Stands.{Marked, lexemes, Stands}
+use Rattle.pure_parser.proofs.Complete.{bare, AllK, flat}
+use Rattle.pure_parser.proofs.Completes.{Completes, Leads, Any, of_kind, at_kind, lead_none, lead_at, lead_any, lead_map, c_ret, c_bind, c_made, c_at, c_front, c_look, c_weaken, c_pieces, c_mark}
+use Rattle.pure_parser.proofs.CompleteLoops.{c_loop, LastLeads}
+use Rattle.pure_parser.proofs.CompleteStmts.{c_value}
+use Rattle.pure_parser.proofs.ExprFronts.{Opens, opens_append, opens_first, opens_some}
+use Rattle.pure_parser.proofs.CompleteParts.{CompleteEnv, CompleteCalls, TailStops, UnaryStops, NewFollow, IsNew, IsPrefixed, expr_complete, args_complete, list_of, of_list}
+use Rattle.pure_parser.proofs.CompleteItems.{stop_bracket}
+use Rattle.script_grammar.specs.Pieces.{placed, glued_mark, Gap, Pass}
+use Rattle.script_grammar.specs.Endings.{function_ending}
+use Rattle.pure_parser.specs.Exprs.{begins_assign, mark_of, is_word_kind}
+use Rattle.pure_parser.proofs.ExprFronts.{expr_opens, update_is}
+use Rattle.pure_parser.proofs.CompleteChains.{MemberStops, PrimComplete, tails_list, prim_head, new_head, tails_complete, members_complete, chain_as}
+
+-- what may begin a chain: a primary, or a `new` with arguments
+
+abbrev IsNewArgs : Expr → Type 0
+IsNewArgs (tree.New at callee (some_args es comma)) = Unit {0}
+IsNewArgs _ = ⊥
+
+if_low : (b : Bool) → (if b then 20 else 0) ≤ 4 → (if b then 20 else 0) ≤ 0
+if_low true h = absurd (omega (arith, h))
+if_low false h = omega arith
+
+func_zero : (f : Function) → function_rank f ≤ 4 → function_rank f ≤ 0
+func_zero (function g start end name ps comma bare body) h = if_low (is_arrow_form g) h
+
+if_chain : (b : Bool) → (if b then 2 else 4) ≤ 1 → ⊥
+if_chain true h = omega (arith, h)
+if_chain false h = omega (arith, h)
+
+head_kind : (e : Expr) → rank e ≤ 1 → (rank e ≤ 0) ⊎ IsNewArgs e
+head_kind (tree.This at) r = inl (omega arith)
+head_kind (tree.Name name) r = inl (omega arith)
+head_kind (tree.Null at) r = inl (omega arith)
+head_kind (tree.True at) r = inl (omega arith)
+head_kind (tree.False at) r = inl (omega arith)
+head_kind (tree.Number at value) r = inl (omega arith)
+head_kind (tree.Str at end w) r = inl (omega arith)
+head_kind (tree.Template at first parts) r = inl (omega arith)
+head_kind (tree.Array at is comma) r = inl (omega arith)
+head_kind (tree.Object at ps comma) r = inl (omega arith)
+head_kind (tree.Func at f) r = inl (func_zero f (omega (arith, r)))
+head_kind (tree.Paren at inner) r = inl (omega arith)
+head_kind (tree.Chain head tails) r = absurd (if_chain (are_member_tails tails) r)
+head_kind (tree.New at callee (some_args es comma)) r = inr tt
+head_kind (tree.New at callee no_args) r = absurd (omega (arith, r))
+head_kind (tree.Unary at op of is_word) r = absurd (omega (arith, r))
+head_kind (tree.Update at op prefix of) r = absurd (omega (arith, r))
+head_kind (tree.Binary first rest) r = absurd (omega (arith, r))
+head_kind (tree.Cond test then_value else_value) r = absurd (omega (arith, r))
+head_kind (tree.Assign op target value) r = absurd (omega (arith, r))
+head_kind (tree.Comma es) r = absurd (omega (arith, r))
+
+-- a LeftHandSideExpression is a chain, a `new` without arguments, or what may begin a chain
+data Left (e : Expr) : Type 0 where
+  chain : (h : Expr) (ts : Tails) → e ≡ tree.Chain h ts → Left e
+  bare_new : (at : ℕ) (callee : Expr) → e ≡ tree.New at callee no_args → Left e
+  simple : rank e ≤ 1 → Left e
+
+left_kind : (e : Expr) → rank e ≤ left_rank → Left e
+left_kind (tree.Chain h ts) r = chain h ts refl
+left_kind (tree.New at callee no_args) r = bare_new at callee refl
+left_kind (tree.New at callee (some_args es comma)) r = simple (omega arith)
+left_kind (tree.This at) r = simple (omega arith)
+left_kind (tree.Name name) r = simple (omega arith)
+left_kind (tree.Null at) r = simple (omega arith)
+left_kind (tree.True at) r = simple (omega arith)
+left_kind (tree.False at) r = simple (omega arith)
+left_kind (tree.Number at value) r = simple (omega arith)
+left_kind (tree.Str at end w) r = simple (omega arith)
+left_kind (tree.Template at first parts) r = simple (omega arith)
+left_kind (tree.Array at is comma) r = simple (omega arith)
+left_kind (tree.Object at ps comma) r = simple (omega arith)
+left_kind (tree.Func at f) r = let z : function_rank f ≤ 0 = func_zero f r in simple (omega (arith, z))
+left_kind (tree.Paren at inner) r = simple (omega arith)
+left_kind (tree.Unary at op of is_word) r = absurd (omega (arith, r))
+left_kind (tree.Update at op prefix of) r = absurd (omega (arith, r))
+left_kind (tree.Binary first rest) r = absurd (omega (arith, r))
+left_kind (tree.Cond test then_value else_value) r = absurd (omega (arith, r))
+left_kind (tree.Assign op target value) r = absurd (omega (arith, r))
+left_kind (tree.Comma es) r = absurd (omega (arith, r))
+
+member_if : (b : Bool) → (if b then 2 else 4) ≤ 2 → b ≡ true
+member_if true h = refl
+member_if false h = absurd (omega (arith, h))
+
+module _ (limit : ℕ) (m : Bodies) (d : ℕ) (low : d ≤ limit) (v : Env) (c : CompleteEnv limit m d v) (prim : PrimComplete limit m d v) where
+  new_args_head : (heads : Bool) (e : Expr) → IsNewArgs e → Proper m e → Completes limit (print m d e) Any (parser.new_or_prim v heads) e
+  new_args_head heads (tree.New at callee (some_args es comma)) k h = c_weaken limit (λ t g. tt) (new_head limit m d low v c prim heads at callee (some_args es comma) h)
+  new_args_head heads (tree.New at callee no_args) k h = absurd k
+  new_args_head heads (tree.This at) k h = absurd k
+  new_args_head heads (tree.Name name) k h = absurd k
+  new_args_head heads (tree.Null at) k h = absurd k
+  new_args_head heads (tree.True at) k h = absurd k
+  new_args_head heads (tree.False at) k h = absurd k
+  new_args_head heads (tree.Number at value) k h = absurd k
+  new_args_head heads (tree.Str at end w) k h = absurd k
+  new_args_head heads (tree.Template at first parts) k h = absurd k
+  new_args_head heads (tree.Array at is comma) k h = absurd k
+  new_args_head heads (tree.Object at ps comma) k h = absurd k
+  new_args_head heads (tree.Func at f) k h = absurd k
+  new_args_head heads (tree.Paren at inner) k h = absurd k
+  new_args_head heads (tree.Chain head tails) k h = absurd k
+  new_args_head heads (tree.Unary at op of is_word) k h = absurd k
+  new_args_head heads (tree.Update at op prefix of) k h = absurd k
+  new_args_head heads (tree.Binary first rest) k h = absurd k
+  new_args_head heads (tree.Cond test then_value else_value) k h = absurd k
+  new_args_head heads (tree.Assign op target value) k h = absurd k
+  new_args_head heads (tree.Comma es) k h = absurd k
+
+  -- what may begin a chain
+  head_complete : (heads : Bool) (e : Expr) → rank e ≤ 1 → Proper m e → Completes limit (print m d e) Any (parser.new_or_prim v heads) e
+  head_complete heads e r h = by (head_kind e r)
+    where
+      by : (rank e ≤ 0) ⊎ IsNewArgs e → Completes limit (print m d e) Any (parser.new_or_prim v heads) e
+      by (inl z) = prim_head limit m d low v c prim heads e z h
+      by (inr k) = new_args_head heads e k h
+
+  when_true : {A : Type 0} {F : Lexeme → Type 0} (b : Bool) (f g : Parser A) (ps : List Piece) (a : A) → b ≡ true → Completes limit ps F f a → Completes limit ps F (when b f g) a
+  when_true true f g ps a e k = k
+  when_true false f g ps a e k = absurd (false_true e)
+
+  when_false : {A : Type 0} {F : Lexeme → Type 0} (b : Bool) (f g : Parser A) (ps : List Piece) (a : A) → b ≡ false → Completes limit ps F g a → Completes limit ps F (when b f g) a
+  when_false true f g ps a e k = absurd (true_false e)
+  when_false false f g ps a e k = k
+
+  chain_tails : (h : Expr) (ts : Tails) (a : Expr) → rank h ≤ 1 → chain_case h (tails_list ts) ≡ a → ProperTails m ts → Completes limit (print_tails m d ts) TailStops (parser.chain_of (parser.tail_turn v) h) a
+  chain_tails h ts a r e p = when_true (is_chain_head h) (bind (loop (parser.tail_turn v)) (λ n. ret (chain_case h n.items))) (ret h) (print_tails m d ts) a (le-leb (rank h) 1 r) (c_value e (c_made limit (λ n. chain_case h n.items) (tails_complete limit m d low v c ts p)))
+
+  -- a LeftHandSideExpression
+  pub left_complete : (heads : Bool) (e : Expr) → rank e ≤ left_rank → Proper m e → Completes limit (print m d e) TailStops (parser.left_of v heads) e
+  unfolding parser.left_of
+  left_complete heads e r h = by (left_kind e r)
+    where
+      by : Left e → Completes limit (print m d e) TailStops (bind (parser.new_or_prim v heads) (parser.chain_of (parser.tail_turn v))) e
+      by (simple z) = c_pieces limit (append-nil (print m d e)) (c_bind limit (parser.chain_of (parser.tail_turn v)) (head_complete heads e z h) lead_any (chain_tails e no_tails e z refl tt))
+      by (chain x ts q) = subst (λ y. Completes limit (print m d y) TailStops (bind (parser.new_or_prim v heads) (parser.chain_of (parser.tail_turn v))) y) (sym q) (chain_by x ts (subst (Proper m) q h))
+        where
+          chain_by : (x : Expr) (ts : Tails) → Proper m (tree.Chain x ts) → Completes limit (print m d x ++ print_tails m d ts) TailStops (bind (parser.new_or_prim v heads) (parser.chain_of (parser.tail_turn v))) (tree.Chain x ts)
+          chain_by x ts k = c_bind limit (parser.chain_of (parser.tail_turn v)) (head_complete heads x k.0 k.1) lead_any (chain_tails x ts (tree.Chain x ts) k.0 (chain_as limit m d low v c x ts k.2) k.3)
+      by (bare_new at callee q) = subst (λ y. Completes limit (print m d y) TailStops (bind (parser.new_or_prim v heads) (parser.chain_of (parser.tail_turn v))) y) (sym q) (c_pieces limit (append-nil (print m d (tree.New at callee no_args))) (c_bind limit (parser.chain_of (parser.tail_turn v)) (new_head limit m d low v c prim heads at callee no_args (subst (Proper m) q h)) lead_none (c_ret limit (tree.New at callee no_args))))
+
+  -- `new`, from its word on
+
+  args_here : (t : Lexeme) (ts : List Lexeme) → t.kind ≡ kind.Mark mark.OPEN_PAREN → parser.new_args v (t ∷ ts) ≡ bind (parser.args_of v) (λ a. ret (Some a)) ts
+  unfolding parser.new_args
+  args_here t ts e = at_kind (λ u. parser.new_args v (u ∷ ts) ≡ bind (parser.args_of v) (λ a. ret (Some a)) ts) (kind.Mark mark.OPEN_PAREN) t e refl
+
+  no_args_here : (rest : List Lexeme) → is_mark mark.OPEN_PAREN (head_of rest).kind ≡ false → bare (parser.new_args v rest) ≡ Read None [] rest
+  unfolding parser.new_args
+  no_args_here rest h = ap (λ x. bare (when x (step (bind (parser.args_of v) (λ a. ret (Some a)))) (ret None) rest)) h
+
+  abbrev args_option : MaybeArgs → Option Args
+  args_option no_args = None
+  args_option (some_args es comma) = Some (record { items = list_of es; comma = comma })
+
+  of_args : (a : MaybeArgs) → maybe_args_of (args_option a) ≡ a
+  of_args no_args = refl
+  of_args (some_args es comma) = ap (λ x. some_args x comma) (of_list es)
+
+  new_args_complete : (at : ℕ) (callee : Expr) (a : MaybeArgs) → ProperArgs m a → Completes limit (print_args m d a) (NewFollow (tree.New at callee a)) (parser.new_args v) (args_option a)
+  new_args_complete at callee no_args h = c_look limit (λ rest g. no_args_here rest g.paren)
+  new_args_complete at callee (some_args es comma) h = c_at limit (λ t. bind (parser.args_of v) (λ x. ret (Some x))) low (λ t ts s. args_here t ts s.kind) (λ t s. c_made limit Some (args_complete limit m d low v c es comma h.1 h.0))
+
+  args_leads : (at : ℕ) (callee : Expr) (a : MaybeArgs) → Leads (print_args m d a) (NewFollow (tree.New at callee a)) MemberStops
+  args_leads at callee no_args = lead_map (λ t g. record { dot = g.dot; bracket = g.bracket }) lead_none
+  args_leads at callee (some_args es comma) = lead_at (λ t s. record { dot = ap (is_mark mark.DOT) s.kind; bracket = ap (is_mark mark.OPEN_BRACKET) s.kind })
+
+  -- behind what may begin a chain
+  from_complete : (at : ℕ) (h : Expr) (ts : Tails) (callee : Expr) (a : MaybeArgs) → rank h ≤ 1 → ProperTails m ts → are_member_tails ts ≡ true → chain_case h (tails_list ts) ≡ callee → ProperArgs m a → Completes limit (print_tails m d ts ++ print_args m d a) (NewFollow (tree.New at callee a)) (parser.new_from v at h) (tree.New at callee a)
+  unfolding parser.new_from
+  from_complete at h ts callee a r p k e q = when_true (is_chain_head h) (bind (loop (parser.member_turn v)) (λ n. bind (parser.new_args v) (λ x. ret (tree.New at (chain_case h n.items) (maybe_args_of x))))) (ret (tree.New at h (maybe_args_of None))) (print_tails m d ts ++ print_args m d a) (tree.New at callee a) (le-leb (rank h) 1 r)
+      (c_value (ap (λ x. tree.New at x (maybe_args_of (args_option a))) e ∙ ap (tree.New at callee) (of_args a))
+          (c_bind limit (λ n. bind (parser.new_args v) (λ x. ret (tree.New at (chain_case h n.items) (maybe_args_of x)))) (members_complete limit m d low v c ts p k) (args_leads at callee a) (c_made limit (λ x. tree.New at (chain_case h (tails_list ts)) (maybe_args_of x)) (new_args_complete at callee a q))))
+
+  callee_low : (a : MaybeArgs) (n : ℕ) → n ≤ callee_rank a → n ≤ left_rank
+  callee_low no_args n h = omega (arith, h)
+  callee_low (some_args es comma) n h = omega (arith, h)
+
+  chain_low : (a : MaybeArgs) (b : Bool) → (if b then 2 else 4) ≤ callee_rank a → b ≡ true
+  chain_low a true h = refl
+  chain_low no_args false h = absurd (omega (arith, h))
+  chain_low (some_args es comma) false h = absurd (omega (arith, h))
+
+  bare_callee : (at at2 : ℕ) (callee : Expr) (a : MaybeArgs) → rank (tree.New at2 callee no_args) ≤ callee_rank a → Completes limit (print_args m d a) (NewFollow (tree.New at (tree.New at2 callee no_args) a)) (parser.new_from v at (tree.New at2 callee no_args)) (tree.New at (tree.New at2 callee no_args) a)
+  unfolding parser.new_from
+  bare_callee at at2 callee (some_args es comma) r = absurd (omega (arith, r))
+  bare_callee at at2 callee no_args r = c_ret limit (tree.New at (tree.New at2 callee no_args) no_args)
+
+  bare_leads : (at at2 : ℕ) (callee : Expr) (a : MaybeArgs) → rank (tree.New at2 callee no_args) ≤ callee_rank a → Leads (print_args m d a) (NewFollow (tree.New at (tree.New at2 callee no_args) a)) TailStops
+  bare_leads at at2 callee (some_args es comma) r = absurd (omega (arith, r))
+  bare_leads at at2 callee no_args r = lead_none
+
+  behind_new : (at : ℕ) (callee : Expr) (a : MaybeArgs) → Proper m (tree.New at callee a) → Left callee → Completes limit (print m d callee ++ print_args m d a) (NewFollow (tree.New at callee a)) (bind (parser.new_or_prim v false) (parser.new_from v at)) (tree.New at callee a)
+  behind_new at callee a h (simple z) = c_bind limit (parser.new_from v at) (head_complete false callee z h.1) lead_any (from_complete at callee no_tails callee a z tt refl refl h.2)
+  behind_new at callee a h (chain x ts q) = subst (λ y. Completes limit (print m d y ++ print_args m d a) (NewFollow (tree.New at y a)) (bind (parser.new_or_prim v false) (parser.new_from v at)) (tree.New at y a)) (sym q) (by (subst (λ y. Proper m (tree.New at y a)) q h))
+    where
+      by : Proper m (tree.New at (tree.Chain x ts) a) → Completes limit ((print m d x ++ print_tails m d ts) ++ print_args m d a) (NewFollow (tree.New at (tree.Chain x ts) a)) (bind (parser.new_or_prim v false) (parser.new_from v at)) (tree.New at (tree.Chain x ts) a)
+      by k = c_pieces limit (sym (append_assoc (print m d x) (print_tails m d ts) (print_args m d a))) (c_bind limit (parser.new_from v at) (head_complete false x k.1.0 k.1.1) lead_any (from_complete at x ts (tree.Chain x ts) a k.1.0 k.1.3 (chain_low a (are_member_tails ts) k.0) (chain_as limit m d low v c x ts k.1.2) k.2))
+  behind_new at callee a h (bare_new at2 callee2 q) = subst (λ y. Completes limit (print m d y ++ print_args m d a) (NewFollow (tree.New at y a)) (bind (parser.new_or_prim v false) (parser.new_from v at)) (tree.New at y a)) (sym q) (by (subst (λ y. Proper m (tree.New at y a)) q h))
+    where
+      by : Proper m (tree.New at (tree.New at2 callee2 no_args) a) → Completes limit (print m d (tree.New at2 callee2 no_args) ++ print_args m d a) (NewFollow (tree.New at (tree.New at2 callee2 no_args) a)) (bind (parser.new_or_prim v false) (parser.new_from v at)) (tree.New at (tree.New at2 callee2 no_args) a)
+      by k = c_bind limit (parser.new_from v at) (new_head limit m d low v c prim false at2 callee2 no_args k.1) (bare_leads at at2 callee2 a k.0) (bare_callee at at2 callee2 a k.0)
+
+  new_here : (t : Lexeme) (ts : List Lexeme) → t.kind ≡ kind.Word word.NEW → parser.new_of v (t ∷ ts) ≡ bind (parser.new_or_prim v false) (parser.new_from v t.start) ts
+  unfolding parser.new_of
+  new_here t ts e = at_kind (λ u. parser.new_of v (u ∷ ts) ≡ bind (parser.new_or_prim v false) (parser.new_from v u.start) ts) (kind.Word word.NEW) t e refl
+
+  pub new_complete : (at : ℕ) (callee : Expr) (a : MaybeArgs) → Proper m (tree.New at callee a) → Completes limit (placed (kind.Word word.NEW) at d ∷ (print m d callee ++ print_args m d a)) (NewFollow (tree.New at callee a)) (parser.new_of v) (tree.New at callee a)
+  new_complete at callee a h = c_at limit (λ t. bind (parser.new_or_prim v false) (parser.new_from v t.start)) low (λ t ts s. new_here t ts s.kind) (λ t s. subst (λ x. Completes limit (print m d callee ++ print_args m d a) (NewFollow (tree.New at callee a)) (bind (parser.new_or_prim v false) (parser.new_from v x)) (tree.New at callee a)) (sym s.starts.0) (behind_new at callee a h (left_kind callee (callee_low a (rank callee) h.0))))

@@ -57,3 +57,5 @@ pub mod CompleteFunctions
 pub mod CompleteObjects
 pub mod CompleteChains
 pub mod CompleteUnary
+pub mod CompleteLevels
+pub mod CompleteAssign

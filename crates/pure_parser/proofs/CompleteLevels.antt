@@ -57,7 +57,7 @@ lead_append {ps = ps} {qs = qs} {G = G} {F = F} {H = H} l k = record { by = thro
 
 -- A token that is a binary operator is no other.
 
-abbrev refuted : (b : Bool) → (b ≡ true → ⊥) → b ≡ false
+abbrev pub refuted : (b : Bool) → (b ≡ true → ⊥) → b ≡ false
 refuted true h = absurd (h refl)
 refuted false h = refl
 

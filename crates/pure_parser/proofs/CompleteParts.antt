@@ -123,11 +123,11 @@ pub of_list : (es : Exprs) → exprs_of (list_of es) ≡ es
 of_list no_exprs = refl
 of_list (more_exprs e es) = ap (more_exprs e) (of_list es)
 
-in_left : (w a b : Bool) → (w || (a && b)) ≡ true → (w || a) ≡ true
+pub in_left : (w a b : Bool) → (w || (a && b)) ≡ true → (w || a) ≡ true
 in_left true a b h = refl
 in_left false a b h = and_left a b h
 
-in_right : (w a b : Bool) → (w || (a && b)) ≡ true → (w || b) ≡ true
+pub in_right : (w a b : Bool) → (w || (a && b)) ≡ true → (w || b) ≡ true
 in_right true a b h = refl
 in_right false a b h = and_right a b h
 

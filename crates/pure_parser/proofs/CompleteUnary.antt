@@ -22,7 +22,7 @@ use Rattle.pure_parser.specs.Follow.{continues_expr, continues_assign}
 use Rattle.pure_parser.proofs.Friendly.{first_of}
 use Rattle.pure_parser.proofs.Tests.{not_true, false_true, true_false, bool_cases, neither_left, neither_right, and_left, and_right}
 use Rattle.pure_parser.proofs.Stands.{Marked, lexemes, Stands}
-use Rattle.pure_parser.proofs.Complete.{bare, AllK, flat}
+use Rattle.pure_parser.proofs.Complete.{Parses, bare, AllK, flat}
 use Rattle.pure_parser.proofs.Completes.{Completes, Leads, Any, of_kind, at_kind, lead_none, lead_at, lead_any, lead_map, c_ret, c_bind, c_made, c_at, c_front, c_look, c_weaken, c_pieces, c_mark}
 use Rattle.pure_parser.proofs.CompleteLoops.{c_loop, LastLeads}
 use Rattle.pure_parser.proofs.CompleteStmts.{c_value}
@@ -232,3 +232,69 @@ module _ (limit : ℕ) (m : Bodies) (d : ℕ) (low : d ≤ limit) (v : Env) (c :
 
   pub new_complete : (at : ℕ) (callee : Expr) (a : MaybeArgs) → Proper m (tree.New at callee a) → Completes limit (placed (kind.Word word.NEW) at d ∷ (print m d callee ++ print_args m d a)) (NewFollow (tree.New at callee a)) (parser.new_of v) (tree.New at callee a)
   new_complete at callee a h = c_at limit (λ t. bind (parser.new_or_prim v false) (parser.new_from v t.start)) low (λ t ts s. new_here t ts s.kind) (λ t s. subst (λ x. Completes limit (print m d callee ++ print_args m d a) (NewFollow (tree.New at callee a)) (bind (parser.new_or_prim v false) (parser.new_from v x)) (tree.New at callee a)) (sym s.starts.0) (behind_new at callee a h (left_kind callee (callee_low a (rank callee) h.0))))
+
+  -- updates
+
+  postfix_none : (at : ℕ) (e : Expr) (rest : List Lexeme) → (is_update (head_of rest).kind && not (head_of rest).after_line) ≡ false → bare (parser.postfix_of at e rest) ≡ Read e [] rest
+  unfolding parser.postfix_of
+  postfix_none at e rest h = ap (λ x. bare (when x (step (ret (tree.Update at (mark_of (head_of rest).kind) false e))) (ret e) rest)) h
+
+  update_mark : (op : ℕ) → is_update_op op ≡ true → is_update (kind.Mark op) ≡ true
+  update_mark op h = h
+
+  postfix_here : (at op : ℕ) (e : Expr) (t : Lexeme) (ts : List Lexeme) → is_update_op op ≡ true → t.kind ≡ kind.Mark op → t.after_line ≡ false → parser.postfix_of at e (t ∷ ts) ≡ Read (tree.Update at op false e) [] ts
+  unfolding parser.postfix_of
+  postfix_here at op e t ts h k l = at_kind (λ u. u.after_line ≡ false → parser.postfix_of at e (u ∷ ts) ≡ Read (tree.Update at op false e) [] ts) (kind.Mark op) t k
+      (λ z. ap (λ x. when (x && not t.after_line) (step (ret (tree.Update at op false e))) (ret e) (of_kind (kind.Mark op) t ∷ ts)) h ∙ ap (λ x. when (not x) (step (ret (tree.Update at op false e))) (ret e) (of_kind (kind.Mark op) t ∷ ts)) z) l
+
+  pub record UpdateStops (t : Lexeme) : Type 0 where
+    pub tail : TailStops t
+    pub update : (is_update t.kind && not t.after_line) ≡ false
+
+  left_update : (heads : Bool) (at : ℕ) (e : Expr) → rank e ≤ left_rank → Proper m e → Completes limit (print m d e) UpdateStops (bind (parser.left_of v heads) (parser.postfix_of at)) e
+  left_update heads at e r h = c_pieces limit (append-nil (print m d e)) (c_bind limit (parser.postfix_of at) (left_complete heads e r h) (lead_map (λ t g. g.tail) lead_none) (c_look limit (λ rest g. postfix_none at e rest g.update)))
+
+  -- an operand without an operator behind it
+  pub plain_update : (heads : Bool) (e : Expr) → rank e ≤ left_rank → Proper m e → Completes limit (print m d e) UpdateStops (parser.update_of v heads) e
+  unfolding parser.update_of
+  plain_update heads e r h = record { at = λ w rest q g. record { by = ((left_update heads (head_of (lexemes w ++ rest)).start e r h).at w rest q g).by } }
+
+  from_stands : (n : ℕ) (ps qs : List Piece) (w : List Marked) (t : Lexeme) → Stands (from n ps ++ qs) w t → Stands (ps ++ qs) w t
+  from_stands n [] qs w t h = h
+  from_stands n (At s ∷ ps) qs [] t h = absurd h
+  from_stands n (At s ∷ ps) qs (x ∷ w) t h = (record { kind = h.0.kind; content = h.0.content; starts = h.0.starts.1; ends = h.0.ends; line = h.0.line }, h.1, h.2)
+  from_stands n (Gap e ∷ ps) qs w t h = h
+  from_stands n (Pass ∷ ps) qs w t h = h
+
+  from_start : (n : ℕ) (ps qs : List Piece) (x : Marked) (w : List Marked) (t : Lexeme) → Opens begins_assign ps → Stands (from n ps ++ qs) (x ∷ w) t → x.lexeme.start ≡ n
+  from_start n [] qs x w t o h = absurd o
+  from_start n (At s ∷ ps) qs x w t o h = h.0.starts.0
+  from_start n (Gap e ∷ ps) qs x w t o h = absurd o
+  from_start n (Pass ∷ ps) qs x w t o h = absurd o
+
+  mark_stops : (op : ℕ) → is_update_op op ≡ true → (t : Lexeme) → t.kind ≡ kind.Mark op → TailStops t
+  mark_stops op h t k = record {
+    dot = ap (is_mark mark.DOT) k ∙ update_is (λ x. is_mark mark.DOT (kind.Mark x) ≡ false) refl refl op h;
+    bracket = ap (is_mark mark.OPEN_BRACKET) k ∙ update_is (λ x. is_mark mark.OPEN_BRACKET (kind.Mark x) ≡ false) refl refl op h;
+    paren = ap (is_mark mark.OPEN_PAREN) k ∙ update_is (λ x. is_mark mark.OPEN_PAREN (kind.Mark x) ≡ false) refl refl op h }
+
+  postfix_at : (heads : Bool) (at op : ℕ) (e : Expr) → is_update_op op ≡ true → rank e ≤ left_rank → Proper m e → Completes limit (print m d e ++ glued_mark op d ∷ []) Any (bind (parser.left_of v heads) (parser.postfix_of at)) (tree.Update at op false e)
+  postfix_at heads at op e k r h = c_bind limit (parser.postfix_of at) (left_complete heads e r h) (lead_at (λ t s. mark_stops op k t s.kind)) (c_at limit (λ t. ret (tree.Update at op false e)) low (λ t ts s. postfix_here at op e t ts k s.kind (s.line refl)) (λ t s. c_ret limit (tree.Update at op false e)))
+
+  pub postfix_complete : (heads : Bool) (at op : ℕ) (e : Expr) → is_update_op op ≡ true → rank e ≤ left_rank → Proper m e → Completes limit (from at (print m d e) ++ glued_mark op d ∷ []) Any (parser.update_of v heads) (tree.Update at op false e)
+  unfolding parser.update_of
+  postfix_complete heads at op e k r h = record { at = λ w rest q g. by w rest q g }
+    where
+      by : (w : List Marked) (rest : List Lexeme) → Stands (from at (print m d e) ++ glued_mark op d ∷ []) w (head_of rest) → Any (head_of rest) → Parses limit (parser.update_of v heads) w rest (tree.Update at op false e)
+      by [] rest q g = absurd (omega (arith, opens_some begins_assign (print m d e ++ glued_mark op d ∷ []) [] (head_of rest) (opens_append begins_assign (print m d e) (glued_mark op d ∷ []) (expr_opens m d e h)) (from_stands at (print m d e) (glued_mark op d ∷ []) [] (head_of rest) q)))
+      by (x ∷ w) rest q g = record { by = ap (λ n. bare (bind (parser.left_of v heads) (parser.postfix_of n) (lexemes (x ∷ w) ++ rest))) (from_start at (print m d e) (glued_mark op d ∷ []) x w (head_of rest) (expr_opens m d e h) q) ∙ ((postfix_at heads at op e k r h).at (x ∷ w) rest (from_stands at (print m d e) (glued_mark op d ∷ []) (x ∷ w) (head_of rest) q) g).by }
+
+  -- unary operators
+
+  pub prefix_first : (heads : Bool) (t : Lexeme) (ts : List Lexeme) → (is_prefix t.kind || is_update t.kind) ≡ true → parser.unary_of v heads (t ∷ ts) ≡ v.sub APrefix (t ∷ ts)
+  unfolding parser.unary_of
+  prefix_first heads t ts h = ap (λ x. when x (v.sub APrefix) (parser.update_of v heads) (t ∷ ts)) h
+
+  pub operand_first : (heads : Bool) (t : Lexeme) (ts : List Lexeme) → (is_prefix t.kind || is_update t.kind) ≡ false → parser.unary_of v heads (t ∷ ts) ≡ parser.update_of v heads (t ∷ ts)
+  unfolding parser.unary_of
+  operand_first heads t ts h = ap (λ x. when x (v.sub APrefix) (parser.update_of v heads) (t ∷ ts)) h

@@ -79,7 +79,7 @@ opens_append f (At s ∷ a) b h = h
 opens_append f (Gap e ∷ a) b h = absurd h
 opens_append f (Pass ∷ a) b h = absurd h
 
-opens_from : (f : Kind → Bool) (n : ℕ) (a : List Piece) → Opens f a → Opens f (from n a)
+pub opens_from : (f : Kind → Bool) (n : ℕ) (a : List Piece) → Opens f a → Opens f (from n a)
 opens_from f n [] h = absurd h
 opens_from f n (At s ∷ a) h = h
 opens_from f n (Gap e ∷ a) h = absurd h

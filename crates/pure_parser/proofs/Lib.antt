@@ -59,3 +59,4 @@ pub mod CompleteChains
 pub mod CompleteUnary
 pub mod CompleteLevels
 pub mod CompleteAssign
+pub mod CompletePrefix

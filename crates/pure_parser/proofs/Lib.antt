@@ -60,3 +60,4 @@ pub mod CompleteUnary
 pub mod CompleteLevels
 pub mod CompleteAssign
 pub mod CompletePrefix
+pub mod CompleteParens

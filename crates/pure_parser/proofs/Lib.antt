@@ -61,3 +61,4 @@ pub mod CompleteLevels
 pub mod CompleteAssign
 pub mod CompletePrefix
 pub mod CompleteParens
+pub mod CompletePrims

@@ -79,3 +79,7 @@ pub mod CompleteUnary
 pub mod CompletePower
 pub mod CompletePrefix
 pub mod CompleteLevels
+pub mod CompleteAssign
+pub mod CompletePrefix
+pub mod CompleteParens
+pub mod CompletePrims

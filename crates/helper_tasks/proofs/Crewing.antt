@@ -1,9 +1,9 @@
 -- How the workers of a call are made.
-use Rattle.std.proofs.Common.{◌≡◌, ℕ, zero, suc, ◌+◌, ◌-◌, ◌<◌, ◌≤◌, List, [], ◌∷◌, ◌++◌, length, map, take, drop, get_or, set, refl, ap, sym, ◌∙◌, subst, arith, length-append, append_assoc}
+use Rattle.std.proofs.Common.{◌≡◌, ℕ, zero, suc, ◌+◌, ◌-◌, ◌<◌, ◌≤◌, List, [], ◌∷◌, ◌++◌, length, map, take, drop, get_or, set, refl, ap, sym, ◌∙◌, subst, arith, append_assoc}
 use Rattle.std.specs.declared.vec.Vec.{Vec}
 use Rattle.std.specs.declared.alloc.Global.{Global}
 use Rattle.std.proofs.Math.Seq.{map-set_same, drop-length}
-use Rattle.std.proofs.lemmas.List.{take-map, take_more, take_more_set, map-append, append-nil, length-map}
+use Rattle.std.proofs.lemmas.List.{take-map, take_more, take_more_set, map-append, length-map}
 use Rattle.helper_tasks.specs.declared.helper.Helper.{Helper}
 use Rattle.helper_tasks.specs.Count.{times, total, Each}
 use Rattle.helper_tasks.specs.Rule.{dealt}

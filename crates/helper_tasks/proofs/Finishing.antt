@@ -1,5 +1,5 @@
 -- From the workers' start to the answer of the call.
-use Rattle.std.proofs.Common.{◌≡◌, ℕ, zero, suc, ◌+◌, ◌-◌, ◌<◌, ◌≤◌, Bool, true, false, eqb, ltb, cond, List, [], ◌∷◌, ◌++◌, length, map, take, drop, get_or, set, All, Option, Some, Result, Ok, Err, IfOk, refl, ap, sym, ◌∙◌, subst, arith}
+use Rattle.std.proofs.Common.{◌≡◌, ℕ, suc, ◌+◌, ◌-◌, ◌<◌, ◌≤◌, Bool, true, false, eqb, ltb, cond, List, [], ◌∷◌, ◌++◌, length, map, take, drop, get_or, set, All, Some, Result, Ok, Err, IfOk, refl, ap, sym, ◌∙◌, subst, arith}
 use Rattle.std.specs.declared.alloc.AllocError.{AllocError}
 use Rattle.std.specs.declared.vec.Vec.{Vec}
 use Rattle.std.specs.declared.alloc.Global.{Global}
@@ -13,8 +13,8 @@ use Rattle.helper_tasks.specs.declared.helper.Helper.{Helper}
 use Rattle.helper_tasks.specs.Count.{times, total, once_below, Each, EachOnceBelow}
 use Rattle.helper_tasks.specs.Jobs.{Gain, GainedOnce, GivesEach}
 use Rattle.helper_tasks.specs.Rule.{dealt, TookAll}
-use Rattle.helper_tasks.specs.Handles.{End, Place, Reach, end_at, reach_at}
-use Rattle.helper_tasks.specs.Hands.{IsLook, stole, places, Equipped, came, went}
+use Rattle.helper_tasks.specs.Handles.{Place, Reach, reach_at}
+use Rattle.helper_tasks.specs.Hands.{IsLook, stole, places, came}
 use Rattle.helper_tasks.specs.Desks.{tasks_of, InOrder, Lists, Ready, Works}
 use Rattle.helper_tasks.specs.Crew.{Fresh, Hired, Looking, Dismissible, Drained, Paired, Served, StartsIn, aspect, alone, new_look, deque_of, desk_of, fetcher_of, came_to, left_by, fetched, popped, ran_at, all_made, placed, empty_slots}
 use Rattle.helper_tasks.proofs.Counts.{times-append, each-append, each-index, each-map}

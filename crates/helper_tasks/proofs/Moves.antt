@@ -1,14 +1,14 @@
 -- What each use of a worker's handles moves.
-use Rattle.std.proofs.Common.{◌≡◌, ℕ, ◌+◌, ◌<◌, List, [], ◌∷◌, ◌++◌, length, map, get_or, set, Option, Some, None, Result, Ok, Err, MatchOption, MatchResult, refl, ap, sym, ◌∙◌, subst, arith, length-set}
+use Rattle.std.proofs.Common.{◌≡◌, ℕ, ◌<◌, List, [], ◌∷◌, ◌++◌, length, get_or, Option, Some, None, Result, Ok, Err, MatchOption, MatchResult, refl, ap, sym, ◌∙◌, subst, arith, length-set}
 use Rattle.std.proofs.Math.Seq.{map-set_same}
 use Rattle.std.proofs.lemmas.List.{append-nil}
 use Rattle.std.specs.Vec.{with_item}
 use Rattle.crossbeam_deque.proofs.Lists.{at_index}
 use Rattle.helper_tasks.specs.declared.handles.Handles.{Handles}
-use Rattle.helper_tasks.specs.Count.{times, total, Each}
+use Rattle.helper_tasks.specs.Count.{times}
 use Rattle.helper_tasks.specs.Rule.{dealt, TookAll}
 use Rattle.helper_tasks.specs.Handles.{Place, End, Reach, end_at, reach_at, pushed, took}
-use Rattle.helper_tasks.specs.Hands.{IsLook, stole, places, Equipped, came, went, Same, Moved}
+use Rattle.helper_tasks.specs.Hands.{IsLook, stole, Equipped, Same, Moved}
 use Rattle.helper_tasks.proofs.Counts.{times-append, total-set, each-at, each-set}
 
 module _ {N : Type 0} where

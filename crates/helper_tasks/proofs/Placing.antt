@@ -1,5 +1,5 @@
 -- What the tasks gave stands in the order of the tasks.
-use Rattle.std.proofs.Common.{◌≡◌, ◌≢◌, ℕ, zero, suc, ◌+◌, ◌-◌, ◌<◌, ◌≤◌, Bool, true, false, eqb, ltb, cond, List, [], ◌∷◌, ◌++◌, length, map, get_or, set, take, drop, slice_index_or, replicate, Option, Some, None, IsSome, refl, ap, sym, ◌∙◌, subst, ⊎_elim, arith, length-set, append_assoc}
+use Rattle.std.proofs.Common.{◌≡◌, ◌≢◌, ℕ, zero, suc, ◌+◌, ◌<◌, ◌≤◌, Bool, true, false, eqb, ltb, cond, List, [], ◌∷◌, ◌++◌, length, map, get_or, set, take, drop, Option, Some, None, IsSome, refl, ap, sym, ◌∙◌, subst, ⊎_elim, arith, length-set, append_assoc}
 use Rattle.std.proofs.lemmas.List.{length-map}
 use Rattle.std.proofs.Math.Seq.{take-append_seam}
 use Rattle.std.proofs.lemmas.Bool.Decides.{nat_tests}
@@ -8,7 +8,7 @@ use lib.ListN.{get_elem?}
 use Rattle.crossbeam_deque.proofs.Lists.{at_set, set_here, set_else}
 use Rattle.helper_tasks.specs.declared.helper.Made.{Made}
 use Rattle.helper_tasks.specs.declared.helper.Desk.{Desk}
-use Rattle.helper_tasks.specs.Count.{times, total, once_below, Each, EachOnceBelow}
+use Rattle.helper_tasks.specs.Count.{times, once_below, Each, EachOnceBelow}
 use Rattle.helper_tasks.specs.Jobs.{GivesEach}
 use Rattle.helper_tasks.specs.Desks.{tasks_of}
 use Rattle.helper_tasks.specs.Crew.{placed, empty_slots, all_made}

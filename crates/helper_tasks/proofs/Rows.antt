@@ -1,6 +1,5 @@
 -- Worked rows of the definitions, computed.
-use Rattle.std.proofs.Common.{◌≡◌, ℕ, List, [], ◌∷◌, Some, None, Option, refl}
-use Rattle.helper_tasks.specs.declared.helper.Made.{Made}
+use Rattle.std.proofs.Common.{◌≡◌, ℕ, List, [], ◌∷◌, Some, None, refl}
 use Rattle.helper_tasks.specs.Count.{times, once_below}
 use Rattle.helper_tasks.specs.Jobs.{Gain}
 use Rattle.helper_tasks.specs.Crew.{placed, empty_slots}

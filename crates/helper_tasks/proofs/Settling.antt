@@ -1,21 +1,20 @@
 -- What the workers have once their looks came back and their deques were emptied.
-use Rattle.std.proofs.Common.{◌≡◌, ℕ, zero, suc, ◌+◌, ◌-◌, ◌<◌, ◌≤◌, List, [], ◌∷◌, ◌++◌, length, map, take, drop, get_or, set, refl, ap, sym, ◌∙◌, subst, arith, length-set, length-append, append_assoc}
+use Rattle.std.proofs.Common.{◌≡◌, ℕ, zero, suc, ◌+◌, ◌-◌, ◌<◌, ◌≤◌, List, [], ◌∷◌, ◌++◌, length, map, take, drop, get_or, set, refl, ap, sym, ◌∙◌, subst, arith}
 use Rattle.std.specs.declared.vec.Vec.{Vec}
 use Rattle.std.specs.declared.alloc.Global.{Global}
 use Rattle.std.proofs.Math.Seq.{map-set_same, drop-set-lt}
-use Rattle.std.proofs.lemmas.List.{take-map, drop-map, take_more_set, map-append, append-nil, length-map}
-use Rattle.crossbeam_deque.proofs.Lists.{at_index}
+use Rattle.std.proofs.lemmas.List.{take-map, drop-map, take_more_set, append-nil}
 use Rattle.helper_tasks.specs.declared.rule.Dealt.{Dealt}
 use Rattle.helper_tasks.specs.declared.helper.Desk.{Desk}
 use Rattle.helper_tasks.specs.declared.helper.Helper.{Helper}
 use Rattle.helper_tasks.specs.Count.{times, total, Each}
-use Rattle.helper_tasks.specs.Rule.{dealt, TookAll}
+use Rattle.helper_tasks.specs.Rule.{TookAll}
 use Rattle.helper_tasks.specs.Handles.{End, Place, Reach, end_at, reach_at, took, joined}
-use Rattle.helper_tasks.specs.Hands.{IsLook, stole, places, came, went}
+use Rattle.helper_tasks.specs.Hands.{IsLook, stole, places}
 use Rattle.helper_tasks.specs.Desks.{tasks_of, InOrder, Lists}
 use Rattle.helper_tasks.specs.Crew.{Looking, Dismissible, Drained, Paired, deque_of, desk_of, fetcher_of, came_to, left_by, fetched, popped, ran_at, took_in, all_took_in}
-use Rattle.helper_tasks.proofs.Counts.{times-append, total-append, total-set, total-snoc, each-at, each-set, each-snoc, each-append, each-map, each-index}
-use Rattle.helper_tasks.proofs.Crewing.{each-mapped, each-unmapped, map_after}
+use Rattle.helper_tasks.proofs.Counts.{times-append, total-snoc, each-set, each-snoc, each-map, each-index}
+use Rattle.helper_tasks.proofs.Crewing.{each-mapped, each-unmapped}
 
 module _ {A : Type 0} where
   pub total-put : (f : A → ℕ) (xs : List A) (i : ℕ) (w d : A) → i < length xs → total f (set xs i w) + f (get_or xs i d) ≡ total f xs + f w

@@ -1,12 +1,12 @@
 -- Each step keeps the rule.
-use Rattle.std.proofs.Common.{◌≡◌, ◌≢◌, ℕ, zero, suc, ◌+◌, ◌-◌, ◌<◌, ◌≤◌, List, [], ◌∷◌, ◌++◌, length, set, sym, refl, ap, subst, arith}
+use Rattle.std.proofs.Common.{◌≡◌, ℕ, ◌+◌, ◌-◌, ◌<◌, List, [], ◌∷◌, ◌++◌, set, refl, ap, arith}
 use mathlib.Core.Option.{some}
 use lib.ListN.{get_elem?}
 use Rattle.crossbeam_deque.specs.Tasks.{Pushes, Takes, Pops, Finds, Forks, Merges}
 use Rattle.helper_tasks.specs.declared.rule.Dealt.{Dealt}
 use Rattle.helper_tasks.specs.Count.{times, total, Each}
 use Rattle.helper_tasks.specs.Rule.{dealt, IdleIsEmpty, Balanced, TookAll}
-use Rattle.helper_tasks.proofs.Counts.{times-append, total-snoc, total-set, total-at, total-sole, each-set, each-snoc, each-append, each-front, each-back, each-map}
+use Rattle.helper_tasks.proofs.Counts.{times-append, total-snoc, total-set, total-sole, each-set, each-snoc, each-front, each-back, each-map}
 
 abbrev parts : Dealt → ℕ
 parts v = v.parts

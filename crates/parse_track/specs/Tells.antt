@@ -66,7 +66,7 @@ body_region true inside = tells_region told.VarBody inside nothing
 body_region false inside = inside
 
 abbrev pub function_name : tree.Function → Option Named
-function_name (function form start end name params comma bare body) = name
+function_name (function _ _ _ name _ _ _ _) = name
 
 -- what a function expression tells, in the region of its name where it has one
 abbrev pub in_named : Option Named → (Told Text → Told Text) → Told Text → Told Text

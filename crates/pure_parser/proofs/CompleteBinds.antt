@@ -1,5 +1,5 @@
 -- Completeness of bindings and of `for`: at their lexemes they are read.
-use Rattle.std.proofs.Common.{◌≡◌, ℕ, zero, suc, ◌+◌, ◌≤◌, ◌<◌, List, [], ◌∷◌, ◌++◌, length, refl, sym, ap, ◌∙◌, subst, arith, append_assoc, append-nil, Bool, true, false, not, ◌&&◌, ◌||◌, Option, Some, None, nat_le}
+use Rattle.std.proofs.Common.{◌≡◌, ℕ, suc, ◌≤◌, ◌<◌, List, [], ◌∷◌, ◌++◌, length, refl, sym, ap, ◌∙◌, subst, arith, append_assoc, Bool, true, false, not, ◌&&◌, ◌||◌, Option, Some, None, nat_le}
 use Rattle.std.proofs.lemmas.Bool.{le-leb}
 use Rattle.script_grammar.specs.declared.token.Kind.{Kind}
 use Rattle.script_grammar.specs.declared.token.Kind.TheVariants as kind
@@ -9,40 +9,36 @@ use Rattle.script_grammar.specs.declared.token.FuncForm.TheVariants as form
 use Rattle.script_grammar.specs.declared.token.Decl.{Decl}
 use Rattle.script_grammar.specs.declared.token.Decl.TheVariants as decl
 use Rattle.script_grammar.specs.Lexeme.{Lexeme}
-use Rattle.script_grammar.specs.Kinds.{is_mark, is_word, is_name, is_end, decl_word, is_var}
+use Rattle.script_grammar.specs.Kinds.{is_mark, is_word, decl_word}
 use Rattle.script_grammar.specs.Tree.{Named, Expr, Stmt, Stmts, no_stmts, more_stmts, MaybeStmt, no_stmt, some_stmt, MaybeExpr, no_expr, some_expr, Binds, no_binds, more_binds, Function, function}
 use Rattle.script_grammar.specs.Tree as tree
-use Rattle.script_grammar.specs.TreeLists.{Bind, maybe_expr_of, maybe_stmt_of, binds_of, stmts_of}
-use Rattle.script_grammar.specs.Pieces.{Bodies, Piece, At, Gap, Pass, Slot, Is, Ending, BareBinding, Keyword, DoWhile, may_omit, mark_piece, word_piece, name_piece, glued_name, semi_piece, glue, placed}
-use Rattle.script_grammar.specs.Endings.{ending, return_ending, binds_ending, bind_ending}
-use Rattle.script_grammar.specs.Print.{print, print_stmt, print_stmts, print_else, print_label, print_maybe, print_binds, print_more_binds, print_initializer, print_function, print_catch_param}
-use Rattle.script_grammar.specs.Proper.{rank, Proper, ProperMaybe, ProperOption, ProperStmt, ProperStmts, ProperElse, ElseIsNearest, ProperBinds, HasBinds, ProperFunction, IsDeclaration, is_statement, takes_else, begins_brace, begins_function, free_of_in, maybe_free, binds_free, InIf, assign_rank}
-use Rattle.script_grammar.specs.Script.{IsOf}
-use Rattle.pure_parser.specs.Parser.{Reply, Read, Bad, Deep, Parser, head_of, ret, bad, bind, peek, step, when, Turn, Again, Stop, loop, Many, stopped, begun, led}
-use Rattle.pure_parser.specs.Exprs.{Env, AnAssign, expect, expr_of, name_of, named, function_of, again, begins_assign}
+use Rattle.script_grammar.specs.TreeLists.{Bind, maybe_expr_of, binds_of}
+use Rattle.script_grammar.specs.Pieces.{Bodies, Piece, Ending, BareBinding, may_omit, mark_piece, word_piece, name_piece, semi_piece}
+use Rattle.script_grammar.specs.Endings.{ending, binds_ending, bind_ending}
+use Rattle.script_grammar.specs.Print.{print, print_stmt, print_maybe, print_binds, print_more_binds, print_initializer}
+use Rattle.script_grammar.specs.Proper.{rank, Proper, ProperMaybe, ProperOption, ProperStmt, ProperBinds, HasBinds, is_statement, free_of_in, maybe_free, binds_free, InIf}
+use Rattle.pure_parser.specs.Parser.{Read, head_of, ret, bind, step, when, Again, Stop, begun, led}
+use Rattle.pure_parser.specs.Exprs.{Env, AnAssign, expect, expr_of, again, begins_assign}
 use Rattle.pure_parser.specs.Stmts as parser
 use Rattle.pure_parser.specs.Stmts.{Place, AnItem, AStmt, StmtCalls, Block, is_item, is_inside, bound, ends_items}
 use Rattle.pure_parser.specs.Follow.{continues_assign, continues_expr}
 use Rattle.pure_parser.proofs.Friendly.{first_of}
-use Rattle.pure_parser.proofs.Tests.{false_true, true_false, and_left, and_right, or_cases, or_left, or_right, not_true, neither_left, neither_right, mark_known, word_known, end_known, name_known}
+use Rattle.pure_parser.proofs.Tests.{false_true, true_false, and_left, and_right, not_true, neither_left, neither_right, mark_known, word_known, end_known}
 use Rattle.pure_parser.proofs.Stands.{Marked, lexemes, Stands}
-use Rattle.pure_parser.proofs.Complete.{Parses, bare, AllK, flat}
-use Rattle.pure_parser.proofs.Completes.{Completes, Leads, Any, of_kind, at_kind, lead_none, lead_at, lead_any, lead_gap, lead_map, lead_front, c_ret, c_bind, c_made, c_at, c_front, c_look, c_weaken, c_pieces, c_gap, c_mark, c_word}
+use Rattle.pure_parser.proofs.Complete.{bare, AllK, flat}
+use Rattle.pure_parser.proofs.Completes.{Completes, Leads, of_kind, at_kind, lead_none, lead_at, lead_any, lead_map, c_bind, c_made, c_at, c_front, c_look, c_weaken, c_pieces, c_mark}
 use Rattle.pure_parser.proofs.CompleteLoops.{c_loop, LastLeads}
-use Rattle.pure_parser.proofs.Stops.{stop_close, stop_semi, stop_colon, stop_in, stop_comma, stop_assign, omit_stops, ends_expr}
-use Rattle.pure_parser.proofs.ExprFronts.{Opens, opens_append, opens_first, opens_some, expr_opens, expr_second, second_first}
-use Rattle.pure_parser.proofs.StmtFronts.{starts, stmt_opens, block_at, empty_at, debugger_at, var_at, let_at, const_at, function_at, if_at, while_at, do_at, for_at, switch_at, try_at, continue_at, break_at, return_at, throw_at, label_at, value_at}
-use Rattle.pure_parser.proofs.Begins.{begins_same}
+use Rattle.pure_parser.proofs.Stops.{stop_close, stop_semi, stop_in, stop_comma, stop_assign, omit_stops, ends_expr}
+use Rattle.pure_parser.proofs.ExprFronts.{Opens, opens_append, opens_first, opens_some, expr_opens}
 use Rattle.script_grammar.specs.Tree.{Init, Each, ShortBody, BracedBody}
-use Rattle.script_grammar.specs.declared.token.FuncForm.{FuncForm}
 use Rattle.script_grammar.specs.Print.{print_init, print_each}
-use Rattle.script_grammar.specs.Proper.{ProperInit, ProperEach, left_rank, function_free}
+use Rattle.script_grammar.specs.Proper.{left_rank, function_free}
 use Rattle.pure_parser.specs.Exprs.{begins_mark, begins_word}
 use Rattle.std.proofs.Common.{inl, inr, ◌⊎◌}
-use Rattle.pure_parser.proofs.Tests.{bool_cases, and_both}
+use Rattle.pure_parser.proofs.Tests.{bool_cases}
 use Rattle.pure_parser.proofs.Stops.{omit_cases}
 use Rattle.pure_parser.proofs.CompleteLoops.{LastLeads}
-use Rattle.pure_parser.proofs.CompleteStmts.{Follows, EndsList, CompleteUses, CompleteStmts, CompleteBlock, c_value, follows_as, colon_word, semi_complete, semi_leads, expr_semi, name_complete, stmts_complete, braced_from_complete, braced_complete}
+use Rattle.pure_parser.proofs.CompleteStmts.{Follows, CompleteUses, CompleteBlock, c_value, follows_as, semi_complete, semi_leads, name_complete}
 
 abbrev pub option_of : MaybeExpr → Option Expr
 option_of no_expr = None
@@ -207,8 +203,8 @@ module _ (limit : ℕ) (m : Bodies) (d : ℕ) (low : d ≤ limit) (v : Env) (c :
   binding_complete k no_binds semi h p = absurd h
   binding_complete {F = F} k (more_binds n o bs) semi h p = c_bind limit (λ x. bind (parser.binds_from v true x) (λ y. parser.binding_case k y.items)) (name_complete limit m d low n) lead_any
       (c_bind limit (λ y. parser.binding_case k y.items) (binds_complete true n o bs p (true_if (binds_free (more_binds n o bs))))
-          (subst (λ e. Leads (semi_piece e semi d) F (BindsEnd true (last_value o bs))) (sym (last_ending o bs)) (semi_leads limit m d low (bind_ending (last_value o bs)) semi (λ t e. semi_ends true (last_value o bs) t e) (λ t e. gap_ends (last_value o bs) t e)))
-          (case_complete k (binds_list (more_binds n o bs)) (more_binds n o bs) semi (of_binds (more_binds n o bs))))
+      (subst (λ e. Leads (semi_piece e semi d) F (BindsEnd true (last_value o bs))) (sym (last_ending o bs)) (semi_leads limit m d low (bind_ending (last_value o bs)) semi (λ t e. semi_ends true (last_value o bs) t e) (λ t e. gap_ends (last_value o bs) t e)))
+      (case_complete k (binds_list (more_binds n o bs)) (more_binds n o bs) semi (of_binds (more_binds n o bs))))
 
 -- `for`
 
@@ -324,10 +320,10 @@ module _ (limit : ℕ) (m : Bodies) (d : ℕ) (low : d ≤ limit) (b : Block) (c
       let tail : List Piece = print_maybe m (suc d) test ++ (mark_piece mark.SEMICOLON d ∷ (print_maybe m (suc d) update ++ (mark_piece mark.CLOSE_PAREN d ∷ print_stmt m (suc d) s))) in
       c_bind limit (parser.for_named b i k) (name_complete limit m d low n) lead_any
       (c_front limit (bind (parser.binds_from b.exprs false n) (λ x. parser.for_from b i (tree.BindsInit k (binds_of x.items))))
-          (λ x w rest q g. named_binds k n x.lexeme (lexemes w ++ rest) (not_true (is_word word.IN x.lexeme.kind) (opens_first no_in ((print_initializer m d o ++ print_more_binds m d bs) ++ (mark_piece mark.SEMICOLON d ∷ tail)) x w (head_of rest) (binds_open o bs tail) q)))
-          (λ w q k. opens_some no_in ((print_initializer m d o ++ print_more_binds m d bs) ++ (mark_piece mark.SEMICOLON d ∷ tail)) w q (binds_open o bs tail) k)
-          (c_bind limit (λ x. parser.for_from b i (tree.BindsInit k (binds_of x.items))) (binds_complete limit m d low b.exprs c.uses false n o bs h.0.2 h.0.1) (lead_at (λ t q. semi_ends false (last_value o bs) t q.kind))
-              (c_binds (of_binds (more_binds n o bs)) (rest_complete (tree.BindsInit k (more_binds n o bs)) test update s h))))
+      (λ x w rest q g. named_binds k n x.lexeme (lexemes w ++ rest) (not_true (is_word word.IN x.lexeme.kind) (opens_first no_in ((print_initializer m d o ++ print_more_binds m d bs) ++ (mark_piece mark.SEMICOLON d ∷ tail)) x w (head_of rest) (binds_open o bs tail) q)))
+      (λ w q k. opens_some no_in ((print_initializer m d o ++ print_more_binds m d bs) ++ (mark_piece mark.SEMICOLON d ∷ tail)) w q (binds_open o bs tail) k)
+      (c_bind limit (λ x. parser.for_from b i (tree.BindsInit k (binds_of x.items))) (binds_complete limit m d low b.exprs c.uses false n o bs h.0.2 h.0.1) (lead_at (λ t q. semi_ends false (last_value o bs) t q.kind))
+      (c_binds (of_binds (more_binds n o bs)) (rest_complete (tree.BindsInit k (more_binds n o bs)) test update s h))))
     where
       c_binds : {xs ys : Binds} {ps : List Piece} {F : Lexeme → Type 0} {a : Stmt} → xs ≡ ys → Completes limit ps F (parser.for_from b i (tree.BindsInit k ys)) a → Completes limit ps F (parser.for_from b i (tree.BindsInit k xs)) a
       c_binds {ps = ps} {F = F} {a = a} e q = subst (λ y. Completes limit ps F (parser.for_from b i (tree.BindsInit k y)) a) (sym e) q

@@ -1,42 +1,34 @@
 -- Completeness of every statement: at its lexemes it is read, or the first of them that is too deep is found.
-use Rattle.std.proofs.Common.{◌≡◌, ℕ, zero, suc, ◌+◌, ◌≤◌, ◌<◌, List, [], ◌∷◌, ◌++◌, length, refl, sym, ap, ◌∙◌, subst, arith, append_assoc, append-nil, Bool, true, false, not, ◌&&◌, ◌||◌, Option, Some, None, nat_le}
-use Rattle.std.proofs.lemmas.Bool.{le-leb}
+use Rattle.std.proofs.Common.{◌≡◌, ℕ, suc, ◌≤◌, ◌<◌, List, [], ◌∷◌, ◌++◌, length, refl, sym, ap, ◌∙◌, subst, arith, Bool, true, false, Some, None}
 use Rattle.script_grammar.specs.declared.token.Kind.{Kind}
-use Rattle.script_grammar.specs.declared.token.Kind.TheVariants as kind
 use Rattle.script_grammar.specs.declared.token.mark.TheConstants as mark
 use Rattle.script_grammar.specs.declared.token.word.TheConstants as word
 use Rattle.script_grammar.specs.declared.token.FuncForm.TheVariants as form
 use Rattle.script_grammar.specs.declared.token.Decl.{Decl}
 use Rattle.script_grammar.specs.declared.token.Decl.TheVariants as decl
 use Rattle.script_grammar.specs.Lexeme.{Lexeme}
-use Rattle.script_grammar.specs.Kinds.{is_mark, is_word, is_name, is_end, decl_word, is_var}
+use Rattle.script_grammar.specs.Kinds.{is_mark, is_word, is_name, is_var}
 use Rattle.script_grammar.specs.Tree.{Named, Expr, Stmt, Stmts, no_stmts, more_stmts, MaybeStmt, no_stmt, some_stmt, MaybeExpr, no_expr, some_expr, Binds, no_binds, more_binds, Function, function}
 use Rattle.script_grammar.specs.Tree as tree
-use Rattle.script_grammar.specs.TreeLists.{Bind, maybe_expr_of, maybe_stmt_of, binds_of, stmts_of}
-use Rattle.script_grammar.specs.Pieces.{Bodies, whole, Wanted, Exactly, AnyWord, IsWanted, is_wanted, begins_with, Piece, At, Gap, Pass, Slot, Is, Ending, BareBinding, Keyword, DoWhile, may_omit, mark_piece, word_piece, name_piece, glued_name, semi_piece, glue, placed}
-use Rattle.script_grammar.specs.Endings.{ending, return_ending, binds_ending, bind_ending}
-use Rattle.script_grammar.specs.Print.{print, print_stmt, print_stmts, print_else, print_label, print_maybe, print_binds, print_more_binds, print_initializer, print_function, print_catch_param}
-use Rattle.script_grammar.specs.Proper.{rank, Proper, ProperMaybe, ProperOption, ProperStmt, ProperStmts, ProperElse, ElseIsNearest, ProperBinds, HasBinds, ProperFunction, IsDeclaration, is_statement, takes_else, begins_brace, begins_function, free_of_in, maybe_free, binds_free, InIf, assign_rank}
-use Rattle.script_grammar.specs.Script.{IsOf}
-use Rattle.pure_parser.specs.Parser.{Reply, Read, Bad, Deep, Parser, head_of, ret, bad, bind, peek, step, when, Turn, Again, Stop, loop, Many, stopped, begun, led}
-use Rattle.pure_parser.specs.Exprs.{Env, AnAssign, expect, expr_of, name_of, named, function_of, again, begins_assign}
+use Rattle.script_grammar.specs.Pieces.{Bodies, whole, Wanted, Exactly, AnyWord, IsWanted, is_wanted, begins_with, Piece, At, Gap, Pass, mark_piece, name_piece, semi_piece}
+use Rattle.script_grammar.specs.Endings.{ending}
+use Rattle.script_grammar.specs.Print.{print, print_stmt}
+use Rattle.script_grammar.specs.Proper.{Proper, ProperStmt, ProperBinds, HasBinds, ProperFunction, IsDeclaration, is_statement}
+use Rattle.pure_parser.specs.Parser.{head_of, ret, bind}
+use Rattle.pure_parser.specs.Exprs.{expect, function_of, begins_assign}
 use Rattle.pure_parser.specs.Stmts as parser
 use Rattle.pure_parser.specs.Stmts.{Place, AnItem, AStmt, StmtCalls, Block, is_item, is_inside, bound, ends_items}
-use Rattle.pure_parser.specs.Follow.{continues_assign, continues_expr}
 use Rattle.pure_parser.proofs.Friendly.{first_of}
-use Rattle.pure_parser.proofs.Tests.{false_true, true_false, and_left, and_right, or_cases, or_left, or_right, not_true, neither_left, neither_right, mark_known, word_known, end_known, name_known}
+use Rattle.pure_parser.proofs.Tests.{false_true}
 use Rattle.pure_parser.proofs.Stands.{Marked, lexemes, Stands, Split, stands_split, first_marked}
 use Rattle.pure_parser.proofs.Fitting.{head_first}
-use Rattle.pure_parser.proofs.Complete.{Parses, bare, AllK, flat}
-use Rattle.pure_parser.proofs.Completes.{Completes, Leads, Any, of_kind, at_kind, lead_none, lead_at, lead_any, lead_gap, lead_map, lead_front, c_ret, c_bind, c_made, c_at, c_front, c_look, c_weaken, c_pieces, c_gap, c_mark, c_word}
-use Rattle.pure_parser.proofs.CompleteLoops.{c_loop, LastLeads}
-use Rattle.pure_parser.proofs.Stops.{stop_close, stop_semi, stop_colon, stop_in, stop_comma, stop_assign, omit_stops, ends_expr}
+use Rattle.pure_parser.proofs.Complete.{bare}
+use Rattle.pure_parser.proofs.Completes.{Completes, Leads, lead_at, lead_any, c_ret, c_bind, c_made, c_at, c_front, c_weaken, c_mark}
 use Rattle.pure_parser.proofs.ExprFronts.{Opens, OfKind, Second, opens_append, opens_first, opens_some, expr_opens, expr_second, second_first}
-use Rattle.pure_parser.proofs.StmtFronts.{starts, stmt_opens, block_at, empty_at, debugger_at, var_at, let_at, const_at, function_at, if_at, while_at, do_at, for_at, switch_at, try_at, continue_at, break_at, return_at, throw_at, label_at, value_at}
+use Rattle.pure_parser.proofs.StmtFronts.{block_at, empty_at, debugger_at, var_at, let_at, const_at, function_at, if_at, while_at, do_at, for_at, switch_at, try_at, continue_at, break_at, return_at, throw_at, label_at, value_at}
 use Rattle.pure_parser.proofs.Begins.{begins_same}
 use Rattle.pure_parser.specs.Stmts.{All, env_of, block_of, all_case}
-use Rattle.script_grammar.specs.Proper.{IsDeclaredForm}
-use Rattle.pure_parser.proofs.CompleteStmts.{Follows, EndsList, CompleteUses, CompleteStmts, CompleteBlock, c_value, follows_as, colon_word, semi_complete, semi_leads, expr_semi, name_complete, stmts_complete, braced_from_complete, braced_complete}
+use Rattle.pure_parser.proofs.CompleteStmts.{Follows, CompleteBlock, c_value, follows_as, semi_complete, expr_semi, name_complete}
 use Rattle.pure_parser.proofs.CompleteSimple.{while_complete, if_complete, do_complete, block_complete, debugger_complete, continue_complete, break_complete, throw_complete, return_complete}
 use Rattle.pure_parser.proofs.CompleteBinds.{binding_complete, for_complete, for_in_complete}
 use Rattle.pure_parser.proofs.CompleteSwitch.{switch_complete, try_complete}
@@ -66,7 +58,7 @@ module _ (limit : ℕ) (m : Bodies) (d : ℕ) (low : d ≤ limit) (b : Block) (c
   unfolding parser.declared_of
   declared_reads (function form.Function start end (Some n) ps comma bare body) h i = c_at limit (λ t. parser.declared_of b.exprs) low (λ t ts q. function_at b p (item_of (is_item p) i) t ts q.kind)
       (λ t q. c_bind limit (λ x. bind (function_of b.exprs form.Function (Some x)) (λ f. ret (tree.Declared f))) (name_complete limit m d low n) lead_any
-          (c_weaken limit (λ t g. tt) (c_made limit tree.Declared (c.uses.function n (function form.Function start end (Some n) ps comma bare body) (refl, refl) h.1))))
+      (c_weaken limit (λ t g. tt) (c_made limit tree.Declared (c.uses.function n (function form.Function start end (Some n) ps comma bare body) (refl, refl) h.1))))
   declared_reads (function form.Function start end None ps comma bare body) h i = absurd h.0
   declared_reads (function form.Script start end name ps comma bare body) h i = absurd h.0
   declared_reads (function form.Arrow start end name ps comma bare body) h i = absurd h.0
@@ -101,7 +93,7 @@ module _ (limit : ℕ) (m : Bodies) (d : ℕ) (low : d ≤ limit) (b : Block) (c
               let tail : w ≡ u ++ v = cc in
               let same : r ≡ x = cc in
               subst (λ j. is_mark mark.COLON j.kind ≡ false) (sym (ap (λ j. first_of (lexemes j) (head_of rest)) tail ∙ first_marked u v (head_of rest)))
-                  (second_first ps r u (first_of (lexemes v) (head_of rest)) o k a (ap (λ j. is_name j.lexeme.kind) same ∙ n) ((semi_colon e semi).by v (head_of rest) y g))
+              (second_first ps r u (first_of (lexemes v) (head_of rest)) o k a (ap (λ j. is_name j.lexeme.kind) same ∙ n) ((semi_colon e semi).by v (head_of rest) y g))
 
   not_begun : (f : Kind → Bool) (e : Expr) → begins_with f (print m (suc d) e) ≡ false → (qs : List Piece) (x : Marked) (w : List Marked) (n : Lexeme) → Opens begins_assign (print m (suc d) e) → Stands (print m (suc d) e ++ qs) (x ∷ w) n → f x.lexeme.kind ≡ false
   not_begun f e h qs x w n o q = by (print m (suc d) e) h o q
@@ -119,10 +111,10 @@ module _ (limit : ℕ) (m : Bodies) (d : ℕ) (low : d ≤ limit) (b : Block) (c
   value_reads : (e : Expr) (semi : Bool) → ProperStmt m (is_inside p) (tree.Value e semi) → Reads (tree.Value e semi)
   value_reads e semi h = c_front limit (parser.value_stmt b.exprs)
       (λ x w rest q g. value_at b p x.lexeme (lexemes w ++ rest)
-          (opens_first begins_assign (print m (suc d) e ++ semi_piece (ending e) semi d) x w (head_of rest) (opens_append begins_assign (print m (suc d) e) (semi_piece (ending e) semi d) (expr_opens m (suc d) e h.2)) q)
-          (not_begun (is_word word.FUNCTION) e (begins_same (is_word word.FUNCTION) m whole (suc d) 1 e ∙ h.1) (semi_piece (ending e) semi d) x w (head_of rest) (expr_opens m (suc d) e h.2) q)
-          (not_begun (is_mark mark.OPEN_BRACE) e (begins_same (is_mark mark.OPEN_BRACE) m whole (suc d) 1 e ∙ h.0) (semi_piece (ending e) semi d) x w (head_of rest) (expr_opens m (suc d) e h.2) q)
-          (value_first e semi h.2 x w rest q g))
+      (opens_first begins_assign (print m (suc d) e ++ semi_piece (ending e) semi d) x w (head_of rest) (opens_append begins_assign (print m (suc d) e) (semi_piece (ending e) semi d) (expr_opens m (suc d) e h.2)) q)
+      (not_begun (is_word word.FUNCTION) e (begins_same (is_word word.FUNCTION) m whole (suc d) 1 e ∙ h.1) (semi_piece (ending e) semi d) x w (head_of rest) (expr_opens m (suc d) e h.2) q)
+      (not_begun (is_mark mark.OPEN_BRACE) e (begins_same (is_mark mark.OPEN_BRACE) m whole (suc d) 1 e ∙ h.0) (semi_piece (ending e) semi d) x w (head_of rest) (expr_opens m (suc d) e h.2) q)
+      (value_first e semi h.2 x w rest q g))
       (λ w n q. opens_some begins_assign (print m (suc d) e ++ semi_piece (ending e) semi d) w n (opens_append begins_assign (print m (suc d) e) (semi_piece (ending e) semi d) (expr_opens m (suc d) e h.2)) q)
       (value_complete e semi h.2)
 

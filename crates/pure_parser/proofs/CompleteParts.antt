@@ -1,36 +1,33 @@
 -- What completeness of the parts of expressions stands on: the calls that count for the depth, and braced bodies. Lists of
 -- expressions and arguments.
-use Rattle.std.proofs.Common.{◌≡◌, ℕ, zero, suc, ◌+◌, ◌≤◌, ◌<◌, List, [], ◌∷◌, ◌++◌, length, refl, sym, ap, ◌∙◌, subst, arith, append_assoc, append-nil, Bool, true, false, not, ◌&&◌, ◌||◌, Option, Some, None, nat_le, is_none, if◌then◌else◌, ◌⊎◌, inl, inr}
-use Rattle.script_grammar.specs.declared.token.Kind.{Kind}
+use Rattle.std.proofs.Common.{◌≡◌, ℕ, suc, ◌≤◌, ◌<◌, List, [], ◌∷◌, ◌++◌, length, refl, sym, ap, ◌∙◌, arith, append_assoc, append-nil, Bool, true, false, not, ◌&&◌, ◌||◌, if◌then◌else◌, ◌⊎◌, inl, inr}
 use Rattle.script_grammar.specs.declared.token.Kind.TheVariants as kind
 use Rattle.script_grammar.specs.declared.token.mark.TheConstants as mark
-use Rattle.script_grammar.specs.declared.token.word.TheConstants as word
 use Rattle.script_grammar.specs.declared.token.FuncForm.{FuncForm}
-use Rattle.script_grammar.specs.declared.token.FuncForm.TheVariants as form
 use Rattle.script_grammar.specs.Lexeme.{Lexeme}
-use Rattle.script_grammar.specs.Kinds.{is_mark, is_word, is_name, is_update, is_arrow_form}
+use Rattle.script_grammar.specs.Kinds.{is_mark, is_word, is_update, is_arrow_form}
 use Rattle.script_grammar.specs.Tree.{Named, Expr, Exprs, no_exprs, more_exprs, MaybeExpr, no_expr, some_expr, MaybeArgs, Stmts, Body, Function, function}
 use Rattle.script_grammar.specs.Tree as tree
-use Rattle.script_grammar.specs.TreeLists.{Args, Param, exprs_of, maybe_expr_of}
-use Rattle.script_grammar.specs.Pieces.{Bodies, Piece, At, Slot, Is, Ending, BracedArrow, Postfix, Operand, BareBinding, Keyword, DoWhile, mark_piece, name_piece, comma_piece}
+use Rattle.script_grammar.specs.TreeLists.{Param, exprs_of, maybe_expr_of}
+use Rattle.script_grammar.specs.Pieces.{Bodies, Piece, Ending, Operand, mark_piece, name_piece, comma_piece}
 use Rattle.script_grammar.specs.Endings.{ending, last_ending}
-use Rattle.script_grammar.specs.Print.{print, print_list, print_more, print_body, print_initializer}
+use Rattle.script_grammar.specs.Print.{print, print_list, print_more, print_body}
 use Rattle.script_grammar.specs.Proper.{rank, function_rank, new_rank, are_member_tails, Proper, ProperExprs, ProperMaybe, ProperBody, HasExprs, free_of_in, all_free, InIf, assign_rank}
-use Rattle.pure_parser.specs.Parser.{Reply, Read, Parser, head_of, ret, bad, bind, peek, step, when, Turn, Again, Stop, loop, Many, stopped, begun, led}
+use Rattle.pure_parser.specs.Parser.{Read, head_of, ret, bind, step, when, Turn, Again, Stop, loop, stopped, begun, led}
 use Rattle.pure_parser.specs.Exprs as parser
 use Rattle.pure_parser.specs.Exprs.{Env, Calls, AnAssign, APrefix, ANew, AParam, ARest, BodyParser, BodyRead, expect, begins_assign}
 use Rattle.pure_parser.specs.Follow.{continues_assign, continues_expr}
 use Rattle.pure_parser.proofs.Friendly.{first_of}
-use Rattle.pure_parser.proofs.Tests.{bool_cases, false_true, true_false, and_left, and_right, neither_left, neither_right}
+use Rattle.pure_parser.proofs.Tests.{and_left, and_right, neither_left}
 use Rattle.pure_parser.proofs.Stands.{Marked, lexemes, Stands}
 use Rattle.pure_parser.proofs.Complete.{bare, AllK, flat}
 use Rattle.pure_parser.proofs.SoundParts.{print_param}
-use Rattle.pure_parser.proofs.Completes.{Completes, Leads, Any, of_kind, at_kind, lead_none, lead_at, lead_any, lead_map, c_ret, c_bind, c_made, c_at, c_front, c_look, c_weaken, c_pieces, c_mark}
+use Rattle.pure_parser.proofs.Completes.{Completes, Leads, Any, at_kind, lead_none, lead_at, lead_map, c_bind, c_made, c_at, c_front, c_look, c_pieces, c_mark}
 use Rattle.pure_parser.proofs.CompleteLoops.{c_loop, LastLeads}
 use Rattle.pure_parser.proofs.CompleteStmts.{c_value}
-use Rattle.pure_parser.proofs.CompleteBinds.{not_mark, not_word}
+use Rattle.pure_parser.proofs.CompleteBinds.{not_mark}
 use Rattle.pure_parser.proofs.Stops.{stop_close, stop_comma, stop_assign}
-use Rattle.pure_parser.proofs.ExprFronts.{Opens, opens_append, opens_first, opens_some, expr_opens}
+use Rattle.pure_parser.proofs.ExprFronts.{opens_append, opens_first, opens_some, expr_opens}
 
 -- what goes on with no chain of members and calls, and is no `++` or `--` on its line
 pub record TailStops (t : Lexeme) : Type 0 where

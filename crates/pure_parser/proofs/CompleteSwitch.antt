@@ -1,45 +1,34 @@
 -- Completeness of `switch` and `try`: at their lexemes they are read.
-use Rattle.std.proofs.Common.{◌≡◌, ℕ, zero, suc, ◌+◌, ◌≤◌, ◌<◌, List, [], ◌∷◌, ◌++◌, length, refl, sym, ap, ◌∙◌, subst, arith, append_assoc, append-nil, Bool, true, false, not, ◌&&◌, ◌||◌, Option, Some, None, nat_le}
-use Rattle.std.proofs.lemmas.Bool.{le-leb}
-use Rattle.script_grammar.specs.declared.token.Kind.{Kind}
+use Rattle.std.proofs.Common.{◌≡◌, ℕ, suc, ◌≤◌, ◌<◌, List, [], ◌∷◌, ◌++◌, length, refl, sym, ap, ◌∙◌, subst, arith, append_assoc, append-nil, Bool, true, Option, Some, None}
 use Rattle.script_grammar.specs.declared.token.Kind.TheVariants as kind
 use Rattle.script_grammar.specs.declared.token.mark.TheConstants as mark
 use Rattle.script_grammar.specs.declared.token.word.TheConstants as word
-use Rattle.script_grammar.specs.declared.token.FuncForm.TheVariants as form
-use Rattle.script_grammar.specs.declared.token.Decl.{Decl}
-use Rattle.script_grammar.specs.declared.token.Decl.TheVariants as decl
 use Rattle.script_grammar.specs.Lexeme.{Lexeme}
-use Rattle.script_grammar.specs.Kinds.{is_mark, is_word, is_name, is_end, decl_word, is_var}
+use Rattle.script_grammar.specs.Kinds.{is_mark, is_word}
 use Rattle.script_grammar.specs.Tree.{Named, Expr, Stmt, Stmts, no_stmts, more_stmts, MaybeStmt, no_stmt, some_stmt, MaybeExpr, no_expr, some_expr, Binds, no_binds, more_binds, Function, function}
 use Rattle.script_grammar.specs.Tree as tree
-use Rattle.script_grammar.specs.TreeLists.{Bind, maybe_expr_of, maybe_stmt_of, binds_of, stmts_of}
-use Rattle.script_grammar.specs.Pieces.{Bodies, Piece, At, Gap, Pass, Slot, Is, Ending, BareBinding, Keyword, DoWhile, may_omit, mark_piece, word_piece, name_piece, glued_name, semi_piece, glue, placed}
-use Rattle.script_grammar.specs.Endings.{ending, return_ending, binds_ending, bind_ending}
-use Rattle.script_grammar.specs.Print.{print, print_stmt, print_stmts, print_else, print_label, print_maybe, print_binds, print_more_binds, print_initializer, print_function, print_catch_param}
-use Rattle.script_grammar.specs.Proper.{rank, Proper, ProperMaybe, ProperOption, ProperStmt, ProperStmts, ProperElse, ElseIsNearest, ProperBinds, HasBinds, ProperFunction, IsDeclaration, is_statement, takes_else, begins_brace, begins_function, free_of_in, maybe_free, binds_free, InIf, assign_rank}
-use Rattle.script_grammar.specs.Script.{IsOf}
-use Rattle.pure_parser.specs.Parser.{Reply, Read, Bad, Deep, Parser, head_of, ret, bad, bind, peek, step, when, Turn, Again, Stop, loop, Many, stopped, begun, led}
-use Rattle.pure_parser.specs.Exprs.{Env, AnAssign, expect, expr_of, name_of, named, function_of, again, begins_assign}
+use Rattle.script_grammar.specs.TreeLists.{maybe_expr_of, stmts_of}
+use Rattle.script_grammar.specs.Pieces.{Bodies, Piece, mark_piece, word_piece, name_piece}
+use Rattle.script_grammar.specs.Endings.{ending}
+use Rattle.script_grammar.specs.Print.{print, print_stmts, print_catch_param}
+use Rattle.script_grammar.specs.Proper.{Proper, ProperStmt, ProperStmts}
+use Rattle.pure_parser.specs.Parser.{Read, Parser, head_of, ret, bind, step, when, Turn, Again, Stop, loop}
+use Rattle.pure_parser.specs.Exprs.{expect, again}
 use Rattle.pure_parser.specs.Stmts as parser
 use Rattle.pure_parser.specs.Stmts.{Place, AnItem, AStmt, StmtCalls, Block, is_item, is_inside, bound, ends_items}
-use Rattle.pure_parser.specs.Follow.{continues_assign, continues_expr}
 use Rattle.pure_parser.proofs.Friendly.{first_of}
-use Rattle.pure_parser.proofs.Tests.{false_true, true_false, and_left, and_right, or_cases, or_left, or_right, not_true, neither_left, neither_right, mark_known, word_known, end_known, name_known}
 use Rattle.pure_parser.proofs.Stands.{Marked, lexemes, Stands}
-use Rattle.pure_parser.proofs.Complete.{Parses, bare, AllK, flat}
-use Rattle.pure_parser.proofs.Completes.{Completes, Leads, Any, of_kind, at_kind, lead_none, lead_at, lead_any, lead_gap, lead_map, lead_front, c_ret, c_bind, c_made, c_at, c_front, c_look, c_weaken, c_pieces, c_gap, c_mark, c_word}
+use Rattle.pure_parser.proofs.Complete.{bare, AllK, flat}
+use Rattle.pure_parser.proofs.Completes.{Completes, Leads, at_kind, lead_none, lead_at, lead_any, lead_map, c_ret, c_bind, c_made, c_at, c_look, c_pieces, c_mark, c_word}
 use Rattle.pure_parser.proofs.CompleteLoops.{c_loop, LastLeads}
-use Rattle.pure_parser.proofs.Stops.{stop_close, stop_semi, stop_colon, stop_in, stop_comma, stop_assign, omit_stops, ends_expr}
-use Rattle.pure_parser.proofs.ExprFronts.{Opens, opens_first, opens_some, expr_opens, expr_second, second_first}
-use Rattle.pure_parser.proofs.StmtFronts.{starts, stmt_opens, block_at, empty_at, debugger_at, var_at, let_at, const_at, function_at, if_at, while_at, do_at, for_at, switch_at, try_at, continue_at, break_at, return_at, throw_at, label_at, value_at}
-use Rattle.pure_parser.proofs.Begins.{begins_same}
+use Rattle.pure_parser.proofs.Stops.{stop_colon}
 use Rattle.script_grammar.specs.Tree.{Clauses}
 use Rattle.script_grammar.specs.Tree.{no_clauses, more_clauses}
 use Rattle.script_grammar.specs.TreeLists.{Clause, clauses_of}
 use Rattle.script_grammar.specs.Print.{print_clauses, print_test}
 use Rattle.script_grammar.specs.Proper.{ProperClauses, defaults}
 use Rattle.pure_parser.proofs.CompleteLoops.{LastLeads}
-use Rattle.pure_parser.proofs.CompleteStmts.{Follows, EndsList, CompleteUses, CompleteStmts, CompleteBlock, c_value, colon_word, name_complete, stmts_complete, braced_complete, list_of, of_list}
+use Rattle.pure_parser.proofs.CompleteStmts.{EndsList, CompleteBlock, c_value, name_complete, stmts_complete, braced_complete, list_of, of_list}
 use Rattle.pure_parser.proofs.CompleteSimple.{parens_then}
 
 -- clauses up to a default, and those behind it
@@ -83,7 +72,7 @@ module _ (limit : ℕ) (m : Bodies) (d : ℕ) (low : d ≤ limit) (b : Block) (c
   unfolding parser.case_of
   case_complete e ss h k = c_bind limit (λ x. bind (expect mark.COLON) (λ _. bind (parser.stmts_from b.stmt i) (λ ys. ret (parser.clause (Some x) ys)))) (c.uses.expr true e h refl) (lead_at (λ t q. stop_colon true (ending e) t q.kind))
       (c_bind limit (λ _. bind (parser.stmts_from b.stmt i) (λ ys. ret (parser.clause (Some e) ys))) (c_mark limit mark.COLON d low refl) lead_any
-          (c_made limit (parser.clause (Some e)) (stmts_complete limit m d low b.stmt c.stmts i ss k)))
+      (c_made limit (parser.clause (Some e)) (stmts_complete limit m d low b.stmt c.stmts i ss k)))
 
   default_complete : (ss : Stmts) → ProperStmts m i ss → Completes limit (mark_piece mark.COLON d ∷ print_stmts m d ss) EndsList (parser.default_of b i) (parser.clause None (list_of ss))
   unfolding parser.default_of
@@ -197,7 +186,8 @@ module _ (limit : ℕ) (m : Bodies) (d : ℕ) (low : d ≤ limit) (b : Block) (c
     pieces = ap (λ x. print_test m d (some_expr e) ++ (mark_piece mark.COLON d ∷ (print_stmts m d items ++ x))) q.pieces
         ∙ ap (λ x. print_test m d (some_expr e) ++ (mark_piece mark.COLON d ∷ x)) (sym (append_assoc (print_stmts m d items) (print_clauses m d q.front) _))
         ∙ sym (append_assoc (print_test m d (some_expr e)) (mark_piece mark.COLON d ∷ (print_stmts m d items ++ print_clauses m d q.front)) _);
-    list = ap (λ x. one_case e items ∷ x) q.list })
+    list = ap (λ x. one_case e items ∷ x) q.list;
+  })
 
   shape_of : (cs : Clauses) → defaults cs ≤ 1 → ProperClauses m i cs → Shape cs
   shape_of no_clauses n h = all tt
@@ -211,7 +201,8 @@ module _ (limit : ℕ) (m : Bodies) (d : ℕ) (low : d ≤ limit) (b : Block) (c
     proper_items = h.1;
     proper_back = h.2;
     pieces = ap (λ x. word_piece word.DEFAULT d ∷ mark_piece mark.COLON d ∷ (print_stmts m d items ++ x)) (sym (append-nil (print_clauses m d cs)));
-    list = refl })
+    list = refl;
+  })
   shape_of (more_clauses (some_expr e) items cs) n h = before e items cs h.0 h.1 (shape_of cs n h.2)
 
   back_leads : (cs : Clauses) → AllCases cs → Leads (print_clauses m d cs ++ []) Closes EndsList
@@ -232,9 +223,9 @@ module _ (limit : ℕ) (m : Bodies) (d : ℕ) (low : d ≤ limit) (b : Block) (c
       let x : Clause = parser.clause None (list_of q.items) in
       c_value (sym q.list) (c_pieces limit (append_assoc (print_clauses m d q.front) (word_piece word.DEFAULT d ∷ mark_piece mark.COLON d ∷ print_stmts m d q.items) (print_clauses m d q.back ++ []) ∙ sym q.pieces)
       (c_bind limit (λ y. bind (parser.more_clauses b i y.last) (λ ys. ret (y.items ++ ys)))
-          (c_pieces limit (flat_cases q.front (word_piece word.DEFAULT d ∷ mark_piece mark.COLON d ∷ print_stmts m d q.items) q.front_cases) (c_loop limit IsCase clause_pieces ClauseFollow (word_piece word.DEFAULT d ∷ mark_piece mark.COLON d ∷ print_stmts m d q.items) EndsList (Some x) (parser.clause_turn b i) c_clause clause_some clause_link (default_stop q.items q.proper_items) (cases_of q.front) (all_cases q.front q.front_cases q.proper_front) (last_lead (word_piece word.DEFAULT d ∷ mark_piece mark.COLON d ∷ print_stmts m d q.items) EndsList (Some x) (parser.clause_turn b i) c_clause (default_stop q.items q.proper_items) (lead_at (λ t r. default_list t r.kind)) (cases_of q.front))))
-          (back_leads q.back q.back_cases)
-          (c_made limit (λ ys. cases_of q.front ++ ys) (c_made limit (λ y. x ∷ y.items) (behind_complete q.back q.back_cases q.proper_back)))))
+      (c_pieces limit (flat_cases q.front (word_piece word.DEFAULT d ∷ mark_piece mark.COLON d ∷ print_stmts m d q.items) q.front_cases) (c_loop limit IsCase clause_pieces ClauseFollow (word_piece word.DEFAULT d ∷ mark_piece mark.COLON d ∷ print_stmts m d q.items) EndsList (Some x) (parser.clause_turn b i) c_clause clause_some clause_link (default_stop q.items q.proper_items) (cases_of q.front) (all_cases q.front q.front_cases q.proper_front) (last_lead (word_piece word.DEFAULT d ∷ mark_piece mark.COLON d ∷ print_stmts m d q.items) EndsList (Some x) (parser.clause_turn b i) c_clause (default_stop q.items q.proper_items) (lead_at (λ t r. default_list t r.kind)) (cases_of q.front))))
+      (back_leads q.back q.back_cases)
+      (c_made limit (λ ys. cases_of q.front ++ ys) (c_made limit (λ y. x ∷ y.items) (behind_complete q.back q.back_cases q.proper_back)))))
 
   clauses_complete : (cs : Clauses) → defaults cs ≤ 1 → ProperClauses m i cs → Completes limit (print_clauses m d cs) Closes (parser.clauses_from b i) (cases_of cs)
   clauses_complete cs n h = by_shape cs h (shape_of cs n h)
@@ -243,8 +234,8 @@ module _ (limit : ℕ) (m : Bodies) (d : ℕ) (low : d ≤ limit) (b : Block) (c
   unfolding parser.switch_of
   switch_complete e cs h = parens_then limit m d low b c i e (mark_piece mark.OPEN_BRACE d ∷ (print_clauses m d cs ++ mark_piece mark.CLOSE_BRACE d ∷ [])) (λ x. bind (expect mark.OPEN_BRACE) (λ _. bind (parser.clauses_from b i) (λ ys. bind (expect mark.CLOSE_BRACE) (λ _. ret (tree.Switch x (clauses_of ys)))))) (tree.Switch e cs) h.0
       (c_bind limit (λ _. bind (parser.clauses_from b i) (λ ys. bind (expect mark.CLOSE_BRACE) (λ _. ret (tree.Switch e (clauses_of ys))))) (c_mark limit mark.OPEN_BRACE d low refl) lead_any
-          (c_value (ap (tree.Switch e) (of_cases cs)) (c_bind limit (λ ys. bind (expect mark.CLOSE_BRACE) (λ _. ret (tree.Switch e (clauses_of ys)))) (clauses_complete cs h.1 h.2) (lead_at (λ t q. q.kind))
-              (c_made limit (λ _. tree.Switch e (clauses_of (cases_of cs))) (c_mark limit mark.CLOSE_BRACE d low refl)))))
+      (c_value (ap (tree.Switch e) (of_cases cs)) (c_bind limit (λ ys. bind (expect mark.CLOSE_BRACE) (λ _. ret (tree.Switch e (clauses_of ys)))) (clauses_complete cs h.1 h.2) (lead_at (λ t q. q.kind))
+      (c_made limit (λ _. tree.Switch e (clauses_of (cases_of cs))) (c_mark limit mark.CLOSE_BRACE d low refl)))))
 
   -- `try`
 

@@ -25,7 +25,7 @@ use Rattle.pure_parser.proofs.LocalRace.{RunsOut, close_last, comma_runs, read_r
 
 -- records before replies
 
-read_noted : {A : Type 0} (rs ps : List Recorded) (a : A) (us : List Lexeme) → noted rs (Read a ps us) ≡ Read a (rs ++ ps) us
+pub read_noted : {A : Type 0} (rs ps : List Recorded) (a : A) (us : List Lexeme) → noted rs (Read a ps us) ≡ Read a (rs ++ ps) us
 read_noted [] ps a us = refl
 read_noted (b ∷ rs) ps a us = refl
 

@@ -1,22 +1,16 @@
 -- Where the lexemes end before it is decided whether an arrow begins: what is read as a parenthesized expression and what
 -- is read as an arrow's head have the same fault, or both run out.
-use Rattle.std.proofs.Common.{◌≡◌, ℕ, zero, suc, ◌+◌, ◌≤◌, ◌<◌, List, [], ◌∷◌, ◌++◌, length, refl, sym, ap, ◌∙◌, subst, arith, length-append, append_assoc, append-nil, Bool, true, false, ◌&&◌, ◌||◌, not, Option, Some, None, inl, inr, ◌⊎◌}
-use Rattle.script_grammar.specs.declared.token.Kind.{Kind}
-use Rattle.script_grammar.specs.declared.token.Kind.TheVariants as kind
+use Rattle.std.proofs.Common.{◌≡◌, ◌≤◌, List, [], ◌∷◌, ◌++◌, length, refl, sym, ap, ◌∙◌, subst, arith, true, false, Option, Some, None, inl, inr, ◌⊎◌}
 use Rattle.script_grammar.specs.declared.token.mark.TheConstants as mark
 use Rattle.script_grammar.specs.Lexeme.{Lexeme}
-use Rattle.script_grammar.specs.Kinds.{is_mark, is_name}
-use Rattle.script_grammar.specs.Tree.{Named, Expr}
-use Rattle.script_grammar.specs.TreeLists.{Param}
-use Rattle.script_grammar.specs.Pieces.{Bodies, Opener, paren, open_behind, open_at_end}
-use Rattle.pure_parser.specs.Parser.{Recorded, Reply, Read, Bad, Deep, Parser, head_of, rest_of, put_before, noted, after, ret, bad, bind, peek, step, when, Turn, Again, Stop, Many, stopped, begun, turned, turns, loop}
-use Rattle.pure_parser.specs.Exprs
-use Rattle.pure_parser.specs.Exprs.{Env, AnAssign, AParam, ARest, ParamsEnd, Plain, Trailing, Rest, expect, again, is_param_form, is_arrow, arrow_behind, closed_case}
-use Rattle.pure_parser.proofs.Friendly.{Spot, AtFront, Inside}
-use Rattle.pure_parser.proofs.Tests.{false_true, true_false, mark_known, bool_cases, and_left}
-use Rattle.pure_parser.proofs.Local.{Local, Same, out, kept, left, grown, grown_records, grown_noted, left_noted, after_shorter, local_ret, local_bad, local_bind, local_turned, local_turns}
-use Rattle.pure_parser.proofs.Sound.{Leads, Outcome, Sound}
-use Rattle.pure_parser.proofs.Nested.{open_append, open_step}
+use Rattle.script_grammar.specs.Kinds.{is_mark}
+use Rattle.script_grammar.specs.Pieces.{Opener, paren, open_behind, open_at_end}
+use Rattle.pure_parser.specs.Parser.{Recorded, Reply, Read, Bad, Deep, Parser, head_of, noted, after, ret, bad, bind, step, when}
+use Rattle.pure_parser.specs.Exprs.{expect, is_arrow, arrow_behind, closed_case}
+use Rattle.pure_parser.proofs.Friendly.{Inside}
+use Rattle.pure_parser.proofs.Tests.{mark_known}
+use Rattle.pure_parser.proofs.Local.{Local, Same, out, kept, left, grown, grown_records, left_noted, after_shorter}
+use Rattle.pure_parser.proofs.Sound.{Leads, Outcome}
 
 -- The lexemes end while these brackets are open, or with the one that closes the last of them.
 

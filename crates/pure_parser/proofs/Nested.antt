@@ -1,22 +1,18 @@
 -- The lexemes of a tree have their brackets matched: behind them the same brackets are open as before.
-use Rattle.std.proofs.Common.{◌≡◌, ℕ, zero, suc, ◌+◌, ◌≤◌, ◌<◌, List, [], ◌∷◌, ◌++◌, refl, sym, ap, ◌∙◌, subst, arith, append_assoc, append-nil, Bool, true, false, ◌&&◌, ◌||◌, nat_eq, nat_le, Option, Some, None, if◌then◌else◌}
+use Rattle.std.proofs.Common.{◌≡◌, ℕ, zero, suc, ◌≤◌, ◌<◌, List, [], ◌∷◌, ◌++◌, refl, sym, ap, ◌∙◌, subst, arith, append_assoc, Bool, true, false, ◌||◌, nat_eq, nat_le, Option, Some, None, if◌then◌else◌}
 use Rattle.std.proofs.lemmas.Bool.{eqb-true, ne_eqb, leb-true, leb-false}
 use Rattle.script_grammar.specs.declared.token.Kind.{Kind}
 use Rattle.script_grammar.specs.declared.token.Kind.TheVariants as kind
 use Rattle.script_grammar.specs.declared.token.FuncForm.{FuncForm}
-use Rattle.script_grammar.specs.declared.token.Decl.{Decl}
-use Rattle.script_grammar.specs.declared.token.Decl.TheVariants as decl
 use Rattle.script_grammar.specs.declared.token.mark.TheConstants as mark
 use Rattle.script_grammar.specs.declared.token.word.TheConstants as word
 use Rattle.script_grammar.specs.Lexeme.{Lexeme}
-use Rattle.script_grammar.specs.Kinds.{is_any_word, is_prefix_op, is_update_op, is_assign_op, op_kind, op_level, mark_level, no_level, decl_word, is_arrow_form, between}
-use Rattle.script_grammar.specs.Tree.{Named, Expr, Exprs, no_exprs, more_exprs, MaybeExpr, no_expr, some_expr, MaybeArgs, no_args, some_args, Parts, no_parts, more_parts, Items, no_items, more_items, Operands, no_operands, more_operands, Tail, Tails, no_tails, more_tails, Key, Prop, Props, no_props, more_props, Function, function, Params, no_params, more_params, Body, Binds, no_binds, more_binds, Init, Each, Clauses, no_clauses, more_clauses, Stmt, Stmts, no_stmts, more_stmts, MaybeStmt, no_stmt, some_stmt}
-use Rattle.script_grammar.specs.Tree as tree
-use Rattle.script_grammar.specs.Pieces.{Bodies, whole, passed, Piece, At, Gap, Pass, Slot, Is, IsWanted, Ending, Exactly, AnyWord, Fits, Opener, paren, bracket, brace, template, open_behind, open_at_end, mark_opens, closed, closes, reopened, IsBalanced, glue, from, until, ending_at, comma_piece, semi_piece, mark_piece, placed, glued_mark}
+use Rattle.script_grammar.specs.Kinds.{is_any_word, is_prefix_op, op_kind, op_level, mark_level, is_arrow_form, between}
+use Rattle.script_grammar.specs.Tree.{Named}
+use Rattle.script_grammar.specs.Pieces.{Piece, At, Gap, Pass, Slot, Is, IsWanted, Ending, Exactly, AnyWord, Fits, Opener, paren, bracket, brace, template, open_behind, open_at_end, closed, closes, reopened, IsBalanced, glue, from, until, comma_piece, semi_piece, mark_piece, placed, glued_mark}
 use Rattle.script_grammar.specs.Print
-use Rattle.script_grammar.specs.Proper.{Proper, ProperExprs, ProperMaybe, ProperOption, ProperArgs, ProperParts, ProperItems, ProperOperands, ProperTails, ProperTail, ProperKey, ProperProp, ProperProps, ProperFunction, ProperParams, ProperBody, ProperBinds, ProperInit, ProperEach, ProperClauses, ProperStmts, ProperElse, ProperStmt, operands_level}
-use Rattle.pure_parser.proofs.Fitting.{fits_part, Parted}
-use Rattle.pure_parser.proofs.Tests.{false_true, or_cases, and_left, bool_cases}
+use Rattle.pure_parser.proofs.Fitting.{fits_part}
+use Rattle.pure_parser.proofs.Tests.{false_true, or_cases, and_left}
 
 -- brackets that are open behind lexemes
 
@@ -146,6 +142,7 @@ nested_group s c inner rest j k o e f h g x y = record { at = group_at }
     close_at : (w : List Lexeme) (n : Lexeme) → Fits (At c ∷ rest) w n → (os : List Opener) → open_at_end (o ∷ os) w ≡ Some os
     close_at [] n h os = absurd h
     close_at (t ∷ w) n h os = open_step (o ∷ os) os t w (ap (λ z. open_behind z (o ∷ os)) (subst (λ z. IsWanted z t.kind) f h.0.kind) ∙ g os) ∙ y.at w n h.1 os
+
     group_at : (w : List Lexeme) (n : Lexeme) → Fits (At s ∷ (inner ++ (At c ∷ rest))) w n → (os : List Opener) → open_at_end os w ≡ Some os
     group_at [] n i os = absurd i
     group_at (t ∷ w) n i os =
@@ -171,10 +168,10 @@ pub prefix_six : (op : ℕ) (is_word : Bool) → is_prefix_op op is_word ≡ tru
 prefix_six op true e w = absurd (cc)
 prefix_six op false e w =
     or_cases (nat_eq op mark.PLUS || nat_eq op mark.MINUS || nat_eq op mark.BIT_NOT) (nat_eq op mark.NOT) e
-        (λ e. or_cases (nat_eq op mark.PLUS || nat_eq op mark.MINUS) (nat_eq op mark.BIT_NOT) e
-            (λ e. or_cases (nat_eq op mark.PLUS) (nat_eq op mark.MINUS) e (λ e. six_of op mark.PLUS e (omega arith)) (λ e. six_of op mark.MINUS e (omega arith)))
-            (λ e. six_of op mark.BIT_NOT e (omega arith)))
-        (λ e. six_of op mark.NOT e (omega arith))
+    (λ e. or_cases (nat_eq op mark.PLUS || nat_eq op mark.MINUS) (nat_eq op mark.BIT_NOT) e
+    (λ e. or_cases (nat_eq op mark.PLUS) (nat_eq op mark.MINUS) e (λ e. six_of op mark.PLUS e (omega arith)) (λ e. six_of op mark.MINUS e (omega arith)))
+    (λ e. six_of op mark.BIT_NOT e (omega arith)))
+    (λ e. six_of op mark.NOT e (omega arith))
 
 pub between_six : (low high i : ℕ) → 6 ≤ low → between low high i ≡ true → 6 ≤ i
 between_six low high i h e = omega (arith, leb-true low i (and_left _ _ e), h)

@@ -1,17 +1,15 @@
 -- The lexemes of each part of a proper tree have their brackets matched.
-use Rattle.std.proofs.Common.{◌≡◌, ℕ, zero, suc, ◌+◌, ◌≤◌, ◌<◌, List, [], ◌∷◌, ◌++◌, refl, sym, ap, ◌∙◌, subst, arith, append_assoc, append-nil, Bool, true, false, Option, Some, None}
-use Rattle.script_grammar.specs.declared.token.Kind.{Kind}
+use Rattle.std.proofs.Common.{◌≡◌, ℕ, suc, ◌≤◌, ◌<◌, List, [], ◌∷◌, ◌++◌, refl, ap, ◌∙◌, arith, append_assoc, Bool, true, false, Some}
 use Rattle.script_grammar.specs.declared.token.Kind.TheVariants as kind
 use Rattle.script_grammar.specs.declared.token.FuncForm.{FuncForm}
 use Rattle.script_grammar.specs.declared.token.Decl.{Decl}
-use Rattle.script_grammar.specs.declared.token.Decl.TheVariants as decl
 use Rattle.script_grammar.specs.declared.token.mark.TheConstants as mark
 use Rattle.script_grammar.specs.declared.token.word.TheConstants as word
 use Rattle.script_grammar.specs.Lexeme.{Lexeme}
 use Rattle.script_grammar.specs.Kinds.{op_kind, decl_word}
 use Rattle.script_grammar.specs.Tree.{Named, Expr, Exprs, no_exprs, more_exprs, MaybeExpr, no_expr, some_expr, MaybeArgs, no_args, some_args, Parts, no_parts, more_parts, Items, no_items, more_items, Operands, no_operands, more_operands, Tail, Tails, no_tails, more_tails, Key, Prop, Props, no_props, more_props, Function, function, Params, no_params, more_params, Body, Binds, no_binds, more_binds, Init, Each, Clauses, no_clauses, more_clauses, Stmt, Stmts, no_stmts, more_stmts, MaybeStmt, no_stmt, some_stmt}
 use Rattle.script_grammar.specs.Tree as tree
-use Rattle.script_grammar.specs.Pieces.{Bodies, whole, passed, Piece, At, Fits, Opener, template, open_at_end, comma_piece, semi_piece, mark_piece, template_piece, placed, Exactly, open_behind, text_piece, Slot, word_piece}
+use Rattle.script_grammar.specs.Pieces.{Bodies, whole, passed, Piece, At, Fits, Opener, template, open_at_end, comma_piece, mark_piece, template_piece, Exactly, open_behind, text_piece, Slot, word_piece}
 use Rattle.script_grammar.specs.Print
 use Rattle.script_grammar.specs.Proper.{Proper, ProperExprs, ProperMaybe, ProperOption, ProperArgs, ProperParts, ProperItems, ProperOperands, ProperTails, ProperTail, ProperKey, ProperProp, ProperProps, ProperFunction, ProperParams, ProperBody, ProperBinds, ProperInit, ProperEach, ProperClauses, ProperStmts, ProperElse, ProperStmt, operands_level}
 use Rattle.pure_parser.proofs.Fitting.{fits_part}
@@ -228,8 +226,8 @@ mutual
   nested_stmt m d i (tree.While test body) p = word_cons _ word.WHILE _ refl (parens _ _ (Print.print m (suc d) test) _ refl refl (nested_expr m (suc d) test p.0) (nested_stmt m (suc d) i body p.2))
   nested_stmt m d i (tree.For init test update body) p = word_cons _ word.FOR _ refl (nested_same (ap (λ y. mark_piece mark.OPEN_PAREN d ∷ y) (append_assoc (Print.print_init m d init) (mark_piece mark.SEMICOLON d ∷ (Print.print_maybe m (suc d) test ++ (mark_piece mark.SEMICOLON d ∷ Print.print_maybe m (suc d) update))) (mark_piece mark.CLOSE_PAREN d ∷ Print.print_stmt m (suc d) body) ∙ ap (λ y. Print.print_init m d init ++ (mark_piece mark.SEMICOLON d ∷ y)) (append_assoc (Print.print_maybe m (suc d) test) (mark_piece mark.SEMICOLON d ∷ Print.print_maybe m (suc d) update) (mark_piece mark.CLOSE_PAREN d ∷ Print.print_stmt m (suc d) body))))
       (parens _ _ (Print.print_init m d init ++ (mark_piece mark.SEMICOLON d ∷ (Print.print_maybe m (suc d) test ++ (mark_piece mark.SEMICOLON d ∷ Print.print_maybe m (suc d) update)))) _ refl refl
-          (nested_append (nested_init m d init p.0) (mark_cons mark.SEMICOLON d _ (omega arith) (nested_append (nested_option m (suc d) test p.1) (mark_cons mark.SEMICOLON d _ (omega arith) (nested_option m (suc d) update p.2)))))
-          (nested_stmt m (suc d) i body p.4)))
+      (nested_append (nested_init m d init p.0) (mark_cons mark.SEMICOLON d _ (omega arith) (nested_append (nested_option m (suc d) test p.1) (mark_cons mark.SEMICOLON d _ (omega arith) (nested_option m (suc d) update p.2)))))
+      (nested_stmt m (suc d) i body p.4)))
   nested_stmt m d i (tree.ForIn each over body) p = word_cons _ word.FOR _ refl (nested_same (ap (λ y. mark_piece mark.OPEN_PAREN d ∷ y) (append_assoc (Print.print_each m d each) (word_piece word.IN d ∷ Print.print m (suc d) over) (mark_piece mark.CLOSE_PAREN d ∷ Print.print_stmt m (suc d) body)))
       (parens _ _ (Print.print_each m d each ++ (word_piece word.IN d ∷ Print.print m (suc d) over)) _ refl refl (nested_append (nested_each m d each p.0) (word_cons _ word.IN _ refl (nested_expr m (suc d) over p.1))) (nested_stmt m (suc d) i body p.3)))
   nested_stmt m d i (tree.Continue at label semi) p = word_cons _ word.CONTINUE _ refl (nested_append (label_nested label d) (semi_nested _ semi d))

@@ -1,4 +1,4 @@
-use Rattle.std.proofs.Common.{rules, refl, arith}
+use Rattle.std.proofs.Common.{refl, arith}
 use Rattle.helper_tasks.proofs.Crewing.{give_step, gave_all}
 use Rattle.helper_tasks.proofs.crew.give_looks.Goals as goal
 

@@ -1,4 +1,4 @@
-use Rattle.std.proofs.Common.{◌<◌, length, rules, refl, ap, arith}
+use Rattle.std.proofs.Common.{◌<◌, length, refl, ap, arith}
 use Rattle.helper_tasks.specs.Crew.{gave_part}
 use Rattle.helper_tasks.proofs.Crewing.{look_step, seam_length}
 use Rattle.helper_tasks.proofs.crew.look_at_all.Goals as goal

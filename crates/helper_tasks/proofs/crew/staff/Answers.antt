@@ -1,4 +1,4 @@
-use Rattle.std.proofs.Common.{◌≡◌, length, map, refl, ap, sym, ◌∙◌}
+use Rattle.std.proofs.Common.{length, ap, sym, ◌∙◌}
 use Rattle.std.proofs.lemmas.List.{length-map}
 use Rattle.helper_tasks.proofs.Finishing.{refilled, staffed_tasks, staffed_shares, staffed_fresh}
 use Rattle.helper_tasks.proofs.crew.staff.Goals as goal

@@ -1,4 +1,4 @@
-use Rattle.std.proofs.Common.{◌≡◌, ◌<◌, length, rules, refl, ap, sym, ◌∙◌, arith}
+use Rattle.std.proofs.Common.{refl, ap, ◌∙◌, arith}
 use Rattle.helper_tasks.specs.Hands.{places}
 use Rattle.helper_tasks.proofs.Settling.{return_fits, return_step, returned_parts}
 use Rattle.helper_tasks.proofs.settle.return_looks.Goals as goal

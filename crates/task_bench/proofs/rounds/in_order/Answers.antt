@@ -1,4 +1,4 @@
-use Rattle.std.proofs.Common.{◌≡◌, ◌+◌, [], ◌∷◌, length, refl, ap, arith, length-append}
+use Rattle.std.proofs.Common.{[], ◌∷◌, length, refl, ap, arith, length-append}
 use Rattle.helper_tasks.proofs.Orders.{order_up}
 use Rattle.task_bench.proofs.rounds.in_order.Goals as goal
 

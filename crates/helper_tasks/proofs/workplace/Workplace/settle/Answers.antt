@@ -1,7 +1,7 @@
-use Rattle.std.proofs.Common.{◌≡◌, ◌<◌, ◌+◌, ◌-◌, ℕ, length, map, get_or, refl, ap, sym, ◌∙◌, subst, arith}
+use Rattle.std.proofs.Common.{length, map, refl, ap, sym, ◌∙◌, subst, arith}
 use Rattle.helper_tasks.specs.Count.{times, total}
 use Rattle.helper_tasks.specs.Desks.{InOrder}
-use Rattle.helper_tasks.specs.Crew.{desk_of, fetcher_of, fetched, popped, came_to, left_by, ran_at, Paired}
+use Rattle.helper_tasks.specs.Crew.{desk_of, fetcher_of, fetched, popped, came_to, left_by, Paired}
 use Rattle.helper_tasks.proofs.Counts.{each-index}
 use Rattle.helper_tasks.proofs.Finishing.{refilled, settle_dismissible, settle_lists, settle_ran, settle_came}
 use Rattle.helper_tasks.proofs.workplace.Workplace.settle.Goals as goal

@@ -1,12 +1,10 @@
 -- The marks that begin with a code point, and that there are none for most.
 use Rattle.std.proofs.Common.{◌≡◌, ◌≢◌, ℕ, List, [], ◌∷◌, Bool, true, false, cond, refl, sym, ◌∙◌, ap, map, length, ◌<◌, ◌≤◌, arith}
-use Rattle.std.specs.Prelude.{◌==◌, ◌&&◌, ◌||◌, not, Option, Some, None, IfSome, find, filter, option_map}
+use Rattle.std.specs.Prelude.{◌==◌, ◌&&◌, ◌||◌, Option, Some, None, IfSome, find, filter, option_map}
 use Rattle.std.proofs.lemmas.List.{length-map}
 use Rattle.unit_text.specs.declared.Point.{Point}
 use Rattle.unit_text.specs.Points.{code_of}
-use Rattle.std.specs.List.{AllByRecursion, list_all}
-use Rattle.std.proofs.lemmas.Bool.{cases_Bool}
-use Rattle.script_scanner.specs.declared.marks.Sign.{Sign}
+use Rattle.std.specs.List.{AllByRecursion}
 use Rattle.script_scanner.specs.Blanks.{begins, first_is}
 use Rattle.script_scanner.specs.Marks.{Mark, marks, fits, begins_no_token, mark_at, mark_from, sign_of}
 use Rattle.script_scanner.proofs.Lists.{find_filter, find_satisfies, filter_none, not_equal, and_left, and_right}

@@ -1,6 +1,6 @@
 -- Digits, one group after the other, and their value.
-use Rattle.std.proofs.Common.{◌≡◌, ℕ, ◌+◌, ◌*◌, ◌<◌, ◌≤◌, zero, suc, List, [], ◌∷◌, map, length, take, drop, Bool, true, false, cond, refl, sym, ◌∙◌, ap, subst, arith, mul-le-mul_left, take-append-drop, get_or}
-use Rattle.std.specs.Prelude.{Option, Some, None, fold, nat_le, ◌&&◌, ◌==◌}
+use Rattle.std.proofs.Common.{◌≡◌, ℕ, ◌+◌, ◌*◌, ◌<◌, ◌≤◌, List, [], ◌∷◌, map, length, take, drop, Bool, true, false, cond, refl, sym, ◌∙◌, ap, subst, arith, mul-le-mul_left, take-append-drop, get_or}
+use Rattle.std.specs.Prelude.{Some, None, fold, nat_le, ◌&&◌, ◌==◌}
 use Rattle.std.specs.Char.{is_digit, digit_value}
 use Rattle.std.proofs.lemmas.Bool.{leb-true}
 use Rattle.std.proofs.lemmas.List.Sums.{fold-append, fold_more}

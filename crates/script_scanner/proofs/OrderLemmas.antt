@@ -1,16 +1,14 @@
 -- The part of a text between two offsets.
-use Rattle.std.proofs.Common.{◌≡◌, ℕ, ◌+◌, ◌-◌, ◌<◌, ◌≤◌, zero, suc, List, [], ◌∷◌, ◌++◌, map, length, take, drop, get_or, Bool, true, false, cond, refl, sym, ◌∙◌, ap, subst, arith, take-append-drop, length-drop, append-nil, inl, inr}
-use Rattle.std.specs.Prelude.{filter, nat_lt, nat_le, ◌&&◌, ◌==◌}
-use Rattle.std.specs.List.{AllWithin}
+use Rattle.std.proofs.Common.{◌≡◌, ℕ, ◌+◌, ◌-◌, ◌<◌, ◌≤◌, zero, suc, List, [], ◌∷◌, ◌++◌, length, take, drop, get_or, Bool, true, false, cond, refl, sym, ◌∙◌, ap, subst, arith, take-append-drop, length-drop, append-nil, inl, inr}
+use Rattle.std.specs.Prelude.{filter, nat_lt, nat_le, ◌&&◌}
 use Rattle.std.specs.List.Sorted.{IsPartitionPoint, IsNonDecreasingBy}
 use Rattle.std.proofs.lemmas.Bool.{cases_Bool, ltb-false, ltb-true, leb-true, leb-false}
 use Rattle.std.proofs.lemmas.List.{get_or-drop}
 use Rattle.std.proofs.lemmas.List.Elements.{filter-append}
 use Rattle.unit_text.specs.declared.Point.{Point}
-use Rattle.unit_text.specs.Points.{code_of, LieEndToEnd}
-use Rattle.script_scanner.specs.Blanks.{first_line_length}
+use Rattle.unit_text.specs.Points.{LieEndToEnd}
 use Rattle.script_scanner.specs.Order.{AreInOrder}
-use Rattle.script_scanner.specs.Tokens.{part, without_first_line}
+use Rattle.script_scanner.specs.Tokens.{part}
 
 -- points in order begin at rising offsets
 begins_from : (at : ℕ) (points : List Point) (i : ℕ) (d : Point) → LieEndToEnd at points → i < length points → at ≤ (get_or points i d).start

@@ -1,6 +1,6 @@
 -- How far a string or a template part is read.
-use Rattle.std.proofs.Common.{◌≡◌, ℕ, ◌+◌, ◌-◌, ◌<◌, ◌≤◌, zero, suc, List, [], ◌∷◌, ◌++◌, map, length, take, drop, refl, sym, ◌∙◌, ap, subst, arith, append_assoc, length-drop}
-use Rattle.std.specs.Prelude.{Option, Some, None, option_map, ⊤}
+use Rattle.std.proofs.Common.{◌≡◌, ℕ, ◌+◌, ◌-◌, ◌<◌, ◌≤◌, zero, suc, List, [], ◌++◌, map, length, drop, refl, sym, ◌∙◌, ap, subst, arith, append_assoc, length-drop}
+use Rattle.std.specs.Prelude.{Option, Some, None, option_map}
 use Rattle.std.proofs.lemmas.List.{nil_from_length, length-map, append-nil}
 use Rattle.unit_text.specs.declared.Point.{Point}
 use Rattle.unit_text.specs.Points.{code_of}
@@ -9,7 +9,6 @@ use Rattle.script_scanner.specs.declared.escapes.Step.{Step}
 use Rattle.script_scanner.specs.declared.escapes.Step.TheVariants.{Add, Skip, Close, Break}
 use Rattle.script_scanner.specs.declared.parts.Ending.{Ending}
 use Rattle.script_scanner.specs.declared.parts.Ending.TheVariants.{Quote, Template}
-use Rattle.script_scanner.specs.declared.parts.Extent.{Extent}
 use Rattle.script_scanner.specs.Parts.{Body, behind, then_body, body_within, body_of, step_at}
 use Rattle.script_scanner.specs.Reads.{ReadsBody}
 use Rattle.script_scanner.proofs.Lists.{map_drop, drop_drop}

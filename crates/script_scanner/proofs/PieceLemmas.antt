@@ -1,6 +1,6 @@
 -- How a token is made of what was read.
-use Rattle.std.proofs.Common.{◌≡◌, ℕ, ◌+◌, ◌<◌, suc, List, [], ◌∷◌, ◌++◌, map, length, take, drop, get_or, Bool, true, false, cond, refl, sym, ◌∙◌, ap, subst, arith, append_assoc, append-nil, add-one}
-use Rattle.std.specs.Prelude.{Option, Some, None, option_map, ◌==◌, ◌||◌, ◌&&◌, if◌then◌else◌}
+use Rattle.std.proofs.Common.{◌≡◌, ℕ, ◌+◌, ◌<◌, List, [], ◌∷◌, ◌++◌, map, length, drop, get_or, Bool, true, false, cond, refl, sym, ◌∙◌, ap, subst, append_assoc, add-one}
+use Rattle.std.specs.Prelude.{Option, Some, None, ◌==◌, ◌||◌, ◌&&◌}
 use Rattle.std.specs.Char.{is_digit}
 use Rattle.std.proofs.Math.Seq.{drop-cons}
 use Rattle.script_grammar.specs.declared.token.Kind.TheVariants as kind

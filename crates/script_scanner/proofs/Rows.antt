@@ -1,16 +1,13 @@
 -- Worked rows: what the definitions say of texts that are written out.
-use Rattle.std.proofs.Common.{◌≡◌, ℕ, List, [], ◌∷◌, refl, Bool, true, false}
-use Rattle.std.specs.Prelude.{Option, Some, None, option_map, codes, ◌++◌}
-use Rattle.script_scanner.specs.declared.blanks.Blank.{Blank}
-use Rattle.script_scanner.specs.declared.escapes.Step.{Step}
+use Rattle.std.proofs.Common.{◌≡◌, [], ◌∷◌, refl, true, false}
+use Rattle.std.specs.Prelude.{Some, None, option_map, codes, ◌++◌}
 use Rattle.script_scanner.specs.declared.escapes.Step.TheVariants.{Add, Skip, Break}
-use Rattle.script_scanner.specs.declared.marks.Sign.{Sign}
 use Rattle.script_scanner.specs.declared.parts.Ending.TheVariants.{Quote, Template}
 use Rattle.script_scanner.specs.Blanks.{blank_at}
 use Rattle.script_scanner.specs.Escapes.{escape_step}
 use Rattle.script_scanner.specs.Marks.{mark_at, sign_of}
-use Rattle.script_scanner.specs.Numbers.{numeral_at, is_spoiled_by}
-use Rattle.script_scanner.specs.Parts.{Body, body_of}
+use Rattle.script_scanner.specs.Numbers.{numeral_at}
+use Rattle.script_scanner.specs.Parts.{body_of}
 use Rattle.script_scanner.specs.Words.{word_at, word_index}
 
 -- a comment of many lines counts as a line end, one of one line does not, and one without end is no blank

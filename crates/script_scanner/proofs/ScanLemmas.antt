@@ -1,9 +1,8 @@
 -- How far a text is scanned.
-use Rattle.std.proofs.Common.{◌≡◌, ℕ, ◌+◌, ◌-◌, ◌<◌, ◌≤◌, ◌⊎◌, inl, inr, zero, suc, List, [], ◌∷◌, ◌++◌, map, length, take, drop, Bool, true, false, refl, sym, ◌∙◌, ap, subst, arith, append_assoc, length-append, length-drop}
+use Rattle.std.proofs.Common.{◌≡◌, ℕ, ◌+◌, ◌-◌, ◌<◌, ◌≤◌, inl, inr, zero, suc, List, [], ◌∷◌, ◌++◌, map, length, drop, Bool, false, refl, sym, ◌∙◌, ap, subst, arith, append_assoc, length-append, length-drop}
 use Rattle.std.specs.Prelude.{Option, Some, None, ◌||◌, slice_get}
 use Rattle.std.specs.List.{AllByRecursion}
 use Rattle.std.proofs.lemmas.List.{append-nil}
-use Rattle.parser_atoms.specs.Places.{Interns, StandsIn}
 use Rattle.script_grammar.specs.declared.token.Token.{Token}
 use Rattle.script_grammar.specs.declared.token.Kind.{Kind}
 use Rattle.unit_text.specs.declared.Point.{Point}
@@ -20,7 +19,7 @@ use Rattle.script_scanner.specs.Blanks.{blank_at}
 use Rattle.script_scanner.specs.Braces.{in_substitution}
 use Rattle.script_scanner.specs.Reads.{FindsPiece, HoldsValue}
 use Rattle.script_scanner.specs.Stands.{HasValue, StandsFor, StandFor, IsValueAmong, GainsOnly, Keeps}
-use Rattle.script_scanner.specs.Tokens.{Lexed, Piece, Value, Text, Number, Nothing, Front, IsBlank, IsToken, IsNeither, front_of, front_at, then_tokens, tokens_within, token_at, last_token, place, braces_after}
+use Rattle.script_scanner.specs.Tokens.{Lexed, Piece, Value, Text, Number, Nothing, front_of, front_at, then_tokens, tokens_within, token_at, last_token, place, braces_after}
 
 module _ {X : Type 0} where
   -- what stands in a list stands there still when more is put behind it

@@ -1,6 +1,6 @@
 -- A word is sought among those that begin with its first letter.
 use Rattle.std.proofs.Common.{◌≡◌, ℕ, List, [], ◌∷◌, Bool, true, false, refl, ap}
-use Rattle.std.specs.Prelude.{◌==◌, ◌&&◌, Option, Some, None, find, filter, option_map}
+use Rattle.std.specs.Prelude.{◌&&◌, None, option_map}
 use Rattle.std.specs.Str.{bytes_eq}
 use Rattle.script_scanner.specs.Blanks.{first_is}
 use Rattle.script_scanner.specs.Words.{Word, words, word_at, word_from, word_index}

@@ -1,8 +1,6 @@
 -- The open braces of a text, the innermost last. ECMA-262, 12th edition, clause 12: the goal symbols InputElementDiv and
 -- InputElementTemplateTail, which tell whether a `}` goes on with a template.
-use Rattle.std.specs.Prelude.{ℕ, ◌-◌, Bool, true, false, List, [], ◌∷◌, ◌++◌, Option, Some, None, take, length, slice_get}
-use Rattle.script_grammar.specs.declared.token.Kind.{Kind}
-use Rattle.script_grammar.specs.declared.token.Kind.TheVariants as kind
+use Rattle.std.specs.Prelude.{◌-◌, Bool, true, false, List, [], ◌∷◌, ◌++◌, Option, Some, None, take, length, slice_get}
 use Rattle.script_scanner.specs.declared.braces.Brace.{Brace}
 use Rattle.script_scanner.specs.declared.braces.Brace.TheVariants.{Block, Substitution}
 

@@ -1,9 +1,9 @@
 -- Escapes in strings and templates. ECMA-262, 12th edition, clause 12.8.4: EscapeSequence and LineContinuation.
-use Rattle.std.specs.Prelude.{ℕ, ◌+◌, ◌*◌, Bool, true, false, ◌||◌, ◌&&◌, ◌==◌, not, nat_lt, nat_le, List, [], ◌∷◌, Option, Some, None, take, drop, if◌then◌else◌}
+use Rattle.std.specs.Prelude.{ℕ, ◌+◌, ◌*◌, Bool, false, ◌&&◌, ◌==◌, not, nat_lt, nat_le, List, [], ◌∷◌, Option, Some, None, take, drop, if◌then◌else◌}
 use Rattle.std.specs.Char.{is_digit, digit_value}
 use Rattle.std.specs.List.{prefix_len}
 use Rattle.script_scanner.specs.declared.escapes.Step.{Step}
-use Rattle.script_scanner.specs.declared.escapes.Step.TheVariants.{Add, Skip, Close, Break}
+use Rattle.script_scanner.specs.declared.escapes.Step.TheVariants.{Add, Skip, Break}
 use Rattle.script_scanner.specs.Blanks.{begins, is_line_end, line_end_length}
 use Rattle.script_scanner.specs.Numbers.{digits_value}
 

@@ -1,5 +1,5 @@
 -- Marks: the punctuators. ECMA-262, 12th edition, clause 12.7.
-use Rattle.std.specs.Prelude.{ℕ, Bool, true, false, ◌||◌, ◌&&◌, not, List, [], ◌∷◌, Option, Some, None, codes, length, drop, find, filter, if◌then◌else◌}
+use Rattle.std.specs.Prelude.{ℕ, Bool, true, false, ◌||◌, ◌&&◌, not, List, [], ◌∷◌, Option, None, codes, length, drop, find, filter, if◌then◌else◌}
 use Rattle.script_scanner.specs.declared.marks.Sign.{Sign}
 use Rattle.script_scanner.specs.Blanks.{begins, first_is}
 use Rattle.script_scanner.specs.Escapes.{begins_with_digit}

@@ -1,5 +1,5 @@
 -- Numbers. ECMA-262, 12th edition, clause 12.8.3, of which this project has whole numbers in four bases up to 2^53 - 1.
-use Rattle.std.specs.Prelude.{ℕ, ◌+◌, ◌*◌, Bool, true, false, ◌||◌, ◌&&◌, ◌==◌, not, is_some, nat_le, List, [], ◌∷◌, Option, Some, None, take, drop, fold, if◌then◌else◌}
+use Rattle.std.specs.Prelude.{ℕ, ◌+◌, ◌*◌, Bool, true, false, ◌||◌, ◌&&◌, ◌==◌, nat_le, List, [], ◌∷◌, Option, Some, None, take, fold, if◌then◌else◌}
 use Rattle.std.specs.Char.{is_digit, digit_value}
 use Rattle.script_scanner.specs.declared.numbers.Numeral.{Numeral}
 use Rattle.script_scanner.specs.Names.{is_name_start}

@@ -1,5 +1,5 @@
 -- Strings and template parts. ECMA-262, 12th edition, clauses 12.8.4 and 12.8.6.
-use Rattle.std.specs.Prelude.{ℕ, zero, suc, ◌+◌, Bool, true, false, ◌||◌, ◌&&◌, ◌==◌, List, [], ◌∷◌, ◌++◌, Option, Some, None, option_map, length, drop, if◌then◌else◌}
+use Rattle.std.specs.Prelude.{ℕ, zero, suc, ◌+◌, ◌||◌, ◌&&◌, ◌==◌, List, [], ◌∷◌, ◌++◌, Option, Some, None, option_map, length, drop, if◌then◌else◌}
 use Rattle.unit_text.specs.Units.{code_units}
 use Rattle.script_scanner.specs.declared.escapes.Step.{Step}
 use Rattle.script_scanner.specs.declared.escapes.Step.TheVariants.{Add, Skip, Close, Break}

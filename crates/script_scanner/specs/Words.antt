@@ -1,5 +1,5 @@
 -- Words. ECMA-262, 12th edition, clause 12.6.2: ReservedWord, less `await`, with the words that strict code reserves.
-use Rattle.std.specs.Prelude.{ℕ, List, [], ◌∷◌, Option, Some, None, codes, find, filter}
+use Rattle.std.specs.Prelude.{ℕ, List, [], ◌∷◌, Option, codes, find, filter}
 use Rattle.script_scanner.specs.Blanks.{first_is}
 use Rattle.std.specs.Str.{bytes_eq}
 

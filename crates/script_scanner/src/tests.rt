@@ -8,7 +8,7 @@ use unit_text::decode;
 fn tokens_have_their_places(rt: HostRuntime) -> Result<(), Fail> {
     let points = decode(rt.alloc(), b"let a\n= `${1}`")?;
     let mut atoms = Atoms::new(rt.alloc());
-    let tokens = scan(rt.alloc(), points.as_slice(), 0, 15, &mut atoms)?;
+    let tokens = scan(rt.alloc(), points.as_slice(), 0, 14, &mut atoms)?;
     assert_eq!(rt; tokens.len(), 7);
     assert_eq!(rt; tokens[0], token(Kind::Word(word::LET), 0, 0, 3, false));
     assert_eq!(rt; tokens[1], token(Kind::Name, 1, 4, 5, false));
@@ -16,7 +16,7 @@ fn tokens_have_their_places(rt: HostRuntime) -> Result<(), Fail> {
     assert_eq!(rt; tokens[3], token(Kind::TemplateHead, 2, 8, 11, false));
     assert_eq!(rt; tokens[4], token(Kind::Number, 1, 11, 12, false));
     assert_eq!(rt; tokens[5], token(Kind::TemplateTail, 2, 12, 14, false));
-    assert_eq!(rt; tokens[6], token(Kind::End, 0, 15, 15, false));
+    assert_eq!(rt; tokens[6], token(Kind::End, 0, 14, 14, false));
     Ok(())
 }
 

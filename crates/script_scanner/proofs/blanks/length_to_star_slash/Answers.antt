@@ -1,4 +1,4 @@
-use Rattle.std.proofs.Common.{◌≡◌, arith, false, sym, ◌∙◌, ap, map, [], ◌∷◌}
+use Rattle.std.proofs.Common.{arith, sym, ◌∙◌, ap, map, [], ◌∷◌}
 use Rattle.unit_text.specs.Points.{code_of}
 use Rattle.script_scanner.specs.Blanks.{begins}
 use Rattle.script_scanner.proofs.BlankLemmas.{star_more}

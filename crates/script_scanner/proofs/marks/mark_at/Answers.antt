@@ -1,6 +1,6 @@
-use Rattle.std.proofs.Common.{◌≡◌, ◌∙◌, sym, ap, subst, ℕ, List, [], ◌∷◌, ◌<◌, ◌≤◌, length}
-use Rattle.std.specs.Prelude.{option_map, map, Option, Some, None, IfSome}
-use Rattle.std.proofs.lemmas.List.{nil_from_length, length-map}
+use Rattle.std.proofs.Common.{◌≡◌, ◌∙◌, sym, ap, subst, List, [], ◌<◌, ◌≤◌, length}
+use Rattle.std.specs.Prelude.{option_map, map, Option, IfSome}
+use Rattle.std.proofs.lemmas.List.{nil_from_length}
 use Rattle.unit_text.specs.declared.Point.{Point}
 use Rattle.unit_text.specs.Points.{code_of}
 use Rattle.script_scanner.specs.declared.marks.Sign.{Sign}

@@ -1,4 +1,4 @@
-use Rattle.std.proofs.Common.{◌≡◌, ◌<◌, ◌∙◌, sym, arith, ap, map, length, length-drop, ℕ, List}
+use Rattle.std.proofs.Common.{◌∙◌, sym, arith, ap, map, length, length-drop, ℕ}
 use Rattle.unit_text.specs.Points.{code_of}
 use Rattle.script_scanner.specs.Numbers.{digit_length}
 use Rattle.script_scanner.proofs.NumberLemmas.{digits_on, digits_done}

@@ -1,4 +1,4 @@
-use Rattle.std.proofs.Common.{◌≡◌, ◌≤◌, ◌∙◌, sym, ap, subst, ℕ, List, map, length, drop, arith}
+use Rattle.std.proofs.Common.{◌≤◌, ◌∙◌, sym, ap, subst, List, map, length}
 use Rattle.unit_text.specs.declared.Point.{Point}
 use Rattle.unit_text.specs.Points.{code_of}
 use Rattle.script_scanner.specs.Parts.{step_at}

@@ -1,4 +1,4 @@
-use Rattle.std.proofs.Common.{◌≡◌, ◌∙◌, sym, ap, ℕ, List, [], ◌∷◌, map, take, ◌++◌}
+use Rattle.std.proofs.Common.{◌≡◌, ◌∙◌, ap, ℕ, List, map, take, ◌++◌}
 use Rattle.std.specs.Prelude.{option_map}
 use Rattle.unit_text.specs.Points.{code_of}
 use Rattle.unit_text.specs.Units.{text_units}

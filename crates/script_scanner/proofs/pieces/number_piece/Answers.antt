@@ -1,9 +1,7 @@
-use Rattle.std.proofs.Common.{◌≡◌, ◌∙◌, sym, ap, ℕ, List, map, drop, true, false, Bool}
-use Rattle.std.specs.Prelude.{Some}
+use Rattle.std.proofs.Common.{◌∙◌, sym, ap, List, map}
 use Rattle.unit_text.specs.Points.{code_of}
 use Rattle.unit_text.specs.declared.Point.{Point}
-use Rattle.script_scanner.specs.declared.numbers.Numeral.{Numeral}
-use Rattle.script_scanner.specs.Numbers.{numeral_at, is_spoiled_by}
+use Rattle.script_scanner.specs.Numbers.{is_spoiled_by}
 use Rattle.script_scanner.proofs.Lists.{map_drop}
 use Rattle.script_scanner.proofs.PieceLemmas.{number_spoiled, number_found}
 use Rattle.script_scanner.proofs.pieces.number_piece.Goals as goal

@@ -1,4 +1,4 @@
-use Rattle.std.proofs.Common.{◌≡◌, ◌∙◌, sym, ℕ, List, map, eq-eqb}
+use Rattle.std.proofs.Common.{◌∙◌, sym, map, eq-eqb}
 use Rattle.std.specs.Prelude.{Some}
 use Rattle.std.proofs.lemmas.List.{nil_from_length}
 use Rattle.script_grammar.specs.declared.token.Kind.TheVariants as kind

@@ -1,5 +1,4 @@
-use Rattle.std.proofs.Common.{◌≡◌, ◌+◌, ◌<◌, ◌≤◌, ◌∙◌, length, drop, sym, refl, ap, subst, arith, List}
-use Rattle.unit_text.specs.declared.Point.{Point}
+use Rattle.std.proofs.Common.{◌+◌, arith}
 use Rattle.script_scanner.proofs.ScanLemmas.{scanning_first, stepped, stepped_behind, resumed}
 use Rattle.script_scanner.proofs.scanning.Scanner.run.Goals as goal
 

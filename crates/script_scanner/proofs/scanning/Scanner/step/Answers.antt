@@ -1,5 +1,5 @@
-use Rattle.std.proofs.Common.{◌≡◌, ◌<◌, ◌≤◌, length, ◌∙◌, sym, refl, ap, subst, arith}
-use Rattle.std.specs.Prelude.{Option, Some, map, IfSome}
+use Rattle.std.proofs.Common.{◌<◌, ◌≤◌, length, ◌∙◌, sym, refl, subst}
+use Rattle.std.specs.Prelude.{Option, map, IfSome}
 use Rattle.unit_text.specs.Points.{code_of}
 use Rattle.script_scanner.specs.declared.pieces.Found.{Found}
 use Rattle.script_scanner.proofs.ScanLemmas.{moves_blank, moves_token, moves_end, finds_under}

@@ -14,6 +14,8 @@ use Rattle.bytecode_buf.specs.declared.opcode.Op.TheVariants as op
 use Rattle.bytecode_buf.specs.declared.waits.Aim.TheVariants as aim
 use Rattle.bytecode_buf.specs.Command.{Command, plain, counted, named}
 use Rattle.bytecode_buf.specs.Pieces.{Piece, Whole, Waiting, Code, one, here}
+use Rattle.emit_exprs.specs.declared.uses.Use.{Use}
+use Rattle.emit_exprs.specs.declared.uses.Use.TheVariants.{Plainly, Called, Reached, Deleted}
 use Rattle.emit_exprs.specs.Names.{read, write, base}
 use Rattle.emit_exprs.specs.Whole.{whole, just}
 use Rattle.emit_exprs.specs.Operators.{binary_op, assign_op, prefix_op, update_op, Joining, FromLeft, FromRight, Shortcut, joining, number_op}
@@ -60,16 +62,6 @@ text_behind (unit ∷ units) = whole (named op.String (unit ∷ units) ∷ plain
 
 -- ---- what is done with a value, or with the place that it came from
 
-pub data Use : Type 0 where
-  -- the value is wanted
-  Plainly : Use
-  -- it is called: the value, and below it the one that it is called on
-  Called : Use
-  -- the place is wanted, to read and write it
-  Reached : Use
-  -- the place is deleted
-  Deleted : Use
-
 -- behind a value that is no property
 abbrev pub used_value : Use → Code
 used_value Plainly = []
@@ -84,12 +76,18 @@ used_dot Called name = whole (plain op.Dup ∷ named op.GetProp name ∷ plain o
 used_dot Reached name = []
 used_dot Deleted name = one (named op.StrictDelProp name)
 
--- behind an object, at the property of a computed key
-abbrev pub used_index : Use → Code → Code
-used_index Plainly key = key ++ just op.GetElem
-used_index Called key = just op.Dup ++ key ++ whole (plain op.GetElem ∷ plain op.Swap ∷ [])
-used_index Reached key = key
-used_index Deleted key = key ++ just op.StrictDelElem
+-- behind an object, before the key of one of its properties and behind it
+abbrev pub before_index : Use → Code
+before_index Plainly = []
+before_index Called = just op.Dup
+before_index Reached = []
+before_index Deleted = []
+
+abbrev pub behind_index : Use → Code
+behind_index Plainly = just op.GetElem
+behind_index Called = whole (plain op.GetElem ∷ plain op.Swap ∷ [])
+behind_index Reached = []
+behind_index Deleted = just op.StrictDelElem
 
 -- a name: its place is reached by what stands below a write
 abbrev pub used_name : Use → Scene → List ℕ → Code
@@ -334,7 +332,7 @@ abbrev mutual
 
   pub tail_code : Scene → Use → Tail → Code
   tail_code scene wanted (Dot name) = used_dot wanted name
-  tail_code scene wanted (Index key) = used_index wanted (code_of scene Plainly key)
+  tail_code scene wanted (Index key) = before_index wanted ++ code_of scene Plainly key ++ behind_index wanted
   tail_code scene wanted (Call items comma) = exprs_code scene items ++ one (counted op.Call (args_size items)) ++ used_value wanted
 
   pub key_code : Scene → Key → Code

@@ -1,5 +1,7 @@
 pub mod Exprs
 pub mod Names
+pub mod OneProof
 pub mod Operators
+pub mod Sites
 pub mod Steps
 pub mod Whole

@@ -11,10 +11,15 @@
 
 mod emit;
 mod names;
+mod scenes;
+mod site;
 mod steps;
+mod uses;
 
 pub use emit::{Emit, base, init, read, write};
 pub use names::Access;
+pub use site::Site;
+pub use uses::Use;
 
 #[cfg(test)]
 mod tests;

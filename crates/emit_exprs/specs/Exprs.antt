@@ -18,7 +18,11 @@ use Rattle.emit_exprs.specs.declared.uses.Use.{Use}
 use Rattle.emit_exprs.specs.declared.uses.Use.TheVariants.{Plainly, Called, Reached, Deleted}
 use Rattle.emit_exprs.specs.Names.{read, write, base}
 use Rattle.emit_exprs.specs.Whole.{whole, just}
-use Rattle.emit_exprs.specs.Operators.{binary_op, assign_op, prefix_op, update_op, Joining, FromLeft, FromRight, Shortcut, joining, number_op}
+use Rattle.emit_exprs.specs.Operators.{binary_op, assign_op, prefix_op, update_op, joining, number_form}
+use Rattle.emit_exprs.specs.declared.operators.Joining.{Joining}
+use Rattle.emit_exprs.specs.declared.operators.Joining.TheVariants.{FromLeft, FromRight, Shortcut}
+use Rattle.emit_exprs.specs.declared.operators.NumberForm.{NumberForm}
+use Rattle.emit_exprs.specs.declared.operators.NumberForm.TheVariants as form
 
 -- where an expression stands: the scopes around it, and where the functions directly in its function start, by rising start
 pub record Scene : Type 0 where
@@ -36,13 +40,17 @@ writing scene name = whole (write name (resolve scene.chain name))
 abbrev pub basing : Scene → List ℕ → Code
 basing scene name = whole (base name (resolve scene.chain name))
 
-abbrev pub number_command : Op → ℕ → Command
-number_command op.Zero n = plain op.Zero
-number_command op.One n = plain op.One
-number_command opcode n = counted opcode n
+abbrev pub number_by : NumberForm → ℕ → Code
+number_by form.Zero n = just op.Zero
+number_by form.One n = just op.One
+number_by form.Byte n = one (counted op.Int8 n)
+number_by form.Short n = one (counted op.Uint16 n)
+number_by form.Triple n = one (counted op.Uint24 n)
+number_by form.Long n = one (counted op.Int32 n)
+number_by form.Wide n = one (counted op.Double n)
 
 abbrev pub number_code : ℕ → Code
-number_code n = one (number_command (number_op n) n)
+number_code n = number_by (number_form n) n
 
 -- `this` of the script, or of the function around
 abbrev pub this_at : Place → List Command
@@ -52,9 +60,15 @@ this_at (place.Frame slot kind) = read this_text (place.Frame slot kind)
 this_at (place.Env hops slot kind) = read this_text (place.Env hops slot kind)
 this_at place.Callee = read this_text place.Callee
 
--- the place of a function among those directly in its function
+abbrev pub this_code : Scene → Code
+this_code scene = whole (this_at (resolve scene.chain this_text))
+
+-- the place of a function among those directly in its function, by its start
+abbrev pub lambda_at : Scene → ℕ → Code
+lambda_at scene start = one (counted op.Lambda (count_by (λ s. nat_lt s start) scene.starts))
+
 abbrev pub lambda_code : Scene → Function → Code
-lambda_code scene (function _ start _ _ _ _ _ _) = one (counted op.Lambda (count_by (λ s. nat_lt s start) scene.starts))
+lambda_code scene (function _ start _ _ _ _ _ _) = lambda_at scene start
 
 abbrev pub text_behind : List ℕ → Code
 text_behind [] = []
@@ -159,10 +173,12 @@ updating scene true sign target = loading scene target ++ whole (plain op.ToNume
 updating scene false sign target =
     loading scene target ++ whole (plain op.ToNumeric ∷ plain op.Dup ∷ []) ++ keeping (reach_size scene target) ++ just (update_op sign) ++ storing scene target ++ just op.Pop
 
--- `=` and assignments with an operator, on a place that was reached
-abbrev pub assigning : Scene → ℕ → Target → Code → Code
-assigning scene sign target value =
-    if nat_eq sign mark.ASSIGN then value ++ storing scene target else (loading scene target ++ value ++ just (assign_op sign) ++ storing scene target)
+-- `=` and assignments with an operator, on a place that was reached: before the value, and behind it
+abbrev pub before_value : Scene → ℕ → Target → Code
+before_value scene sign target = if nat_eq sign mark.ASSIGN then [] else loading scene target
+
+abbrev pub behind_value : Scene → ℕ → Target → Code
+behind_value scene sign target = (if nat_eq sign mark.ASSIGN then [] else just (assign_op sign)) ++ storing scene target
 
 abbrev pub is_name : Expr → Bool
 is_name (Name name) = true
@@ -267,7 +283,7 @@ pairing key computed value = if is_proto key then value ++ just op.MutateProto e
 
 abbrev mutual
   pub code_of : Scene → Use → Expr → Code
-  code_of scene wanted (This at) = whole (this_at (resolve scene.chain this_text)) ++ used_value wanted
+  code_of scene wanted (This at) = this_code scene ++ used_value wanted
   code_of scene wanted (Name name) = used_name wanted scene name.text
   code_of scene wanted (Null at) = just op.Null ++ used_value wanted
   code_of scene wanted (True at) = just op.True ++ used_value wanted
@@ -290,7 +306,7 @@ abbrev mutual
   code_of scene wanted (Cond test then_value else_value) =
       here aim.After (here aim.Otherwise (code_of scene Plainly test ++ (Waiting op.JumpIfFalse aim.Otherwise ∷ code_of scene Plainly then_value) ++ (Waiting op.Goto aim.After ∷ [])) ++ code_of scene Plainly else_value)
       ++ used_value wanted
-  code_of scene wanted (Assign sign target value) = code_of scene Reached target ++ assigning scene sign (target_of target) (code_of scene Plainly value) ++ used_value wanted
+  code_of scene wanted (Assign sign target value) = code_of scene Reached target ++ before_value scene sign (target_of target) ++ code_of scene Plainly value ++ behind_value scene sign (target_of target) ++ used_value wanted
   code_of scene wanted (Comma items) = comma_code scene items ++ used_value wanted
 
   -- arguments, one after the other

@@ -4,4 +4,5 @@ pub mod OneProof
 pub mod Operators
 pub mod Sites
 pub mod Steps
+pub mod Targets
 pub mod Whole

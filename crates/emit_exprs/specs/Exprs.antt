@@ -1,19 +1,18 @@
 -- The code of expressions: one equation for each of their forms. What an expression does is ECMA-262's, 12th edition,
 -- clause 13; the instructions are this project's own choice. Parentheses are looked through everywhere.
-use Rattle.std.specs.Prelude.{ℕ, ◌+◌, Bool, true, false, nat_eq, nat_le, nat_lt, bytes_eq, codes, if◌then◌else◌, List, [], ◌∷◌, ◌++◌, map, count_by, Option, Some, None}
+use Rattle.std.specs.Prelude.{ℕ, ◌+◌, Bool, true, false, nat_eq, nat_lt, bytes_eq, codes, if◌then◌else◌, List, [], ◌∷◌, ◌++◌, count_by}
 use Rattle.script_grammar.specs.declared.token.mark.TheConstants as mark
 use Rattle.script_grammar.specs.declared.token.word.TheConstants as word
-use Rattle.script_grammar.specs.Tree.{Named, Expr, This, Name, Null, True, False, Number, Str, Template, Array, Object, Func, Paren, Chain, New, Unary, Update, Binary, Cond, Assign, Comma, Exprs, no_exprs, more_exprs, MaybeExpr, no_expr, some_expr, MaybeArgs, no_args, some_args, Parts, no_parts, more_parts, Items, no_items, more_items, Operands, no_operands, more_operands, Tail, Dot, Index, Call, Tails, no_tails, more_tails, Key, WordKey, StrKey, NumberKey, ComputedKey, Prop, Short, Pair, Method, Get, Set, Props, no_props, more_props, Function, function}
+use Rattle.script_grammar.specs.Tree.{Expr, This, Name, Null, True, False, Number, Str, Template, Array, Object, Func, Paren, Chain, New, Unary, Update, Binary, Cond, Assign, Comma, Exprs, no_exprs, more_exprs, MaybeExpr, no_expr, some_expr, MaybeArgs, no_args, some_args, Parts, no_parts, more_parts, Items, no_items, more_items, Operands, no_operands, more_operands, Tail, Dot, Index, Call, Tails, no_tails, more_tails, Key, WordKey, StrKey, NumberKey, ComputedKey, Prop, Short, Pair, Method, Get, Set, Props, no_props, more_props, Function, function}
 use Rattle.stencil_data.specs.declared.scopes.Place.{Place}
 use Rattle.stencil_data.specs.declared.scopes.Place.TheVariants as place
 use Rattle.stencil_data.specs.LinkView.{LinkView}
 use Rattle.stencil_data.specs.Resolve.{resolve}
 use Rattle.scope_analysis.specs.Uses.{this_text}
-use Rattle.bytecode_buf.specs.declared.opcode.Op.{Op}
 use Rattle.bytecode_buf.specs.declared.opcode.Op.TheVariants as op
 use Rattle.bytecode_buf.specs.declared.waits.Aim.TheVariants as aim
 use Rattle.bytecode_buf.specs.Command.{Command, plain, counted, named}
-use Rattle.bytecode_buf.specs.Pieces.{Piece, Whole, Waiting, Code, one, here}
+use Rattle.bytecode_buf.specs.Pieces.{Waiting, Code, one, here}
 use Rattle.emit_exprs.specs.declared.uses.Use.{Use}
 use Rattle.emit_exprs.specs.declared.uses.Use.TheVariants.{Plainly, Called, Reached, Deleted}
 use Rattle.emit_exprs.specs.Names.{read, write, base}

@@ -1,6 +1,6 @@
 -- Which opcode an operator is. What the operators do is ECMA-262's, 12th edition, clauses 13.4 to 13.15; the opcodes are
 -- this project's own choice.
-use Rattle.std.specs.Prelude.{ℕ, Bool, true, false, nat_eq, nat_le, if◌then◌else◌, ◌<◌, ◌^◌, List, [], ◌∷◌, find, Option, Some, None}
+use Rattle.std.specs.Prelude.{ℕ, Bool, true, false, nat_eq, nat_le, if◌then◌else◌, ◌<◌, ◌^◌, List, find, Option, Some, None}
 use Rattle.emit_exprs.specs.declared.operators.Meaning.{Meaning}
 use Rattle.emit_exprs.specs.declared.operators.TheConstants.{WORD_OPS, BINARY_OPS, ASSIGN_OPS, PREFIX_OPS}
 use Rattle.emit_exprs.specs.declared.operators.Joining.{Joining}
@@ -8,7 +8,6 @@ use Rattle.emit_exprs.specs.declared.operators.Joining.TheVariants.{FromLeft, Fr
 use Rattle.emit_exprs.specs.declared.operators.NumberForm.{NumberForm}
 use Rattle.emit_exprs.specs.declared.operators.NumberForm.TheVariants as form
 use Rattle.script_grammar.specs.declared.token.mark.TheConstants as mark
-use Rattle.script_grammar.specs.declared.token.word.TheConstants as word
 use Rattle.bytecode_buf.specs.declared.opcode.Op.{Op}
 use Rattle.bytecode_buf.specs.declared.opcode.Op.TheVariants as op
 

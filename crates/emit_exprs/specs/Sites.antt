@@ -1,7 +1,6 @@
 -- What a site of the code is in the model.
 use Rattle.std.specs.Prelude.{ℕ, List, [], map, slice_index_or}
 use Rattle.stencil_data.specs.declared.functions.Extent.{Extent}
-use Rattle.script_grammar.specs.Interpretation.{Interpretation}
 use Rattle.bytecode_buf.specs.Pieces.{Code}
 use Rattle.bytecode_buf.specs.Emits.{Emits}
 use Rattle.emit_exprs.specs.declared.site.Site.{Site}

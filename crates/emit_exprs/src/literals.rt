@@ -8,16 +8,14 @@ ghost use Rattle.emit_exprs.specs.Exprs as code;
 ghost use Rattle.emit_exprs.specs.Sites.{EmitsAt, scene_of};
 ghost use Rattle.emit_exprs.specs.Whole.{whole};
 
-use std::alloc::AllocError;
-
-use bytecode_buf::{CodeBuf, Op};
-use scope_analysis::resolve;
-use stencil_data::{Extent, Place, Text};
-
 use crate::names::{access_of_kind, read_env, read_frame};
 use crate::operators::{NumberForm, number_form};
 use crate::site::Site;
 use crate::steps::{counted, plain};
+use bytecode_buf::{CodeBuf, Op};
+use scope_analysis::resolve;
+use std::alloc::AllocError;
+use stencil_data::{Extent, Place, Text};
 
 // `.this`, the name under which a function finds `this`.
 const THIS: [u16; 5] = [46, 116, 104, 105, 115];

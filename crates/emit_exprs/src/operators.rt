@@ -41,51 +41,153 @@ pub enum NumberForm {
 }
 
 /// The word `in`; `instanceof` is the other one.
-pub const WORD_OPS: [Meaning; 1] = [Meaning { sign: word::IN, op: Op::In }];
+pub const WORD_OPS: [Meaning; 1] = [Meaning {
+    sign: word::IN,
+    op: Op::In,
+}];
 
 /// The binary operators that are marks, but for `**`.
 pub const BINARY_OPS: [Meaning; 19] = [
-    Meaning { sign: mark::LESS, op: Op::Lt },
-    Meaning { sign: mark::GREATER, op: Op::Gt },
-    Meaning { sign: mark::LESS_EQUAL, op: Op::Le },
-    Meaning { sign: mark::GREATER_EQUAL, op: Op::Ge },
-    Meaning { sign: mark::EQUAL, op: Op::Eq },
-    Meaning { sign: mark::NOT_EQUAL, op: Op::Ne },
-    Meaning { sign: mark::STRICT_EQUAL, op: Op::StrictEq },
-    Meaning { sign: mark::STRICT_NOT_EQUAL, op: Op::StrictNe },
-    Meaning { sign: mark::PLUS, op: Op::Add },
-    Meaning { sign: mark::MINUS, op: Op::Sub },
-    Meaning { sign: mark::TIMES, op: Op::Mul },
-    Meaning { sign: mark::DIVIDE, op: Op::Div },
-    Meaning { sign: mark::REMAINDER, op: Op::Mod },
-    Meaning { sign: mark::LEFT_SHIFT, op: Op::Lsh },
-    Meaning { sign: mark::RIGHT_SHIFT, op: Op::Rsh },
-    Meaning { sign: mark::UNSIGNED_RIGHT_SHIFT, op: Op::Ursh },
-    Meaning { sign: mark::BIT_AND, op: Op::BitAnd },
-    Meaning { sign: mark::BIT_OR, op: Op::BitOr },
-    Meaning { sign: mark::BIT_XOR, op: Op::BitXor },
+    Meaning {
+        sign: mark::LESS,
+        op: Op::Lt,
+    },
+    Meaning {
+        sign: mark::GREATER,
+        op: Op::Gt,
+    },
+    Meaning {
+        sign: mark::LESS_EQUAL,
+        op: Op::Le,
+    },
+    Meaning {
+        sign: mark::GREATER_EQUAL,
+        op: Op::Ge,
+    },
+    Meaning {
+        sign: mark::EQUAL,
+        op: Op::Eq,
+    },
+    Meaning {
+        sign: mark::NOT_EQUAL,
+        op: Op::Ne,
+    },
+    Meaning {
+        sign: mark::STRICT_EQUAL,
+        op: Op::StrictEq,
+    },
+    Meaning {
+        sign: mark::STRICT_NOT_EQUAL,
+        op: Op::StrictNe,
+    },
+    Meaning {
+        sign: mark::PLUS,
+        op: Op::Add,
+    },
+    Meaning {
+        sign: mark::MINUS,
+        op: Op::Sub,
+    },
+    Meaning {
+        sign: mark::TIMES,
+        op: Op::Mul,
+    },
+    Meaning {
+        sign: mark::DIVIDE,
+        op: Op::Div,
+    },
+    Meaning {
+        sign: mark::REMAINDER,
+        op: Op::Mod,
+    },
+    Meaning {
+        sign: mark::LEFT_SHIFT,
+        op: Op::Lsh,
+    },
+    Meaning {
+        sign: mark::RIGHT_SHIFT,
+        op: Op::Rsh,
+    },
+    Meaning {
+        sign: mark::UNSIGNED_RIGHT_SHIFT,
+        op: Op::Ursh,
+    },
+    Meaning {
+        sign: mark::BIT_AND,
+        op: Op::BitAnd,
+    },
+    Meaning {
+        sign: mark::BIT_OR,
+        op: Op::BitOr,
+    },
+    Meaning {
+        sign: mark::BIT_XOR,
+        op: Op::BitXor,
+    },
 ];
 
 /// The assignments with an operator, but for `**=`.
 pub const ASSIGN_OPS: [Meaning; 11] = [
-    Meaning { sign: mark::PLUS_ASSIGN, op: Op::Add },
-    Meaning { sign: mark::MINUS_ASSIGN, op: Op::Sub },
-    Meaning { sign: mark::TIMES_ASSIGN, op: Op::Mul },
-    Meaning { sign: mark::DIVIDE_ASSIGN, op: Op::Div },
-    Meaning { sign: mark::REMAINDER_ASSIGN, op: Op::Mod },
-    Meaning { sign: mark::LEFT_SHIFT_ASSIGN, op: Op::Lsh },
-    Meaning { sign: mark::RIGHT_SHIFT_ASSIGN, op: Op::Rsh },
-    Meaning { sign: mark::UNSIGNED_RIGHT_SHIFT_ASSIGN, op: Op::Ursh },
-    Meaning { sign: mark::BIT_AND_ASSIGN, op: Op::BitAnd },
-    Meaning { sign: mark::BIT_OR_ASSIGN, op: Op::BitOr },
-    Meaning { sign: mark::BIT_XOR_ASSIGN, op: Op::BitXor },
+    Meaning {
+        sign: mark::PLUS_ASSIGN,
+        op: Op::Add,
+    },
+    Meaning {
+        sign: mark::MINUS_ASSIGN,
+        op: Op::Sub,
+    },
+    Meaning {
+        sign: mark::TIMES_ASSIGN,
+        op: Op::Mul,
+    },
+    Meaning {
+        sign: mark::DIVIDE_ASSIGN,
+        op: Op::Div,
+    },
+    Meaning {
+        sign: mark::REMAINDER_ASSIGN,
+        op: Op::Mod,
+    },
+    Meaning {
+        sign: mark::LEFT_SHIFT_ASSIGN,
+        op: Op::Lsh,
+    },
+    Meaning {
+        sign: mark::RIGHT_SHIFT_ASSIGN,
+        op: Op::Rsh,
+    },
+    Meaning {
+        sign: mark::UNSIGNED_RIGHT_SHIFT_ASSIGN,
+        op: Op::Ursh,
+    },
+    Meaning {
+        sign: mark::BIT_AND_ASSIGN,
+        op: Op::BitAnd,
+    },
+    Meaning {
+        sign: mark::BIT_OR_ASSIGN,
+        op: Op::BitOr,
+    },
+    Meaning {
+        sign: mark::BIT_XOR_ASSIGN,
+        op: Op::BitXor,
+    },
 ];
 
 /// The prefix operators that are marks, but for `~`.
 pub const PREFIX_OPS: [Meaning; 3] = [
-    Meaning { sign: mark::PLUS, op: Op::Pos },
-    Meaning { sign: mark::MINUS, op: Op::Neg },
-    Meaning { sign: mark::NOT, op: Op::Not },
+    Meaning {
+        sign: mark::PLUS,
+        op: Op::Pos,
+    },
+    Meaning {
+        sign: mark::MINUS,
+        op: Op::Neg,
+    },
+    Meaning {
+        sign: mark::NOT,
+        op: Op::Not,
+    },
 ];
 
 fn meaning_of<'a>(table: &'a [Meaning], sign: u8) -> Option<&'a Meaning>
@@ -136,7 +238,11 @@ pub fn prefix_op(is_word: bool, sign: u8) -> Op
 pub fn update_op(sign: u8) -> Op
     ensures { result ≡ code.update_op sign }
 {
-    if sign == mark::INCREMENT { Op::Inc } else { Op::Dec }
+    if sign == mark::INCREMENT {
+        Op::Inc
+    } else {
+        Op::Dec
+    }
 }
 
 fn mark_joining(sign: u8) -> Joining
@@ -159,7 +265,11 @@ fn mark_joining(sign: u8) -> Joining
 pub fn joined_by(is_word: bool, sign: u8) -> Joining
     ensures { result ≡ code.joining is_word sign }
 {
-    if is_word { Joining::FromLeft } else { mark_joining(sign) }
+    if is_word {
+        Joining::FromLeft
+    } else {
+        mark_joining(sign)
+    }
 }
 
 /// The shortest form of a number.

@@ -5,14 +5,12 @@ ghost use Rattle.stencil_data.specs.Resolve as defined;
 ghost use Rattle.emit_exprs.specs.Exprs as code;
 ghost use Rattle.emit_exprs.specs.Sites.{EmitsAt, scene_of, text_in};
 
-use std::alloc::AllocError;
-
-use bytecode_buf::CodeBuf;
-use scope_analysis::resolve;
-use stencil_data::{Place, Text};
-
 use crate::names::{base_at, read_at, write_at};
 use crate::site::Site;
+use bytecode_buf::CodeBuf;
+use scope_analysis::resolve;
+use std::alloc::AllocError;
+use stencil_data::{Place, Text};
 
 /// Where the name with this atom lives.
 pub fn find_place(site: &Site, atom: u32) -> Place

@@ -4,7 +4,6 @@ ghost use Rattle.stencil_data.specs.Fits.{LinksFit};
 ghost use Rattle.emit_exprs.specs.OneProof.{LinksFit-prop};
 
 use std::alloc::Global;
-
 use stencil_data::{Chain, Extent, Text};
 
 /// What is the same for all of an expression: the scopes around it, the texts of its atoms, and the extents of the

@@ -7,13 +7,11 @@ ghost use Rattle.emit_exprs.specs.Sites.{EmitsAt, scene_of};
 ghost use Rattle.emit_exprs.specs.Targets.{target_in};
 ghost use Rattle.emit_exprs.specs.Whole.{whole};
 
-use std::alloc::AllocError;
-
-use bytecode_buf::{CodeBuf, Op};
-
 use crate::scenes::{reading, writing};
 use crate::site::Site;
 use crate::steps::{named, plain};
+use bytecode_buf::{CodeBuf, Op};
+use std::alloc::AllocError;
 
 /// What is written.
 #[derive(Clone, Copy)]

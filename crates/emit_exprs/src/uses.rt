@@ -5,11 +5,9 @@ ghost use Rattle.bytecode_buf.specs.Emits.{Emits};
 ghost use Rattle.emit_exprs.specs.Exprs as code;
 ghost use Rattle.emit_exprs.specs.Whole.{whole};
 
-use std::alloc::AllocError;
-
-use bytecode_buf::{CodeBuf, Op};
-
 use crate::steps::{named, plain};
+use bytecode_buf::{CodeBuf, Op};
+use std::alloc::AllocError;
 
 /// How a value is used.
 #[derive(Clone, Copy)]

@@ -1,5 +1,4 @@
-use Rattle.std.proofs.Common.{Option, ap}
-use Rattle.emit_exprs.specs.declared.operators.Meaning.{Meaning}
+use Rattle.std.proofs.Common.{ap}
 use Rattle.emit_exprs.specs.Operators.{op_or}
 use Rattle.emit_exprs.proofs.operators.op_of.Goals as goal
 

@@ -5,3 +5,4 @@ pub mod EmitLemmas
 pub mod ListLemmas
 pub mod FileLemmas
 pub mod RunLemmas
+pub mod Rows

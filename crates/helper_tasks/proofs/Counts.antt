@@ -1,5 +1,5 @@
 -- Sums and counts over lists.
-use Rattle.std.proofs.Common.{◌≡◌, ℕ, zero, suc, ◌+◌, ◌<◌, ◌≤◌, eqb, cond, List, [], ◌∷◌, ◌++◌, length, get_or, set, refl, ap, sym, subst, arith}
+use Rattle.std.proofs.Common.{◌≡◌, ℕ, zero, suc, ◌+◌, ◌<◌, ◌≤◌, List, [], ◌∷◌, ◌++◌, length, get_or, set, refl, ap, sym, subst, arith}
 use mathlib.Core.Option.{some, some-injective, some-ne-none}
 use lib.ListN.{get_elem?}
 use Rattle.helper_tasks.specs.Count.{times, total, Each}
@@ -57,20 +57,20 @@ module _ {A : Type 0} where
   pub total-none : (p f : A → ℕ) (xs : List A) → total p xs ≡ 0 → Each (λ u. p u ≡ 0 → f u ≡ 0) xs → total f xs ≡ 0
   total-none p f [] none idle = refl
   total-none p f (x ∷ xs) none idle =
-    let a : f x ≡ 0 = idle.0 (omega arith) in
-    let r : total f xs ≡ 0 = total-none p f xs (omega arith) idle.1 in omega arith
+      let a : f x ≡ 0 = idle.0 (omega arith) in
+      let r : total f xs ≡ 0 = total-none p f xs (omega arith) idle.1 in omega arith
 
   -- where one element has all parts, it has all that there is
   pub total-sole : (p f : A → ℕ) (xs : List A) (i : ℕ) (v : A) → get_elem? xs i ≡ some v → total p xs ≡ p v → Each (λ u. p u ≡ 0 → f u ≡ 0) xs → total f xs ≡ f v
   total-sole p f [] i v at sole idle = absurd (some-ne-none v (sym at))
   total-sole p f (x ∷ xs) zero v at sole idle =
-    let e = ap f (some-injective x v at) in
-    let q = ap p (some-injective x v at) in
-    let r : total f xs ≡ 0 = total-none p f xs (omega arith) idle.1 in omega arith
+      let e = ap f (some-injective x v at) in
+      let q = ap p (some-injective x v at) in
+      let r : total f xs ≡ 0 = total-none p f xs (omega arith) idle.1 in omega arith
   total-sole p f (x ∷ xs) (suc i) v at sole idle =
-    let b = total-at p xs i v at in
-    let a : f x ≡ 0 = idle.0 (omega arith) in
-    let r : total f xs ≡ f v = total-sole p f xs i v at (omega arith) idle.1 in omega arith
+      let b = total-at p xs i v at in
+      let a : f x ≡ 0 = idle.0 (omega arith) in
+      let r : total f xs ≡ f v = total-sole p f xs i v at (omega arith) idle.1 in omega arith
 
   pub each-map : (P Q : A → Type 0) (xs : List A) → ((a : A) → P a → Q a) → Each P xs → Each Q xs
   each-map P Q [] to all = tt

@@ -1,5 +1,5 @@
 -- From the workers' start to the answer of the call.
-use Rattle.std.proofs.Common.{◌≡◌, ℕ, zero, suc, ◌+◌, ◌-◌, ◌<◌, ◌≤◌, Bool, true, false, eqb, ltb, cond, List, [], ◌∷◌, ◌++◌, length, map, take, drop, get_or, set, All, Option, Some, Result, Ok, Err, IfOk, refl, ap, sym, ◌∙◌, subst, arith}
+use Rattle.std.proofs.Common.{◌≡◌, ℕ, suc, ◌+◌, ◌-◌, ◌<◌, ◌≤◌, Bool, true, false, eqb, ltb, cond, List, [], ◌∷◌, ◌++◌, length, map, take, drop, get_or, set, All, Some, Result, Ok, Err, IfOk, refl, ap, sym, ◌∙◌, subst, arith}
 use Rattle.std.specs.declared.alloc.AllocError.{AllocError}
 use Rattle.std.specs.declared.vec.Vec.{Vec}
 use Rattle.std.specs.declared.alloc.Global.{Global}
@@ -13,8 +13,8 @@ use Rattle.helper_tasks.specs.declared.helper.Helper.{Helper}
 use Rattle.helper_tasks.specs.Count.{times, total, once_below, Each, EachOnceBelow}
 use Rattle.helper_tasks.specs.Jobs.{Gain, GainedOnce, GivesEach}
 use Rattle.helper_tasks.specs.Rule.{dealt, TookAll}
-use Rattle.helper_tasks.specs.Handles.{End, Place, Reach, end_at, reach_at}
-use Rattle.helper_tasks.specs.Hands.{IsLook, stole, places, Equipped, came, went}
+use Rattle.helper_tasks.specs.Handles.{Place, Reach, reach_at}
+use Rattle.helper_tasks.specs.Hands.{IsLook, stole, places, came}
 use Rattle.helper_tasks.specs.Desks.{tasks_of, InOrder, Lists, Ready, Works}
 use Rattle.helper_tasks.specs.Crew.{Fresh, Hired, Looking, Dismissible, Drained, Paired, Served, StartsIn, aspect, alone, new_look, deque_of, desk_of, fetcher_of, came_to, left_by, fetched, popped, ran_at, all_made, placed, empty_slots}
 use Rattle.helper_tasks.proofs.Counts.{times-append, each-append, each-index, each-map}
@@ -54,15 +54,14 @@ module _ {A : Type 0} where
 pub order_below : (n : ℕ) (xs : List ℕ) → ((x : ℕ) → times x xs ≤ once_below x n) → Each (λ (x : ℕ). x < n) xs
 order_below n [] h = tt
 order_below n (y ∷ ys) h =
-  let a = h y in
-  let e : eqb y y ≡ true = grind (arith, nat_tests) in
-  (
-    elim (ltb y n) as (λ b. (ltb y n ≡ b) → cond (eqb y y) 1 0 + times y ys ≤ cond b 1 0 → y < n) [
-        true ↦ λ t q. grind (arith, nat_tests)
-      | false ↦ λ t q. absurd (let p : 1 + times y ys ≤ 0 = subst (λ (b : Bool). cond b 1 0 + times y ys ≤ 0) e q in omega arith)
-    ] refl a,
-    order_below n ys (λ x. let b = h x in omega arith),
-  )
+    let a = h y in
+    let e : eqb y y ≡ true = grind (arith, nat_tests) in (
+      elim (ltb y n) as (λ b. (ltb y n ≡ b) → cond (eqb y y) 1 0 + times y ys ≤ cond b 1 0 → y < n) [
+        | true ↦ λ t q. grind (arith, nat_tests)
+        | false ↦ λ t q. absurd (let p : 1 + times y ys ≤ 0 = subst (λ (b : Bool). cond b 1 0 + times y ys ≤ 0) e q in omega arith)
+      ] refl a,
+      order_below n ys (λ x. let b = h x in omega arith),
+    )
 
 pub order_within : (n m : ℕ) (xs : List ℕ) → n ≡ m → EachOnceBelow m xs → Each (λ (x : ℕ). x < n) xs
 order_within n m xs e once = subst (λ (k : ℕ). Each (λ (x : ℕ). x < k) xs) (sym e) (order_below m xs (λ x. let o = once x in omega arith))
@@ -74,43 +73,43 @@ module _ {S O N : Type 0} where
   pub staffed_tasks : (order pushed : List ℕ) (p : ℕ) (hired base looking v : List (Helper S O N)) → base ≡ hired → v ≡ looking → map aspect looking ≡ map aspect base → pushed ≡ take p order
       → ((x : ℕ) → total (alone order x) hired ≡ times x (drop p order)) → (x : ℕ) → times x pushed + total (alone order x) v ≡ times x order
   staffed_tasks order pushed p hired base looking v eb ev same ep rest x =
-    let a = ap (total (alone order x)) ev in
-    let b = total_along aspect (λ (s : ℕ × Place × Reach × Desk S O × ℕ). times x (drop s.4 order)) looking base same in
-    let g = ap (total (alone order x)) eb in
-    let c = rest x in
-    let d = ap (times x) ep in
-    let e = ap (times x) (take-append-drop p order) in
-    omega (arith, times-append x (take p order) (drop p order))
+      let a = ap (total (alone order x)) ev in
+      let b = total_along aspect (λ (s : ℕ × Place × Reach × Desk S O × ℕ). times x (drop s.4 order)) looking base same in
+      let g = ap (total (alone order x)) eb in
+      let c = rest x in
+      let d = ap (times x) ep in
+      let e = ap (times x) (take-append-drop p order) in
+      omega (arith, times-append x (take p order) (drop p order))
 
   pub staffed_shares : (hired base looking v : List (Helper S O N)) (shares : List S) → base ≡ hired → v ≡ looking → map aspect looking ≡ map aspect base → map (λ (h : Helper S O N). h.desk.share) hired ≡ shares → map (λ (h : Helper S O N). h.desk.share) v ≡ shares
   staffed_shares hired base looking v shares eb ev same e =
-    ap (map (λ (h : Helper S O N). h.desk.share)) ev ∙ (map_along aspect (λ (s : ℕ × Place × Reach × Desk S O × ℕ). s.3.share) looking base same ∙ (ap (map (λ (h : Helper S O N). h.desk.share)) eb ∙ e))
+      ap (map (λ (h : Helper S O N). h.desk.share)) ev ∙ (map_along aspect (λ (s : ℕ × Place × Reach × Desk S O × ℕ). s.3.share) looking base same ∙ (ap (map (λ (h : Helper S O N). h.desk.share)) eb ∙ e))
 
   pub staffed_fresh : (queue : Place) (n : ℕ) (order : List ℕ) (first hired looking v : List (Helper S O N)) → hired ≡ first → v ≡ looking → map aspect looking ≡ map aspect hired → n ≡ length hired
       → Each (Hired queue n order) first → Each (λ (h : Helper S O N). h.handles.own.dealt ≡ dealt (64 - length hired) [] []) looking
       → Each (λ (h : Helper S O N). h.handles.looks.items ≡ map (λ (k : Helper S O N). new_look (deque_of k)) hired) looking
       → Each (Fresh (map deque_of v) queue (length v) order) v
   staffed_fresh queue n order first hired looking v eb ev same en all own looks =
-    let P : List Place = map deque_of looking in
-    let count : length hired ≡ length looking = sym (same_length looking hired same) in
-    let known : Helper S O N → Type 0 = λ h. (h.handles.number < n) × (h.handles.fetcher ≡ reach_at queue (dealt 1 [] [])) × (h.desk.made.items ≡ []) × (h.rest ≤ length order) in
-    let Q : ℕ × Place × Reach × Desk S O × ℕ → Type 0 = λ s. (s.0 < n) × (s.2 ≡ reach_at queue (dealt 1 [] [])) × (s.3.made.items ≡ []) × (s.4 ≤ length order) in
-    let old : Each known hired = each-map (Hired queue n order) known hired (λ h f. (f.numbered, f.fetcher_new, f.none_made, f.rest_in)) (subst (Each (Hired queue n order)) (sym eb) all) in
-    let new : Each known looking = along aspect Q looking hired same old in
-    let at : map (λ (k : Helper S O N). new_look (deque_of k)) hired ≡ map new_look P = sym (map_along aspect (λ (s : ℕ × Place × Reach × Desk S O × ℕ). new_look s.1) looking hired same) ∙ sym (map_after new_look deque_of looking) in
-    let Own : Helper S O N → Type 0 = λ h. h.handles.own.dealt ≡ dealt (64 - length hired) [] [] in
-    let Look : Helper S O N → Type 0 = λ h. h.handles.looks.items ≡ map (λ (k : Helper S O N). new_look (deque_of k)) hired in
-    let both = each_both known (λ h. Own h × Look h) looking new (each_both Own Look looking own looks) in
-    subst (λ (l : List (Helper S O N)). Each (Fresh (map deque_of l) queue (length l) order) l) (sym ev)
+      let P : List Place = map deque_of looking in
+      let count : length hired ≡ length looking = sym (same_length looking hired same) in
+      let known : Helper S O N → Type 0 = λ h. (h.handles.number < n) × (h.handles.fetcher ≡ reach_at queue (dealt 1 [] [])) × (h.desk.made.items ≡ []) × (h.rest ≤ length order) in
+      let Q : ℕ × Place × Reach × Desk S O × ℕ → Type 0 = λ s. (s.0 < n) × (s.2 ≡ reach_at queue (dealt 1 [] [])) × (s.3.made.items ≡ []) × (s.4 ≤ length order) in
+      let old : Each known hired = each-map (Hired queue n order) known hired (λ h f. (f.numbered, f.fetcher_new, f.none_made, f.rest_in)) (subst (Each (Hired queue n order)) (sym eb) all) in
+      let new : Each known looking = along aspect Q looking hired same old in
+      let at : map (λ (k : Helper S O N). new_look (deque_of k)) hired ≡ map new_look P = sym (map_along aspect (λ (s : ℕ × Place × Reach × Desk S O × ℕ). new_look s.1) looking hired same) ∙ sym (map_after new_look deque_of looking) in
+      let Own : Helper S O N → Type 0 = λ h. h.handles.own.dealt ≡ dealt (64 - length hired) [] [] in
+      let Look : Helper S O N → Type 0 = λ h. h.handles.looks.items ≡ map (λ (k : Helper S O N). new_look (deque_of k)) hired in
+      let both = each_both known (λ h. Own h × Look h) looking new (each_both Own Look looking own looks) in
+      subst (λ (l : List (Helper S O N)). Each (Fresh (map deque_of l) queue (length l) order) l) (sym ev)
       (each-map (λ h. known h × (Own h × Look h)) (Fresh P queue (length looking) order) looking
-        (λ h f. record {
-          number_in = let a = f.0.0 in omega arith;
-          own_left = f.1.0 ∙ (λ j. dealt (64 - count j) [] []);
-          new_looks = f.1.1 ∙ at;
-          new_fetcher = f.0.1;
-          nothing_made = f.0.2;
-          rest_at = f.0.3;
-        }) both)
+      (λ h f. record {
+        number_in = let a = f.0.0 in omega arith;
+        own_left = f.1.0 ∙ (λ j. dealt (64 - count j) [] []);
+        new_looks = f.1.1 ∙ at;
+        new_fetcher = f.0.1;
+        nothing_made = f.0.2;
+        rest_at = f.0.3;
+      }) both)
 
   pub settle_came : (x : ℕ) (hs : List (Helper S O N)) → Each (λ (h : Helper S O N). h.handles.looks.items ≡ []) hs → total (came_to x) hs ≡ total (fetched x) hs + total (popped x) hs
   settle_came x [] none = refl
@@ -120,17 +119,17 @@ module _ {S O N : Type 0} (fits : S → Type 0) (gives : ℕ → O → Type 0) (
   pub settle_dismissible : (old hs v : List (Helper S O N)) → v ≡ hs → map desk_of hs ≡ map desk_of old → map fetcher_of hs ≡ map fetcher_of old → Each (λ (h : Helper S O N). h.handles.own.dealt.parts ≡ 64) hs
       → Each (λ (h : Helper S O N). h.handles.looks.items ≡ []) hs → Each (Ready fits gives queue) old → Each (Dismissible fits gives queue) v
   settle_dismissible old hs v ev desks fetchers parts none ready =
-    let F : Reach → Type 0 = λ f. (f.injector ≡ queue) × ((f.dealt.parts ≡ 1) × (f.dealt.pushed ≡ [])) in
-    let fetching : Each (λ (h : Helper S O N). F (fetcher_of h)) hs = along fetcher_of F hs old fetchers (each-map (Ready fits gives queue) (λ (h : Helper S O N). F (fetcher_of h)) old (λ h r. (r.fetches_from, r.equipped.fetches)) ready) in
-    let ordered : Each (λ (h : Helper S O N). InOrder fits gives (desk_of h)) hs = along desk_of (InOrder fits gives) hs old desks (each-map (Ready fits gives queue) (λ (h : Helper S O N). InOrder fits gives (desk_of h)) old (λ h r. r.in_order) ready) in
-    let Parts : Helper S O N → Type 0 = λ h. h.handles.own.dealt.parts ≡ 64 in
-    let None_left : Helper S O N → Type 0 = λ h. h.handles.looks.items ≡ [] in
-    let one = each_both Parts None_left hs parts none in
-    let two = each_both (λ (h : Helper S O N). F (fetcher_of h)) (λ (h : Helper S O N). InOrder fits gives (desk_of h)) hs fetching ordered in
-    subst (Each (Dismissible fits gives queue)) (sym ev)
+      let F : Reach → Type 0 = λ f. (f.injector ≡ queue) × ((f.dealt.parts ≡ 1) × (f.dealt.pushed ≡ [])) in
+      let fetching : Each (λ (h : Helper S O N). F (fetcher_of h)) hs = along fetcher_of F hs old fetchers (each-map (Ready fits gives queue) (λ (h : Helper S O N). F (fetcher_of h)) old (λ h r. (r.fetches_from, r.equipped.fetches)) ready) in
+      let ordered : Each (λ (h : Helper S O N). InOrder fits gives (desk_of h)) hs = along desk_of (InOrder fits gives) hs old desks (each-map (Ready fits gives queue) (λ (h : Helper S O N). InOrder fits gives (desk_of h)) old (λ h r. r.in_order) ready) in
+      let Parts : Helper S O N → Type 0 = λ h. h.handles.own.dealt.parts ≡ 64 in
+      let None_left : Helper S O N → Type 0 = λ h. h.handles.looks.items ≡ [] in
+      let one = each_both Parts None_left hs parts none in
+      let two = each_both (λ (h : Helper S O N). F (fetcher_of h)) (λ (h : Helper S O N). InOrder fits gives (desk_of h)) hs fetching ordered in
+      subst (Each (Dismissible fits gives queue)) (sym ev)
       (each-map (λ (h : Helper S O N). (Parts h × None_left h) × (F (fetcher_of h) × InOrder fits gives (desk_of h))) (Dismissible fits gives queue) hs
-        (λ h f. record { all_parts = f.0.0; no_look = f.0.1; fetcher_at = f.1.0.0; fetches = f.1.0.1; desk_in_order = f.1.1 })
-        (each_both (λ (h : Helper S O N). Parts h × None_left h) (λ (h : Helper S O N). F (fetcher_of h) × InOrder fits gives (desk_of h)) hs one two))
+      (λ h f. record { all_parts = f.0.0; no_look = f.0.1; fetcher_at = f.1.0.0; fetches = f.1.0.1; desk_in_order = f.1.1 })
+      (each_both (λ (h : Helper S O N). Parts h × None_left h) (λ (h : Helper S O N). F (fetcher_of h) × InOrder fits gives (desk_of h)) hs one two))
 
 paired_set : {A B : Type 0} (R : A → B → Type 0) (as' : List A) (bs : List B) (d new : B) → ((a : A) → R a (get_or bs 0 d) → R a new) → Paired R as' bs → Paired R as' (set bs 0 new)
 paired_set R [] [] d new to p = p
@@ -146,12 +145,12 @@ module _ {S O : Type 0} (fits : S → Type 0) (gives : ℕ → O → Type 0) (ra
       → all.parts ≡ 64 → all.pushed ≡ pushed → times x all.taken ≡ f → total (ran_at x) desks + q ≡ l → c ≡ f + q → k ≡ l
       → total (ran_at x) (set desks 0 new) + c ≡ k + times x pushed
   settle_ran x c f q l k desks d was new pushed all now some_desk e p empty parts same took ran_all came left =
-    let a = total-put (ran_at x) desks 0 new d some_desk in
-    let b = ap (ran_at x) e in
-    let i = p.moves x in
-    let t = empty (p.parts_are ∙ parts) x in
-    let u = ap (times x) (p.pushed_is ∙ same) in
-    omega arith
+      let a = total-put (ran_at x) desks 0 new d some_desk in
+      let b = ap (ran_at x) e in
+      let i = p.moves x in
+      let t = empty (p.parts_are ∙ parts) x in
+      let u = ap (times x) (p.pushed_is ∙ same) in
+      omega arith
 
 new_looks_on : (at : List Place) → Each IsLook (map new_look at)
 new_looks_on [] = tt
@@ -184,13 +183,13 @@ module _ {S O N : Type 0} (fits : S → Type 0) (gives : ℕ → O → Type 0) (
   pub all_start : (hs : List (Helper S O N)) (shares : List S) → map (λ (h : Helper S O N). h.desk.share) hs ≡ shares → 0 < length shares → length shares ≤ 16 → Each (Fresh (map deque_of hs) queue (length hs) order) hs → All fits shares
       → All (StartsIn fits gives queue order) hs
   all_start hs shares e some_share small fresh ok =
-    let count : length hs ≡ length shares = sym (length-map hs (λ (h : Helper S O N). h.desk.share)) ∙ ap length e in
-    let F : Helper S O N → Type 0 = Fresh (map deque_of hs) queue (length hs) order in
-    let fit : Each (λ (h : Helper S O N). fits h.desk.share) hs = each_of (λ (h : Helper S O N). h.desk.share) fits hs shares e (all_each fits shares ok) in
-    each_all (StartsIn fits gives queue order) hs
+      let count : length hs ≡ length shares = sym (length-map hs (λ (h : Helper S O N). h.desk.share)) ∙ ap length e in
+      let F : Helper S O N → Type 0 = Fresh (map deque_of hs) queue (length hs) order in
+      let fit : Each (λ (h : Helper S O N). fits h.desk.share) hs = each_of (λ (h : Helper S O N). h.desk.share) fits hs shares e (all_each fits shares ok) in
+      each_all (StartsIn fits gives queue order) hs
       (each-map (λ (h : Helper S O N). F h × fits h.desk.share) (StartsIn fits gives queue order) hs
-        (λ h f. starts_in (map deque_of hs) (length hs) h (length-map hs deque_of) (omega arith) (omega arith) f.0 f.1)
-        (each_both F (λ (h : Helper S O N). fits h.desk.share) hs fresh fit))
+      (λ h f. starts_in (map deque_of hs) (length hs) h (length-map hs deque_of) (omega arith) (omega arith) f.0 f.1)
+      (each_both F (λ (h : Helper S O N). fits h.desk.share) hs fresh fit))
 
 module _ {S O N : Type 0} (fits : S → Type 0) (gives : ℕ → O → Type 0) (ran : S → List ℕ) (queue : Place) (order : List ℕ) where
   -- what one worker did
@@ -205,11 +204,11 @@ module _ {S O N : Type 0} (fits : S → Type 0) (gives : ℕ → O → Type 0) (
   all_done [] (k ∷ ks) rs e n each = absurd (let a = ap length e in omega arith)
   all_done (h ∷ hs) [] rs e n each = absurd (let a = ap length e in omega arith)
   all_done (h ∷ hs) (k ∷ ks) rs e n each =
-    let tail : List (Result (Helper S O N) AllocError) = map (λ (l : Helper S O N). Ok l) ks in
-    let all : (i : ℕ) (g : Helper S O N) (r : Result (Helper S O N) AllocError) → i < suc (length hs) → Served fits gives ran queue order (get_or (h ∷ hs) i g) (get_or (Ok k ∷ tail) i r) =
+      let tail : List (Result (Helper S O N) AllocError) = map (λ (l : Helper S O N). Ok l) ks in
+      let all : (i : ℕ) (g : Helper S O N) (r : Result (Helper S O N) AllocError) → i < suc (length hs) → Served fits gives ran queue order (get_or (h ∷ hs) i g) (get_or (Ok k ∷ tail) i r) =
       λ i g r lt. subst (λ (l : List (Result (Helper S O N) AllocError)). Served fits gives ran queue order (get_or (h ∷ hs) i g) (get_or l i r)) (sym e) (each i g r lt) in
-    let count : length tail ≡ length hs = let a = ap length e in omega arith in
-    (all 0 h (Ok k) (omega arith), all_done hs ks tail refl count (λ i g r lt. all (suc i) g r (omega arith)))
+      let count : length tail ≡ length hs = let a = ap length e in omega arith in
+      (all 0 h (Ok k) (omega arith), all_done hs ks tail refl count (λ i g r lt. all (suc i) g r (omega arith)))
 
   pub done_looking : (at : List Place) (n : ℕ) (hs ks : List (Helper S O N)) → Each (Fresh at queue n order) hs → Paired Done hs ks → Each (Looking at (64 - n)) ks
   unfolding Done
@@ -258,23 +257,23 @@ module _ {S O N : Type 0} (fits : S → Type 0) (gives : ℕ → O → Type 0) (
   done_left x at n [] (k ∷ ks) fresh done = elim done [ ]
   done_left x at n (h ∷ hs) [] fresh done = elim done [ ]
   done_left x at n (h ∷ hs) (k ∷ ks) fresh done =
-    let r = done_left x at n hs ks fresh.1 done.1 in
-    let m = done.0.moves x in
-    let a = ap (λ (v : Dealt). times x v.pushed) fresh.0.own_left in
-    let b = ap (λ (v : Dealt). times x v.taken) fresh.0.own_left in
-    let c = ap (λ (f : Reach). times x f.dealt.taken) fresh.0.new_fetcher in
-    let d = ap (total (stole x)) fresh.0.new_looks in
-    let e = new_looks_stole x at in
-    let f = ap (λ (l : List (Made O)). times x (tasks_of l)) fresh.0.nothing_made in
-    omega arith
+      let r = done_left x at n hs ks fresh.1 done.1 in
+      let m = done.0.moves x in
+      let a = ap (λ (v : Dealt). times x v.pushed) fresh.0.own_left in
+      let b = ap (λ (v : Dealt). times x v.taken) fresh.0.own_left in
+      let c = ap (λ (f : Reach). times x f.dealt.taken) fresh.0.new_fetcher in
+      let d = ap (total (stole x)) fresh.0.new_looks in
+      let e = new_looks_stole x at in
+      let f = ap (λ (l : List (Made O)). times x (tasks_of l)) fresh.0.nothing_made in
+      omega arith
 
 module _ {S O : Type 0} where
   pub made_total : (x : ℕ) (ds : List (Desk S O)) → times x (tasks_of (all_made ds)) ≡ total (ran_at x) ds
   made_total x [] = refl
   made_total x (d ∷ ds) =
-    let r = made_total x ds in
-    let e = ap (times x) (map-append (λ (m : Made O). m.task) d.made.items (all_made ds)) in
-    omega (arith, times-append x (tasks_of d.made.items) (tasks_of (all_made ds)))
+      let r = made_total x ds in
+      let e = ap (times x) (map-append (λ (m : Made O). m.task) d.made.items (all_made ds)) in
+      omega (arith, times-append x (tasks_of d.made.items) (tasks_of (all_made ds)))
 
   pub made_given : (fits : S → Type 0) (gives : ℕ → O → Type 0) (ds : List (Desk S O)) → Each (InOrder fits gives) ds → Each (λ (m : Made O). gives m.task m.out) (all_made ds)
   made_given fits gives [] all = tt
@@ -282,7 +281,7 @@ module _ {S O : Type 0} where
 
   pub shares_fit : (fits : S → Type 0) (gives : ℕ → O → Type 0) (ds : List (Desk S O)) (shares : List S) → shares ≡ map (λ (d : Desk S O). d.share) ds → Each (InOrder fits gives) ds → All fits shares
   shares_fit fits gives ds shares e all =
-    each_all fits shares (subst (Each fits) (sym e) (each-mapped (λ (d : Desk S O). d.share) fits ds (each-map (InOrder fits gives) (λ (d : Desk S O). fits d.share) ds (λ d o. o.share_fits) all)))
+      each_all fits shares (subst (Each fits) (sym e) (each-mapped (λ (d : Desk S O). d.share) fits ds (each-map (InOrder fits gives) (λ (d : Desk S O). fits d.share) ds (λ d o. o.share_fits) all)))
 
   gained : (ran : S → List ℕ) (shares : List S) (ds : List (Desk S O)) → Paired (Lists ran) (map ran shares) ds → Gain ran shares (map (λ (d : Desk S O). d.share) ds) (tasks_of (all_made ds))
   gained ran [] [] p = refl
@@ -292,7 +291,7 @@ module _ {S O : Type 0} where
 
   pub lists_gained : (ran : S → List ℕ) (n m : ℕ) (shares after : List S) (ds : List (Desk S O)) → n ≡ m → after ≡ map (λ (d : Desk S O). d.share) ds → Paired (Lists ran) (map ran shares) ds → EachOnceBelow n (tasks_of (all_made ds)) → GainedOnce ran shares after m
   lists_gained ran n m shares after ds em ea p once =
-    (tasks_of (all_made ds), subst (λ (l : List S). Gain ran shares l (tasks_of (all_made ds))) (sym ea) (gained ran shares ds p), λ x. once x ∙ ap (once_below x) em)
+      (tasks_of (all_made ds), subst (λ (l : List S). Gain ran shares l (tasks_of (all_made ds))) (sym ea) (gained ran shares ds p), λ x. once x ∙ ap (once_below x) em)
 
 pub paired_length : {A B : Type 0} (R : A → B → Type 0) (as' : List A) (bs : List B) → Paired R as' bs → length bs ≡ length as'
 paired_length R [] [] p = refl
@@ -306,24 +305,24 @@ module _ {S O N : Type 0} (fits : S → Type 0) (gives : ℕ → O → Type 0) (
       → ((x : ℕ) → times x pushed + total (alone order x) hs ≡ times x order) → ((x : ℕ) → total (ran_at x) ds + total (came_to x) ks ≡ total (left_by x) ks + times x pushed)
       → length order ≡ tasks → EachOnceBelow tasks order → EachOnceBelow (length order) (tasks_of (all_made ds))
   run_once hs ks ds pushed tasks fresh done split all size once x =
-    let a = made_total x ds in
-    let b = split x in
-    let c = all x in
-    let d = done_left fits gives ran queue order x (map deque_of hs) (length hs) hs ks fresh done in
-    let e = once x in
-    let f = ap (once_below x) size in
-    omega arith
+      let a = made_total x ds in
+      let b = split x in
+      let c = all x in
+      let d = done_left fits gives ran queue order x (map deque_of hs) (length hs) hs ks fresh done in
+      let e = once x in
+      let f = ap (once_below x) size in
+      omega arith
 
   pub run_looking : (hs ks : List (Helper S O N)) → Each (Fresh (map deque_of hs) queue (length hs) order) hs → Paired (Done fits gives ran queue order) hs ks → Each (Looking (map deque_of ks) (64 - length ks)) ks
   run_looking hs ks fresh done =
-    let at = done_places fits gives ran queue order hs ks done in
-    let n = done_length fits gives ran queue order hs ks done in
-    subst (λ (p : List Place × ℕ). Each (Looking p.0 (64 - p.1)) ks) (λ j. (sym at j, sym n j)) (done_looking fits gives ran queue order (map deque_of hs) (length hs) hs ks fresh done)
+      let at = done_places fits gives ran queue order hs ks done in
+      let n = done_length fits gives ran queue order hs ks done in
+      subst (λ (p : List Place × ℕ). Each (Looking p.0 (64 - p.1)) ks) (λ j. (sym at j, sym n j)) (done_looking fits gives ran queue order (map deque_of hs) (length hs) hs ks fresh done)
 
   pub run_lists : (hs ks : List (Helper S O N)) (ds : List (Desk S O)) (shares : List S) → Each (Fresh (map deque_of hs) queue (length hs) order) hs → Paired (Done fits gives ran queue order) hs ks
       → map (λ (h : Helper S O N). h.desk.share) hs ≡ shares → ((starts : List (List ℕ)) → Paired (Lists ran) starts (map desk_of ks) → Paired (Lists ran) starts ds) → Paired (Lists ran) (map ran shares) ds
   run_lists hs ks ds shares fresh done e lists =
-    lists (map ran shares) (subst (λ (s : List (List ℕ)). Paired (Lists ran) s (map desk_of ks)) (sym (map_after ran (λ (h : Helper S O N). h.desk.share) hs) ∙ ap (map ran) e) (done_lists fits gives ran queue order (map deque_of hs) (length hs) hs ks fresh done))
+      lists (map ran shares) (subst (λ (s : List (List ℕ)). Paired (Lists ran) s (map desk_of ks)) (sym (map_after ran (λ (h : Helper S O N). h.desk.share) hs) ∙ ap (map ran) e) (done_lists fits gives ran queue order (map deque_of hs) (length hs) hs ks fresh done))
 
 module _ {S O E : Type 0} where
   pub answer_outs : (gives : ℕ → O → Type 0) (n m : ℕ) (ds : List (Desk S O)) (r : Result (Vec O Global × Vec S Global) E) → n ≡ m → Each (λ (k : Made O). gives k.task k.out) (all_made ds)

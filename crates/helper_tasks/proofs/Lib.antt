@@ -6,3 +6,5 @@ pub mod Crewing
 pub mod Placing
 pub mod Settling
 pub mod Finishing
+pub mod Orders
+pub mod Rows

@@ -1,12 +1,12 @@
 -- Each step keeps the rule.
-use Rattle.std.proofs.Common.{◌≡◌, ◌≢◌, ℕ, zero, suc, ◌+◌, ◌-◌, ◌<◌, ◌≤◌, List, [], ◌∷◌, ◌++◌, length, set, sym, refl, ap, subst, arith}
+use Rattle.std.proofs.Common.{◌≡◌, ℕ, ◌+◌, ◌-◌, ◌<◌, List, [], ◌∷◌, ◌++◌, set, refl, ap, arith}
 use mathlib.Core.Option.{some}
 use lib.ListN.{get_elem?}
 use Rattle.crossbeam_deque.specs.Tasks.{Pushes, Takes, Pops, Finds, Forks, Merges}
 use Rattle.helper_tasks.specs.declared.rule.Dealt.{Dealt}
 use Rattle.helper_tasks.specs.Count.{times, total, Each}
 use Rattle.helper_tasks.specs.Rule.{dealt, IdleIsEmpty, Balanced, TookAll}
-use Rattle.helper_tasks.proofs.Counts.{times-append, total-snoc, total-set, total-at, total-sole, each-set, each-snoc, each-append, each-front, each-back, each-map}
+use Rattle.helper_tasks.proofs.Counts.{times-append, total-snoc, total-set, total-sole, each-set, each-snoc, each-front, each-back, each-map}
 
 abbrev parts : Dealt → ℕ
 parts v = v.parts
@@ -32,10 +32,10 @@ pushes bound port v x some_part small items views b at =
       record {
         parts = let s = total-set parts views port v w at in let p = b.parts in omega arith;
         each = λ y.
-          let s = total-set (pushed_of y) views port v w at in
-          let t = total-set (taken_of y) views port v w at in
-          let p = b.each y in
-          omega (arith, times-append y v.pushed (x ∷ []), times-append y items (x ∷ []));
+            let s = total-set (pushed_of y) views port v w at in
+            let t = total-set (taken_of y) views port v w at in
+            let p = b.each y in
+            omega (arith, times-append y v.pushed (x ∷ []), times-append y items (x ∷ []));
         idle = each-set IdleIsEmpty views port w b.idle (λ none. absurd (omega arith));
         below = each-snoc (λ (y : ℕ). y < bound) items x b.below small;
       },
@@ -50,11 +50,11 @@ takes_either bound port v xs items all views some_part split below b at =
     record {
       parts = let s = total-set parts views port v w at in let p = b.parts in omega arith;
       each = λ y.
-        let s = total-set (pushed_of y) views port v w at in
-        let t = total-set (taken_of y) views port v w at in
-        let p = b.each y in
-        let q = split y in
-        omega (arith, times-append y v.taken xs);
+          let s = total-set (pushed_of y) views port v w at in
+          let t = total-set (taken_of y) views port v w at in
+          let p = b.each y in
+          let q = split y in
+          omega (arith, times-append y v.taken xs);
       idle = each-set IdleIsEmpty views port w b.idle (λ none. absurd (omega arith));
       below = below;
     }
@@ -91,12 +91,12 @@ forks bound port v two items views b at =
     record {
       parts = let s = total-set parts views port v l at in let n = total-snoc parts vs r in let p = b.parts in omega arith;
       each = λ y.
-        let s = total-set (pushed_of y) views port v l at in
-        let t = total-set (taken_of y) views port v l at in
-        let n = total-snoc (pushed_of y) vs r in
-        let m = total-snoc (taken_of y) vs r in
-        let p = b.each y in
-        omega arith;
+          let s = total-set (pushed_of y) views port v l at in
+          let t = total-set (taken_of y) views port v l at in
+          let n = total-snoc (pushed_of y) vs r in
+          let m = total-snoc (taken_of y) vs r in
+          let p = b.each y in
+          omega arith;
       idle = each-snoc IdleIsEmpty vs r (each-set IdleIsEmpty views port l b.idle (λ none. absurd (omega arith))) (λ none. absurd (omega arith));
       below = b.below;
     }
@@ -109,12 +109,12 @@ merges bound port v other u some_part items views b at two at' =
     record {
       parts = let s = total-set parts views port v w at in let n = total-set parts vs other u none at' in let p = b.parts in omega arith;
       each = λ y.
-        let s = total-set (pushed_of y) views port v w at in
-        let t = total-set (taken_of y) views port v w at in
-        let n = total-set (pushed_of y) vs other u none at' in
-        let m = total-set (taken_of y) vs other u none at' in
-        let p = b.each y in
-        omega (arith, times-append y v.pushed u.pushed, times-append y v.taken u.taken);
+          let s = total-set (pushed_of y) views port v w at in
+          let t = total-set (taken_of y) views port v w at in
+          let n = total-set (pushed_of y) vs other u none at' in
+          let m = total-set (taken_of y) vs other u none at' in
+          let p = b.each y in
+          omega (arith, times-append y v.pushed u.pushed, times-append y v.taken u.taken);
       idle = each-set IdleIsEmpty vs other none (each-set IdleIsEmpty views port w b.idle (λ no. absurd (omega arith))) (λ no. (refl, refl));
       below = b.below;
     }

@@ -1,11 +1,11 @@
 -- What each step of a worker does.
-use Rattle.std.proofs.Common.{◌≡◌, ℕ, ◌+◌, ◌<◌, List, [], ◌∷◌, ◌++◌, length, drop, Result, Ok, Err, IfOk, refl, ap, sym, ◌∙◌, subst, arith}
+use Rattle.std.proofs.Common.{◌≡◌, ℕ, List, [], ◌∷◌, ◌++◌, Result, Ok, Err, IfOk, refl, ap, ◌∙◌, arith}
 use Rattle.helper_tasks.specs.declared.handles.Handles.{Handles}
 use Rattle.helper_tasks.specs.declared.helper.Desk.{Desk}
 use Rattle.helper_tasks.specs.declared.helper.Helper.{Helper}
-use Rattle.helper_tasks.specs.Count.{times, Each}
+use Rattle.helper_tasks.specs.Count.{times}
 use Rattle.helper_tasks.specs.Handles.{Place}
-use Rattle.helper_tasks.specs.Hands.{Equipped, Same, Moved, came, went}
+use Rattle.helper_tasks.specs.Hands.{Moved}
 use Rattle.helper_tasks.specs.Desks.{tasks_of, InOrder, Lists, Ready, Works}
 use Rattle.helper_tasks.proofs.Counts.{times-append}
 use Rattle.helper_tasks.proofs.Moves.{same_refl, same_then}

@@ -1,14 +1,14 @@
 -- What the workers of one call have, before they start and after they ended. It is this project's own choice.
-use Rattle.std.specs.Prelude.{◌≡◌, ℕ, zero, suc, ◌+◌, ◌-◌, ◌<◌, ◌≤◌, List, [], ◌∷◌, ◌++◌, length, map, drop, take, replicate, slice_set, Option, Some, None, Result, IfOk}
+use Rattle.std.specs.Prelude.{◌≡◌, ℕ, ◌+◌, ◌-◌, ◌<◌, ◌≤◌, List, [], ◌∷◌, ◌++◌, length, map, drop, replicate, slice_set, Option, Some, None, Result, IfOk}
 use Rattle.std.specs.declared.alloc.AllocError.{AllocError}
 use Rattle.helper_tasks.specs.declared.rule.Dealt.{Dealt}
 use Rattle.helper_tasks.specs.declared.helper.Made.{Made}
 use Rattle.helper_tasks.specs.declared.helper.Desk.{Desk}
 use Rattle.helper_tasks.specs.declared.helper.Helper.{Helper}
-use Rattle.helper_tasks.specs.Count.{times, total, Each}
+use Rattle.helper_tasks.specs.Count.{times, Each}
 use Rattle.helper_tasks.specs.Rule.{dealt}
 use Rattle.helper_tasks.specs.Handles.{End, Place, Reach, end_at, reach_at, less, joined}
-use Rattle.helper_tasks.specs.Hands.{IsLook, stole, places, Equipped, came, went}
+use Rattle.helper_tasks.specs.Hands.{IsLook, places, came, went}
 use Rattle.helper_tasks.specs.Desks.{tasks_of, InOrder, Lists, Ready, Works}
 
 -- the relation holds of each two elements at one place, and the lists are of one length

@@ -1,5 +1,5 @@
 -- What a worker's desk has, and what a worker has done. It is this project's own choice.
-use Rattle.std.specs.Prelude.{◌≡◌, ℕ, ◌+◌, ◌<◌, List, [], ◌∷◌, ◌++◌, length, map}
+use Rattle.std.specs.Prelude.{◌≡◌, ℕ, ◌+◌, List, ◌++◌, map}
 use Rattle.helper_tasks.specs.declared.helper.Made.{Made}
 use Rattle.helper_tasks.specs.declared.helper.Desk.{Desk}
 use Rattle.helper_tasks.specs.declared.helper.Helper.{Helper}

@@ -1,5 +1,5 @@
 -- What is known of a handle of a deque, and of a handle of an injector. It is this project's own choice.
-use Rattle.std.specs.Prelude.{ℕ, ◌+◌, ◌-◌, List, [], ◌∷◌, ◌++◌}
+use Rattle.std.specs.Prelude.{ℕ, ◌+◌, ◌-◌, [], ◌∷◌, ◌++◌}
 use Rattle.std.specs.declared.alloc.Global.{Global}
 use Rattle.helper_tasks.specs.declared.rule.Dealt.{Dealt}
 use Rattle.helper_tasks.specs.Rule.{dealt}

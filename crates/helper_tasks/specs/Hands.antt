@@ -1,5 +1,5 @@
 -- What a worker's handles are, and what they have moved. It is this project's own choice.
-use Rattle.std.specs.Prelude.{◌≡◌, ℕ, ◌+◌, ◌<◌, List, [], ◌∷◌, length, map}
+use Rattle.std.specs.Prelude.{◌≡◌, ℕ, ◌+◌, ◌<◌, List, [], length, map}
 use Rattle.helper_tasks.specs.declared.handles.Handles.{Handles}
 use Rattle.helper_tasks.specs.Count.{times, total, Each}
 use Rattle.helper_tasks.specs.Handles.{End, Place}

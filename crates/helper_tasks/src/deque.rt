@@ -21,7 +21,6 @@ pub struct Own<N: Numbering> {
 
 impl<N: Numbering> Model for Own<N> {
     ghost use Rattle.crossbeam_deque.specs.Handles.{worker_deque, worker_view};
-
     ghost use Rattle.helper_tasks.specs.Handles.{End, end_at};
 
     ghost Value = { End };
@@ -88,7 +87,6 @@ pub struct Look<N: Numbering> {
 
 impl<N: Numbering> Model for Look<N> {
     ghost use Rattle.crossbeam_deque.specs.Handles.{IsPassOf, stealer_deque};
-
     ghost use Rattle.helper_tasks.specs.Handles.{End, end_at};
 
     ghost Value = { End };

@@ -36,7 +36,6 @@ pub struct MeetGate {
 
 impl Model for MeetGate {
     ghost use Rattle.helper_tasks.specs.Meeting.{Meeting};
-
     ghost use Rattle.std.specs.Prelude.{◌+◌, ◌<◌, ◌^◌};
 
     ghost Value = { Meeting };

@@ -32,7 +32,6 @@ pub struct Fetcher {
 
 impl Model for Fetcher {
     ghost use Rattle.std.specs.Prelude.{◌≡◌, None};
-
     ghost use Rattle.helper_tasks.specs.Handles.{Reach, reach_at};
 
     ghost Value = { Reach };
@@ -70,8 +69,7 @@ impl<N: Numbering> Queue<N> {
         requires task { task < N.bound }
         ensures { MatchResult result (λ _. fetcher.new ≡ reach_at self.now (pushed fetcher.old.dealt task)) (λ t. (t ≡ task) × (fetcher.new ≡ fetcher.old)) }
     {
-        self.tasks
-            .push_as::<Pushes, _>(rt, &mut fetcher.pass, task)
+        self.tasks.push_as::<Pushes, _>(rt, &mut fetcher.pass, task)
     }
 
     // One attempt.

@@ -18,6 +18,8 @@ mod place;
 mod rule;
 mod run;
 mod settle;
+#[cfg(test)]
+mod tests;
 mod workplace;
 
 pub use gate::{Gate, MeetGate, OpenGate};

@@ -28,7 +28,6 @@ pub struct Fair<N: Numbering> {
 
 impl<N: Numbering> Protocol<u32, Dealt> for Fair<N> {
     ghost use Rattle.std.specs.Prelude.{[]};
-
     ghost use Rattle.helper_tasks.specs.Rule.{Balanced, dealt};
 
     ghost holds = { Balanced N.bound };
@@ -43,7 +42,6 @@ pub struct OnePart;
 
 impl Split<Dealt> for OnePart {
     ghost use Rattle.std.specs.Prelude.{[], ◌-◌};
-
     ghost use Rattle.helper_tasks.specs.Rule.{dealt};
 
     ghost left = { λ v. dealt (v.parts - 1) v.pushed v.taken };
@@ -56,7 +54,6 @@ pub struct Together;
 
 impl Join<Dealt> for Together {
     ghost use Rattle.std.specs.Prelude.{[], ◌+◌, ◌++◌};
-
     ghost use Rattle.helper_tasks.specs.Rule.{dealt};
 
     ghost both = { λ v w. dealt (v.parts + w.parts) (v.pushed ++ w.pushed) (v.taken ++ w.taken) };
@@ -69,7 +66,6 @@ pub struct Pushes;
 
 impl Outcome<u32, Dealt> for Pushes {
     ghost use Rattle.std.specs.Prelude.{◌≡◌, ◌++◌};
-
     ghost use Rattle.helper_tasks.specs.Rule.{dealt};
 
     ghost then = { λ v xs w. w ≡ dealt v.parts (v.pushed ++ xs) v.taken };
@@ -82,9 +78,7 @@ pub struct Takes<N: Numbering> {
 
 impl<N: Numbering> Outcome<u32, Dealt> for Takes<N> {
     ghost use Rattle.std.specs.Prelude.{◌≡◌, ◌++◌, ◌<◌};
-
     ghost use Rattle.helper_tasks.specs.Rule.{dealt, TookAll};
-
     ghost use Rattle.helper_tasks.specs.Count.{Each};
 
     ghost then = { λ v xs w. (w ≡ dealt v.parts v.pushed (v.taken ++ xs)) × Each (λ x. x < N.bound) xs };
@@ -99,9 +93,7 @@ pub struct Steals<N: Numbering> {
 
 impl<N: Numbering> Outcome<u32, Dealt> for Steals<N> {
     ghost use Rattle.std.specs.Prelude.{◌≡◌, ◌++◌, ◌<◌};
-
     ghost use Rattle.helper_tasks.specs.Rule.{dealt};
-
     ghost use Rattle.helper_tasks.specs.Count.{Each};
 
     ghost then = { λ v xs w. (w ≡ dealt v.parts v.pushed (v.taken ++ xs)) × Each (λ x. x < N.bound) xs };

@@ -43,10 +43,7 @@ fn serve_all<J: Job, G: Gate, N: Numbering + Send + Sync, R: Threads + Wait + Sy
 }
 
 // The values, where none is an error.
-fn all_ok<X: Drop>(
-    alloc: Global,
-    results: Vec<Result<X, AllocError>>,
-) -> Result<Vec<X>, AllocError>
+fn all_ok<X: Drop>(alloc: Global, results: Vec<Result<X, AllocError>>) -> Result<Vec<X>, AllocError>
     ensures { IfOk result (λ v. map (λ x. Ok x) v.items ≡ results.items) }
 {
     let mut values = Vec::new(alloc);

@@ -20,10 +20,7 @@ use std::mem;
 use std::sync::Wait;
 
 // Gives each worker the look at its deque back.
-fn bring_back<S: Drop, O: Drop, N: Numbering>(
-    helpers: &mut [Helper<S, O, N>],
-    looks: Vec<Look<N>>,
-)
+fn bring_back<S: Drop, O: Drop, N: Numbering>(helpers: &mut [Helper<S, O, N>], looks: Vec<Look<N>>)
     requires deques { places looks.items ≡ map deque_of helpers.old }
     requires parts { Each (λ h. 0 < h.handles.own.dealt.parts) helpers.old }
     ensures { helpers.new ≡ all_took_in helpers.old looks.items }
@@ -119,10 +116,14 @@ impl<'a, J: Job, G: Gate, N: Numbering> Workplace<'a, J, G, N> {
         let mut desks = Vec::new(self.alloc);
         for helper in helpers {
             let Helper {
-                handles, mut desk, ..
+                handles,
+                mut desk,
+                ..
             } = helper;
             let Handles {
-                mut own, fetcher, ..
+                mut own,
+                fetcher,
+                ..
             } = handles;
             self.drain(rt, &mut own, &mut desk)?;
             self.queue.absorb(all, fetcher);

@@ -50,11 +50,7 @@ impl<'a, J: Job, G: Gate, N: Numbering> Workplace<'a, J, G, N> {
     }
 
     // Runs a task that the worker has in hand.
-    fn run_one(
-        &self,
-        helper: &mut Helper<J::Share, J::Out, N>,
-        task: u32,
-    ) -> Result<(), AllocError>
+    fn run_one(&self, helper: &mut Helper<J::Share, J::Out, N>, task: u32) -> Result<(), AllocError>
         requires numbered { N.bound ≡ J.tasks self.now.job.now }
         requires task { task < N.bound }
         requires ready { Ready (J.fits self.now.job.now) (J.gives self.now.job.now) self.now.queue.now helper.old }
@@ -64,11 +60,7 @@ impl<'a, J: Job, G: Gate, N: Numbering> Workplace<'a, J, G, N> {
     }
 
     // Puts a task into the worker's own deque, or runs it where the deque refuses it.
-    fn keep(
-        &self,
-        helper: &mut Helper<J::Share, J::Out, N>,
-        task: u32,
-    ) -> Result<(), AllocError>
+    fn keep(&self, helper: &mut Helper<J::Share, J::Out, N>, task: u32) -> Result<(), AllocError>
         requires numbered { N.bound ≡ J.tasks self.now.job.now }
         requires task { task < N.bound }
         requires ready { Ready (J.fits self.now.job.now) (J.gives self.now.job.now) self.now.queue.now helper.old }

@@ -1,8 +1,6 @@
 -- What lists of functions that were gathered stand for.
-use Rattle.std.proofs.Common.{◌≡◌, ◌∙◌, ℕ, List, [], ◌∷◌, ◌++◌, Bool, Option, Some, None, Result, Ok, Err, IfOk, map, option_map, unwrap_or, refl, ap, sym, subst}
+use Rattle.std.proofs.Common.{◌≡◌, ◌∙◌, ℕ, List, [], ◌∷◌, ◌++◌, Bool, Option, Some, None, Result, Ok, Err, IfOk, option_map, refl, ap, sym}
 use Rattle.std.specs.List.{flat_map}
-use Rattle.std.specs.declared.vec.Vec.{Vec}
-use Rattle.std.specs.declared.alloc.Global.{Global}
 use Rattle.script_grammar.specs.declared.node.NodeArgs.{NodeArgs}
 use Rattle.script_grammar.specs.declared.node.NodeOperand.{NodeOperand}
 use Rattle.script_grammar.specs.declared.node.NodeTemplatePart.{NodeTemplatePart}
@@ -20,7 +18,7 @@ use Rattle.script_grammar.specs.declared.node.NodeInit.TheVariants as inits
 use Rattle.script_grammar.specs.declared.node.NodeEach.{NodeEach}
 use Rattle.script_grammar.specs.declared.node.NodeEach.TheVariants as eaches
 use Rattle.script_grammar.specs.declared.node.NodeClause.{NodeClause}
-use Rattle.script_grammar.specs.Interpretation.{Interpretation, text_of, named, maybe_named}
+use Rattle.script_grammar.specs.Interpretation.{Interpretation, named, maybe_named}
 use Rattle.stencil_data.specs.declared.functions.FuncKind.{FuncKind}
 use Rattle.script_grammar.specs.Tree as model
 use Rattle.script_grammar.specs.TreeLists as part

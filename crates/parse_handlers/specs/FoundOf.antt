@@ -1,5 +1,5 @@
 -- What a list of functions that were found stands for, and the relations of the handler that keeps such lists.
-use Rattle.std.specs.Prelude.{Bool, ℕ, List, [], ◌∷◌, ◌≡◌, Option, None, Some, option_map, map}
+use Rattle.std.specs.Prelude.{Bool, ℕ, List, [], ◌∷◌, ◌≡◌, Option, option_map, map}
 use Rattle.stencil_data.specs.declared.functions.FuncKind.{FuncKind}
 use Rattle.parse_handlers.specs.declared.found.Found.{Found}
 use Rattle.parse_handlers.specs.declared.found.Found.TheOpen.{Found-F}

@@ -2,7 +2,7 @@
 -- choice. A function is directly in a part where no other function of the part stands around it. What stands in a
 -- parameter's initializer, or in the body of an arrow that is an expression, is directly in the function that these
 -- belong to; what stands in a braced body is left out.
-use Rattle.std.specs.Prelude.{ℕ, List, [], ◌∷◌, Bool, true, false, Option, option_map}
+use Rattle.std.specs.Prelude.{ℕ, List, Bool, true, false, Option, option_map}
 use Rattle.script_grammar.specs.declared.token.FuncForm.{FuncForm}
 use Rattle.script_grammar.specs.declared.token.FuncForm.TheVariants as form
 use Rattle.stencil_data.specs.declared.functions.FuncKind.{FuncKind}

@@ -1,5 +1,5 @@
 -- What parts over kept trees stand for: since their nodes are trees, each stands for one part of the model.
-use Rattle.std.specs.Prelude.{ℕ, List, Option, Some, None, ◌≡◌, option_map, map, unwrap_or}
+use Rattle.std.specs.Prelude.{Option, Some, None, ◌≡◌, option_map, map, unwrap_or}
 use Rattle.script_grammar.specs.declared.tree.Expr.{Expr}
 use Rattle.script_grammar.specs.declared.tree.Stmt.{Stmt}
 use Rattle.script_grammar.specs.declared.tree.Prop.{Prop}

@@ -21,6 +21,7 @@ use script_grammar::tree::{Expr, Func, Ident, Prop, Stmt};
 use std::alloc::{AllocError, Global};
 
 /// A handler whose nodes are the trees. A body's node is the list of its statements.
+#[derive(Drop)]
 pub struct Full {
     alloc: Global,
 }

@@ -15,3 +15,6 @@ pub mod syntax;
 pub use found::{Found, SyntaxBody, SyntaxNode};
 pub use full::Full;
 pub use syntax::Syntax;
+
+#[cfg(test)]
+mod tests;

@@ -23,6 +23,7 @@ use stencil_data::{Extent, FuncKind};
 
 /// A handler that keeps no tree. The node of an expression, a statement or a property is the list of the functions
 /// directly in it, and so is that of a body.
+#[derive(Drop)]
 pub struct Syntax {
     alloc: Global,
 }

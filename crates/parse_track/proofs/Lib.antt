@@ -2,6 +2,7 @@ pub mod Log
 pub mod Order
 pub mod Entering
 mod Examples
+mod Rows
 pub mod Walk
 pub mod Marks
 pub mod Items

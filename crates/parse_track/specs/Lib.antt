@@ -13,3 +13,5 @@ pub mod Rules
 pub mod Clashes
 pub mod Targets
 pub mod Errors
+pub mod Tells
+pub mod Notes

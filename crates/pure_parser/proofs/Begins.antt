@@ -1,11 +1,11 @@
 -- What an expression begins with: neither the depth at which it is printed, nor how bodies are looked at, changes it.
-use Rattle.std.proofs.Common.{◌≡◌, ℕ, suc, List, [], ◌∷◌, ◌++◌, refl, sym, ap, ◌∙◌, Bool, true, false, Option, Some, None, if◌then◌else◌}
+use Rattle.std.proofs.Common.{◌≡◌, ℕ, suc, List, [], ◌∷◌, ◌++◌, refl, sym, ap, ◌∙◌, Bool, true, false}
 use Rattle.script_grammar.specs.declared.token.Kind.{Kind}
 use Rattle.script_grammar.specs.Lexeme.{Lexeme}
 use Rattle.script_grammar.specs.Tree.{Expr, Exprs, no_exprs, more_exprs, Function, function, Params, no_params, more_params, Tails, no_tails, more_tails, Operands, no_operands, more_operands}
 use Rattle.script_grammar.specs.Tree as tree
-use Rattle.script_grammar.specs.Pieces.{Bodies, whole, Piece, At, Gap, Pass, Slot, Wanted, Exactly, AnyWord, Fits, IsWanted, from, begins_with, is_wanted}
-use Rattle.script_grammar.specs.Print.{print, print_list, print_more, print_params, print_tails, print_operands, above}
+use Rattle.script_grammar.specs.Pieces.{Bodies, Piece, At, Gap, Pass, Wanted, Exactly, AnyWord, IsWanted, from, begins_with, is_wanted}
+use Rattle.script_grammar.specs.Print.{print, print_more, print_params, print_tails, print_operands, above}
 use Rattle.script_grammar.specs.declared.token.FuncForm.TheVariants as form
 use Rattle.pure_parser.specs.Parser.{end_lexeme}
 use Rattle.pure_parser.proofs.Fitting.{FitsAll}

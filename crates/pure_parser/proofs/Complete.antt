@@ -1,15 +1,15 @@
 -- At the lexemes of a tree a parser reads this tree, unless some lexeme is too deep. Which bodies were passed over is
 -- another matter, and left out here.
-use Rattle.std.proofs.Common.{◌≡◌, ℕ, zero, suc, ◌+◌, ◌≤◌, ◌<◌, List, [], ◌∷◌, ◌++◌, length, refl, sym, ap, ◌∙◌, subst, arith, append_assoc, append-nil, Bool, true, false, cond, nat_lt, length-append}
+use Rattle.std.proofs.Common.{◌≡◌, ℕ, zero, suc, ◌≤◌, ◌<◌, List, [], ◌∷◌, ◌++◌, length, refl, sym, ap, ◌∙◌, subst, arith, append_assoc, append-nil, Bool, true, false, cond, nat_lt, length-append}
 use Rattle.std.proofs.lemmas.Bool.{le-ltb, lt-ltb}
 use Rattle.script_grammar.specs.declared.token.Kind.{Kind}
 use Rattle.script_grammar.specs.declared.token.FuncForm.{FuncForm}
 use Rattle.script_grammar.specs.Lexeme.{Lexeme}
-use Rattle.script_grammar.specs.Pieces.{Piece, At, Gap, Pass, Slot}
-use Rattle.pure_parser.specs.Parser.{Recorded, Reply, Read, Bad, Deep, Parser, head_of, rest_of, put_before, noted, after, ret, bad, deep, bind, peek, step, when, note, no_room, Turn, Again, Stop, turned, turns, loop, Many, stopped, begun, led}
+use Rattle.script_grammar.specs.Pieces.{Piece, At, Slot}
+use Rattle.pure_parser.specs.Parser.{Recorded, Reply, Read, Bad, Deep, Parser, head_of, put_before, noted, after, ret, bad, deep, bind, peek, step, when, note, no_room, Turn, Again, Stop, turned, turns, loop, begun}
 use Rattle.pure_parser.proofs.Friendly.{first_of}
 use Rattle.pure_parser.proofs.Fitting.{head_first}
-use Rattle.pure_parser.proofs.Stands.{Marked, lexemes, Stands, Split, stands_split, lexemes_append, AreShallow}
+use Rattle.pure_parser.proofs.Stands.{Marked, lexemes, Stands, stands_split, lexemes_append, AreShallow}
 
 -- a reply without the bodies that were passed over
 abbrev pub bare : {A : Type 0} → Reply A → Reply A
@@ -103,13 +103,15 @@ module _ (limit : ℕ) where
   parses_note form room simple rest = record { by = refl }
 
   pub parses_bind : {A B : Type 0} {m : Parser A} (f : A → Parser B) {u v : List Marked} {rest : List Lexeme} {a : A} {b : B} → Parses limit m u (lexemes v ++ rest) a → Parses limit (f a) v rest b → Parses limit (bind m f) (u ++ v) rest b
-  parses_bind {m = m} f {u = u} {v = v} {rest = rest} {a = a} {b = b} p q = record { by =
-      bare_after (m (lexemes (u ++ v) ++ rest)) f
-      ∙ ap (λ x. after (bare (m x)) (λ a. barely (f a))) (joined u v rest)
-      ∙ ap (λ x. after x (λ a. barely (f a))) p.by
-      ∙ after_cut limit u (lexemes v ++ rest) (Read a [] (lexemes v ++ rest)) (λ a. barely (f a))
-      ∙ ap (λ x. cut limit u (lexemes v ++ rest) x) q.by
-      ∙ sym (cut_append limit u v rest (Read b [] rest)) }
+  parses_bind {m = m} f {u = u} {v = v} {rest = rest} {a = a} {b = b} p q = record {
+    by =
+        bare_after (m (lexemes (u ++ v) ++ rest)) f
+        ∙ ap (λ x. after (bare (m x)) (λ a. barely (f a))) (joined u v rest)
+        ∙ ap (λ x. after x (λ a. barely (f a))) p.by
+        ∙ after_cut limit u (lexemes v ++ rest) (Read a [] (lexemes v ++ rest)) (λ a. barely (f a))
+        ∙ ap (λ x. cut limit u (lexemes v ++ rest) x) q.by
+        ∙ sym (cut_append limit u v rest (Read b [] rest));
+  }
 
   -- the same, where the lexemes are given whole
   pub parses_parts : {A B : Type 0} {m : Parser A} (f : A → Parser B) (w u v : List Marked) {rest : List Lexeme} {a : A} {b : B} → w ≡ u ++ v → Parses limit m u (lexemes v ++ rest) a → Parses limit (f a) v rest b → Parses limit (bind m f) w rest b
@@ -130,25 +132,28 @@ module _ (limit : ℕ) where
 
   -- a bind whose second part reads nothing
   pub parses_map : {A B : Type 0} {m : Parser A} (f : A → Parser B) {u : List Marked} {rest : List Lexeme} {a : A} {b : B} → Parses limit m u rest a → bare (f a rest) ≡ Read b [] rest → Parses limit (bind m f) u rest b
-  parses_map {m = m} f {u = u} {rest = rest} {a = a} {b = b} p e = record { by =
-      bare_after (m (lexemes u ++ rest)) f
-      ∙ ap (λ x. after x (λ a. barely (f a))) p.by
-      ∙ after_cut limit u rest (Read a [] rest) (λ a. barely (f a))
-      ∙ ap (λ x. cut limit u rest x) e }
+  parses_map {m = m} f {u = u} {rest = rest} {a = a} {b = b} p e = record {
+    by =
+        bare_after (m (lexemes u ++ rest)) f
+        ∙ ap (λ x. after x (λ a. barely (f a))) p.by
+        ∙ after_cut limit u rest (Read a [] rest) (λ a. barely (f a))
+        ∙ ap (λ x. cut limit u rest x) e;
+  }
 
   -- a bind whose first part reads nothing
   pub parses_then : {A B : Type 0} (m : Parser A) (f : A → Parser B) {u : List Marked} {rest : List Lexeme} {a : A} {b : B} → bare (m (lexemes u ++ rest)) ≡ Read a [] (lexemes u ++ rest) → Parses limit (f a) u rest b → Parses limit (bind m f) u rest b
-  parses_then m f {u = u} {rest = rest} e p = record { by =
-      bare_after (m (lexemes u ++ rest)) f
-      ∙ ap (λ x. after x (λ a. barely (f a))) e
-      ∙ p.by }
+  parses_then m f {u = u} {rest = rest} e p = record {
+    by =
+        bare_after (m (lexemes u ++ rest)) f
+        ∙ ap (λ x. after x (λ a. barely (f a))) e
+        ∙ p.by;
+  }
 
   -- a loop over the items of a list, and how it stops
   module _ {A B : Type 0} (K : A → Type 0) (pr : A → List Piece) (Follow : Lexeme → Type 0) (turn : Parser (Turn A B))
       (each : (x : A) (u : List Marked) (q : List Lexeme) → K x → Stands (pr x) u (head_of q) → Follow (head_of q) → Parses limit turn u q (Again x))
       (some : (x : A) (u : List Marked) (n : Lexeme) → K x → Stands (pr x) u n → 0 < length (lexemes u))
       (next : (x : A) (u : List Marked) (n : Lexeme) → K x → Stands (pr x) u n → Follow (first_of (lexemes u) n)) where
-
     follow_flat : (xs : List A) (w : List Marked) (n : Lexeme) → AllK K xs → Stands (flat pr xs) w n → Follow n → Follow (first_of (lexemes w) n)
     follow_flat [] [] n k h f = f
     follow_flat [] (t ∷ w) n k h f = absurd h

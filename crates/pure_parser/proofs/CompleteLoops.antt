@@ -1,8 +1,8 @@
 -- A loop over the places of a list, where what may follow an item hangs on the item.
-use Rattle.std.proofs.Common.{◌≡◌, ℕ, zero, suc, ◌+◌, ◌≤◌, ◌<◌, List, [], ◌∷◌, ◌++◌, length, refl, sym, ap, ◌∙◌, subst, arith, append_assoc, append-nil, length-append, Bool, true, false}
+use Rattle.std.proofs.Common.{◌≡◌, ℕ, zero, suc, ◌<◌, List, [], ◌∷◌, ◌++◌, length, refl, sym, ap, ◌∙◌, subst, arith, append_assoc, length-append}
 use Rattle.script_grammar.specs.Lexeme.{Lexeme}
 use Rattle.script_grammar.specs.Pieces.{Piece}
-use Rattle.pure_parser.specs.Parser.{Reply, Read, Parser, head_of, ret, bind, Turn, Again, Stop, turned, turns, loop, Many, begun, stopped}
+use Rattle.pure_parser.specs.Parser.{Parser, head_of, ret, Turn, Again, Stop, turned, turns, loop, begun}
 use Rattle.pure_parser.proofs.Friendly.{first_of}
 use Rattle.pure_parser.proofs.Fitting.{head_first}
 use Rattle.pure_parser.proofs.Stands.{Marked, lexemes, Stands, stands_split, lexemes_append}
@@ -14,7 +14,6 @@ module _ (limit : ℕ) {A B : Type 0} (K : A → Type 0) (pr : A → List Piece)
     (some : (x : A) → K x → (w : List Marked) (n : Lexeme) → Stands (pr x) w n → 0 < length (lexemes w))
     (link : (x y : A) → K x → K y → (w : List Marked) (n : Lexeme) → Stands (pr y) w n → F x (first_of (lexemes w) n))
     (stop : Completes limit qs G turn (Stop b)) where
-
   -- what follows all may follow the last item
   abbrev pub LastLeads : List A → Type 0
   LastLeads [] = Unit {0}

@@ -1,39 +1,29 @@
 -- Completeness of statements that hold no list of clauses: at their lexemes they are read.
-use Rattle.std.proofs.Common.{◌≡◌, ℕ, zero, suc, ◌+◌, ◌≤◌, ◌<◌, List, [], ◌∷◌, ◌++◌, length, refl, sym, ap, ◌∙◌, subst, arith, append_assoc, append-nil, Bool, true, false, not, ◌&&◌, ◌||◌, Option, Some, None, nat_le}
-use Rattle.std.proofs.lemmas.Bool.{le-leb}
+use Rattle.std.proofs.Common.{◌≡◌, ℕ, suc, ◌≤◌, ◌<◌, List, [], ◌∷◌, ◌++◌, length, refl, sym, ap, ◌∙◌, append_assoc, Bool, true, false, not, ◌&&◌, ◌||◌, Option, Some, None}
 use Rattle.script_grammar.specs.declared.token.Kind.{Kind}
 use Rattle.script_grammar.specs.declared.token.Kind.TheVariants as kind
 use Rattle.script_grammar.specs.declared.token.mark.TheConstants as mark
 use Rattle.script_grammar.specs.declared.token.word.TheConstants as word
-use Rattle.script_grammar.specs.declared.token.FuncForm.TheVariants as form
-use Rattle.script_grammar.specs.declared.token.Decl.{Decl}
-use Rattle.script_grammar.specs.declared.token.Decl.TheVariants as decl
 use Rattle.script_grammar.specs.Lexeme.{Lexeme}
-use Rattle.script_grammar.specs.Kinds.{is_mark, is_word, is_name, is_end, decl_word, is_var}
+use Rattle.script_grammar.specs.Kinds.{is_mark, is_word, is_name, is_end}
 use Rattle.script_grammar.specs.Tree.{Named, Expr, Stmt, Stmts, no_stmts, more_stmts, MaybeStmt, no_stmt, some_stmt, MaybeExpr, no_expr, some_expr, Binds, no_binds, more_binds, Function, function}
 use Rattle.script_grammar.specs.Tree as tree
-use Rattle.script_grammar.specs.TreeLists.{Bind, maybe_expr_of, maybe_stmt_of, binds_of, stmts_of}
-use Rattle.script_grammar.specs.Pieces.{Bodies, Piece, At, Gap, Pass, Slot, Is, Ending, BareBinding, Keyword, DoWhile, may_omit, mark_piece, word_piece, name_piece, glued_name, semi_piece, glue, placed}
-use Rattle.script_grammar.specs.Endings.{ending, return_ending, binds_ending, bind_ending}
-use Rattle.script_grammar.specs.Print.{print, print_stmt, print_stmts, print_else, print_label, print_maybe, print_binds, print_more_binds, print_initializer, print_function, print_catch_param}
-use Rattle.script_grammar.specs.Proper.{rank, Proper, ProperMaybe, ProperOption, ProperStmt, ProperStmts, ProperElse, ElseIsNearest, ProperBinds, HasBinds, ProperFunction, IsDeclaration, is_statement, takes_else, begins_brace, begins_function, free_of_in, maybe_free, binds_free, InIf, assign_rank}
-use Rattle.script_grammar.specs.Script.{IsOf}
-use Rattle.pure_parser.specs.Parser.{Reply, Read, Bad, Deep, Parser, head_of, ret, bad, bind, peek, step, when, Turn, Again, Stop, loop, Many, stopped, begun, led}
-use Rattle.pure_parser.specs.Exprs.{Env, AnAssign, expect, expr_of, name_of, named, function_of, again, begins_assign}
+use Rattle.script_grammar.specs.TreeLists.{maybe_expr_of, maybe_stmt_of}
+use Rattle.script_grammar.specs.Pieces.{Bodies, Piece, At, Gap, Pass, Keyword, DoWhile, may_omit, mark_piece, word_piece, semi_piece, glue}
+use Rattle.script_grammar.specs.Endings.{ending, return_ending}
+use Rattle.script_grammar.specs.Print.{print, print_stmt, print_stmts, print_else, print_label, print_maybe}
+use Rattle.script_grammar.specs.Proper.{Proper, ProperOption, ProperStmt, ProperStmts, is_statement, takes_else}
+use Rattle.pure_parser.specs.Parser.{Read, Parser, head_of, ret, bad, bind, step, when}
+use Rattle.pure_parser.specs.Exprs.{expect, expr_of, named, begins_assign}
 use Rattle.pure_parser.specs.Stmts as parser
 use Rattle.pure_parser.specs.Stmts.{Place, AnItem, AStmt, StmtCalls, Block, is_item, is_inside, bound, ends_items}
-use Rattle.pure_parser.specs.Follow.{continues_assign, continues_expr}
-use Rattle.pure_parser.proofs.Friendly.{first_of}
-use Rattle.pure_parser.proofs.Tests.{false_true, true_false, and_left, and_right, or_cases, or_left, or_right, not_true, neither_left, neither_right, mark_known, word_known, end_known, name_known}
+use Rattle.pure_parser.proofs.Tests.{false_true, true_false, or_left, or_right, mark_known, end_known}
 use Rattle.pure_parser.proofs.Stands.{Marked, lexemes, Stands}
-use Rattle.pure_parser.proofs.Complete.{Parses, bare, AllK, flat}
-use Rattle.pure_parser.proofs.Completes.{Completes, Leads, Any, of_kind, at_kind, lead_none, lead_at, lead_any, lead_gap, lead_map, lead_front, c_ret, c_bind, c_made, c_at, c_front, c_look, c_weaken, c_pieces, c_gap, c_mark, c_word}
-use Rattle.pure_parser.proofs.CompleteLoops.{c_loop, LastLeads}
-use Rattle.pure_parser.proofs.Stops.{omit_cases, stop_close, stop_semi, stop_colon, stop_in, stop_comma, stop_assign, omit_stops, ends_expr}
-use Rattle.pure_parser.proofs.ExprFronts.{mark_elim, Opens, opens_first, opens_some, expr_opens, expr_second, second_first}
-use Rattle.pure_parser.proofs.StmtFronts.{starts, stmt_opens, block_at, empty_at, debugger_at, var_at, let_at, const_at, function_at, if_at, while_at, do_at, for_at, switch_at, try_at, continue_at, break_at, return_at, throw_at, label_at, value_at}
-use Rattle.pure_parser.proofs.Begins.{begins_same}
-use Rattle.pure_parser.proofs.CompleteStmts.{Follows, EndsList, CompleteUses, CompleteStmts, CompleteBlock, c_value, follows_as, colon_word, semi_complete, semi_leads, expr_semi, name_complete, stmts_complete, braced_from_complete, braced_complete}
+use Rattle.pure_parser.proofs.Complete.{bare}
+use Rattle.pure_parser.proofs.Completes.{Completes, of_kind, at_kind, lead_none, lead_at, lead_any, lead_map, c_ret, c_bind, c_made, c_at, c_front, c_look, c_weaken, c_pieces, c_mark, c_word}
+use Rattle.pure_parser.proofs.Stops.{omit_cases, stop_close}
+use Rattle.pure_parser.proofs.ExprFronts.{mark_elim, Opens, opens_first, opens_some, expr_opens}
+use Rattle.pure_parser.proofs.CompleteStmts.{Follows, CompleteBlock, c_value, follows_as, colon_word, semi_complete, semi_leads, expr_semi, braced_from_complete}
 
 module _ (limit : ℕ) (m : Bodies) (d : ℕ) (low : d ≤ limit) (b : Block) (c : CompleteBlock limit m d b) (i : Bool) where
   -- an Expression in parentheses, and what is behind it
@@ -74,20 +64,20 @@ module _ (limit : ℕ) (m : Bodies) (d : ℕ) (low : d ≤ limit) (b : Block) (c
   unfolding parser.if_of
   if_complete e s no_stmt h = parens_then e (print_stmt m (suc d) s ++ []) (λ x. bind (b.stmt (AStmt i)) (λ y. bind (parser.else_behind b i y) (λ z. ret (tree.If x y (maybe_stmt_of z))))) (tree.If e s no_stmt) h.0
       (c_bind limit (λ y. bind (parser.else_behind b i y) (λ z. ret (tree.If e y (maybe_stmt_of z)))) (stmt s h.2 h.1)
-          (lead_map (λ t g. record { no_else = λ _. g.no_else refl; no_colon = g.no_colon }) lead_none)
-          (c_made limit (λ z. tree.If e s (maybe_stmt_of z)) (c_look limit (λ rest g. else_none (takes_else s) rest (g.no_else refl)))))
+      (lead_map (λ t g. record { no_else = λ _. g.no_else refl; no_colon = g.no_colon }) lead_none)
+      (c_made limit (λ z. tree.If e s (maybe_stmt_of z)) (c_look limit (λ rest g. else_none (takes_else s) rest (g.no_else refl)))))
   if_complete e s (some_stmt x) h = parens_then e (print_stmt m (suc d) s ++ (word_piece word.ELSE d ∷ print_stmt m (suc d) x)) (λ x. bind (b.stmt (AStmt i)) (λ y. bind (parser.else_behind b i y) (λ z. ret (tree.If x y (maybe_stmt_of z))))) (tree.If e s (some_stmt x)) h.0
       (c_bind limit (λ y. bind (parser.else_behind b i y) (λ z. ret (tree.If e y (maybe_stmt_of z)))) (stmt s h.2 h.1)
-          (lead_at (λ t q. record { no_else = λ y. absurd (true_false (sym y ∙ h.3)); no_colon = colon_word word.ELSE t q.kind }))
-          (c_made limit (λ z. tree.If e s (maybe_stmt_of z)) (else_some (takes_else s) (word_piece word.ELSE d ∷ print_stmt m (suc d) x) (Some x) h.3
-              (c_at limit (λ t. bind (b.stmt (AStmt i)) (λ y. ret (Some y))) low (λ t ts q. else_here t ts q.kind) (λ t q. c_made limit Some (c_weaken limit (λ t g. follows_as refl t g) (stmt x h.4.1 h.4.0)))))))
+      (lead_at (λ t q. record { no_else = λ y. absurd (true_false (sym y ∙ h.3)); no_colon = colon_word word.ELSE t q.kind }))
+      (c_made limit (λ z. tree.If e s (maybe_stmt_of z)) (else_some (takes_else s) (word_piece word.ELSE d ∷ print_stmt m (suc d) x) (Some x) h.3
+      (c_at limit (λ t. bind (b.stmt (AStmt i)) (λ y. ret (Some y))) low (λ t ts q. else_here t ts q.kind) (λ t q. c_made limit Some (c_weaken limit (λ t g. follows_as refl t g) (stmt x h.4.1 h.4.0)))))))
 
   pub do_complete : (s : Stmt) (e : Expr) (semi : Bool) → ProperStmt m i (tree.Do s e semi) → Completes limit (print_stmt m (suc d) s ++ (word_piece word.WHILE d ∷ mark_piece mark.OPEN_PAREN d ∷ (print m (suc d) e ++ (mark_piece mark.CLOSE_PAREN d ∷ semi_piece DoWhile semi d)))) (Follows (tree.Do s e semi)) (parser.do_of b i) (tree.Do s e semi)
   unfolding parser.do_of
   do_complete s e semi h = c_bind limit (λ y. bind (parser.expect_word word.WHILE) (λ _. bind (parser.parens_of b.exprs) (λ x. bind (parser.semi_of DoWhile) (λ z. ret (tree.Do y x z))))) (stmt s h.1 h.0)
       (lead_at (λ t q. record { no_else = λ _. ap (is_word word.ELSE) q.kind; no_colon = colon_word word.WHILE t q.kind }))
       (c_bind limit (λ _. bind (parser.parens_of b.exprs) (λ x. bind (parser.semi_of DoWhile) (λ z. ret (tree.Do s x z)))) (c_word limit word.WHILE d low refl) lead_any
-          (parens_then e (semi_piece DoWhile semi d) (λ x. bind (parser.semi_of DoWhile) (λ z. ret (tree.Do s x z))) (tree.Do s e semi) h.2 (c_made limit (tree.Do s e) (semi_complete limit m d low DoWhile semi))))
+      (parens_then e (semi_piece DoWhile semi d) (λ x. bind (parser.semi_of DoWhile) (λ z. ret (tree.Do s x z))) (tree.Do s e semi) h.2 (c_made limit (tree.Do s e) (semi_complete limit m d low DoWhile semi))))
 
   pub block_complete : {F : Lexeme → Type 0} (ss : Stmts) → ProperStmts m i ss → Completes limit (print_stmts m d ss ++ mark_piece mark.CLOSE_BRACE d ∷ []) F (parser.block_stmt b i) (tree.Block ss)
   unfolding parser.block_stmt
@@ -221,8 +211,8 @@ module _ (limit : ℕ) (m : Bodies) (d : ℕ) (low : d ≤ limit) (b : Block) (c
       (c_made limit (tree.Return no_expr) (semi_complete limit m d low Keyword semi))
   return_complete (some_expr e) semi h = c_bind limit (λ x. bind (parser.semi_of (return_ending (maybe_expr_of x))) (λ z. ret (tree.Return (maybe_expr_of x) z)))
       (c_front limit (bind (expr_of b.exprs true) (λ x. ret (Some x)))
-          (λ x w rest k g. returned_here x.lexeme (lexemes w ++ rest) (none_of x.lexeme.after_line (is_mark mark.SEMICOLON x.lexeme.kind) (is_mark mark.CLOSE_BRACE x.lexeme.kind) (is_end x.lexeme.kind) (glue_line begins_assign (print m (suc d) e) x w (head_of rest) (expr_opens m (suc d) e h) k) (goes_value x.lexeme.kind (opens_first begins_assign (print m (suc d) e) x w (head_of rest) (expr_opens m (suc d) e h) (glue_stands (print m (suc d) e) (x ∷ w) (head_of rest) k)))))
-          (λ w n k. glue_some begins_assign (print m (suc d) e) w n (expr_opens m (suc d) e h) k)
-          (c_glue (print m (suc d) e) (bind (expr_of b.exprs true) (λ x. ret (Some x))) (Some e) (c_made limit Some (c.uses.expr true e h refl))))
+      (λ x w rest k g. returned_here x.lexeme (lexemes w ++ rest) (none_of x.lexeme.after_line (is_mark mark.SEMICOLON x.lexeme.kind) (is_mark mark.CLOSE_BRACE x.lexeme.kind) (is_end x.lexeme.kind) (glue_line begins_assign (print m (suc d) e) x w (head_of rest) (expr_opens m (suc d) e h) k) (goes_value x.lexeme.kind (opens_first begins_assign (print m (suc d) e) x w (head_of rest) (expr_opens m (suc d) e h) (glue_stands (print m (suc d) e) (x ∷ w) (head_of rest) k)))))
+      (λ w n k. glue_some begins_assign (print m (suc d) e) w n (expr_opens m (suc d) e h) k)
+      (c_glue (print m (suc d) e) (bind (expr_of b.exprs true) (λ x. ret (Some x))) (Some e) (c_made limit Some (c.uses.expr true e h refl))))
       (expr_semi limit m d low e semi)
       (c_made limit (tree.Return (some_expr e)) (semi_complete limit m d low (ending e) semi))

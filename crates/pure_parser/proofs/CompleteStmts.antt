@@ -1,39 +1,34 @@
 -- Completeness of statements: at the lexemes of a statement of the grammar its parser reads this statement, or finds the
 -- first of them that is too deep.
-use Rattle.std.proofs.Common.{◌≡◌, ℕ, zero, suc, ◌+◌, ◌≤◌, ◌<◌, List, [], ◌∷◌, ◌++◌, length, refl, sym, ap, ◌∙◌, subst, arith, append_assoc, append-nil, Bool, true, false, not, ◌&&◌, ◌||◌, Option, Some, None, nat_le}
-use Rattle.std.proofs.lemmas.Bool.{le-leb}
+use Rattle.std.proofs.Common.{◌≡◌, ℕ, suc, ◌≤◌, ◌<◌, List, [], ◌∷◌, ◌++◌, length, refl, sym, ap, ◌∙◌, subst, arith, append_assoc, Bool, true, false, not, ◌||◌, Some}
 use Rattle.script_grammar.specs.declared.token.Kind.{Kind}
 use Rattle.script_grammar.specs.declared.token.Kind.TheVariants as kind
 use Rattle.script_grammar.specs.declared.token.mark.TheConstants as mark
 use Rattle.script_grammar.specs.declared.token.word.TheConstants as word
 use Rattle.script_grammar.specs.declared.token.FuncForm.TheVariants as form
-use Rattle.script_grammar.specs.declared.token.Decl.{Decl}
-use Rattle.script_grammar.specs.declared.token.Decl.TheVariants as decl
 use Rattle.script_grammar.specs.Lexeme.{Lexeme}
-use Rattle.script_grammar.specs.Kinds.{is_mark, is_word, is_name, is_end, decl_word, is_var}
-use Rattle.script_grammar.specs.Tree.{Named, Expr, Stmt, Stmts, no_stmts, more_stmts, MaybeStmt, no_stmt, some_stmt, MaybeExpr, no_expr, some_expr, Binds, no_binds, more_binds, Function, function}
-use Rattle.script_grammar.specs.Tree as tree
-use Rattle.script_grammar.specs.TreeLists.{Bind, maybe_expr_of, maybe_stmt_of, binds_of, stmts_of}
-use Rattle.script_grammar.specs.Pieces.{Bodies, Piece, At, Gap, Pass, Slot, Is, Ending, BareBinding, Keyword, DoWhile, may_omit, mark_piece, word_piece, name_piece, glued_name, semi_piece, glue, placed}
-use Rattle.script_grammar.specs.Endings.{ending, return_ending, binds_ending, bind_ending}
-use Rattle.script_grammar.specs.Print.{print, print_stmt, print_stmts, print_else, print_label, print_maybe, print_binds, print_more_binds, print_initializer, print_function, print_catch_param}
-use Rattle.script_grammar.specs.Proper.{rank, Proper, ProperMaybe, ProperOption, ProperStmt, ProperStmts, ProperElse, ElseIsNearest, ProperBinds, HasBinds, ProperFunction, IsDeclaration, is_statement, takes_else, begins_brace, begins_function, free_of_in, maybe_free, binds_free, InIf, assign_rank}
+use Rattle.script_grammar.specs.Kinds.{is_mark, is_word, is_end}
+use Rattle.script_grammar.specs.Tree.{Named, Expr, Stmt, Stmts, no_stmts, more_stmts, Function}
+use Rattle.script_grammar.specs.TreeLists.{stmts_of}
+use Rattle.script_grammar.specs.Pieces.{Bodies, Piece, Ending, may_omit, mark_piece, name_piece, semi_piece}
+use Rattle.script_grammar.specs.Endings.{ending}
+use Rattle.script_grammar.specs.Print.{print, print_stmt, print_stmts, print_function}
+use Rattle.script_grammar.specs.Proper.{rank, Proper, ProperStmt, ProperStmts, ProperFunction, is_statement, takes_else, free_of_in, InIf, assign_rank}
 use Rattle.script_grammar.specs.Script.{IsOf}
-use Rattle.pure_parser.specs.Parser.{Reply, Read, Bad, Deep, Parser, head_of, ret, bad, bind, peek, step, when, Turn, Again, Stop, loop, Many, stopped, begun, led}
-use Rattle.pure_parser.specs.Exprs.{Env, AnAssign, expect, expr_of, name_of, named, function_of, again, begins_assign}
+use Rattle.pure_parser.specs.Parser.{Read, Parser, head_of, ret, bad, bind, step, when, Again, Stop}
+use Rattle.pure_parser.specs.Exprs.{Env, AnAssign, expect, expr_of, name_of, named, function_of}
 use Rattle.pure_parser.specs.Stmts as parser
 use Rattle.pure_parser.specs.Stmts.{Place, AnItem, AStmt, StmtCalls, Block, is_item, is_inside, bound, ends_items}
 use Rattle.pure_parser.specs.Follow.{continues_assign, continues_expr}
 use Rattle.pure_parser.proofs.Friendly.{first_of}
-use Rattle.pure_parser.proofs.Tests.{false_true, true_false, and_left, and_right, or_cases, or_left, or_right, not_true, neither_left, neither_right, mark_known, word_known, end_known, name_known}
+use Rattle.pure_parser.proofs.Tests.{false_true, true_false, and_left, or_cases, not_true, neither_left, neither_right, mark_known, word_known, end_known}
 use Rattle.pure_parser.proofs.Stands.{Marked, lexemes, Stands}
-use Rattle.pure_parser.proofs.Complete.{Parses, bare, AllK, flat}
-use Rattle.pure_parser.proofs.Completes.{Completes, Leads, Any, of_kind, at_kind, lead_none, lead_at, lead_any, lead_gap, lead_map, lead_front, c_ret, c_bind, c_made, c_at, c_front, c_look, c_weaken, c_pieces, c_gap, c_mark, c_word}
+use Rattle.pure_parser.proofs.Complete.{bare, AllK, flat}
+use Rattle.pure_parser.proofs.Completes.{Completes, Leads, Any, at_kind, lead_none, lead_at, lead_any, lead_map, c_ret, c_bind, c_made, c_at, c_front, c_look, c_pieces, c_gap, c_mark}
 use Rattle.pure_parser.proofs.CompleteLoops.{c_loop, LastLeads}
-use Rattle.pure_parser.proofs.Stops.{stop_close, stop_semi, stop_colon, stop_in, stop_comma, stop_assign, omit_stops, ends_expr}
-use Rattle.pure_parser.proofs.ExprFronts.{Opens, opens_first, opens_some, expr_opens, expr_second, second_first}
-use Rattle.pure_parser.proofs.StmtFronts.{starts, stmt_opens, block_at, empty_at, debugger_at, var_at, let_at, const_at, function_at, if_at, while_at, do_at, for_at, switch_at, try_at, continue_at, break_at, return_at, throw_at, label_at, value_at}
-use Rattle.pure_parser.proofs.Begins.{begins_same}
+use Rattle.pure_parser.proofs.Stops.{stop_semi, omit_stops, ends_expr}
+use Rattle.pure_parser.proofs.ExprFronts.{opens_first, opens_some}
+use Rattle.pure_parser.proofs.StmtFronts.{starts, stmt_opens}
 
 -- What may follow a statement: no `else` that it would take, and no colon.
 pub record Follows (s : Stmt) (t : Lexeme) : Type 0 where
@@ -70,6 +65,14 @@ colon_word i t e = ap (is_mark mark.COLON) e
 
 pub named_is : (n : Named) (d : ℕ) (t : Lexeme) → t.text ≡ n.text → t.start ≡ n.at → named t ≡ n
 named_is n d t e h = ap (λ x. record { text = x; at = t.start }) e ∙ ap (λ x. record { text = n.text; at = x }) h
+
+abbrev pub list_of : Stmts → List Stmt
+list_of no_stmts = []
+list_of (more_stmts s ss) = s ∷ list_of ss
+
+pub of_list : (ss : Stmts) → stmts_of (list_of ss) ≡ ss
+of_list no_stmts = refl
+of_list (more_stmts s ss) = ap (more_stmts s) (of_list ss)
 
 module _ (limit : ℕ) (m : Bodies) (d : ℕ) (low : d ≤ limit) where
   -- a semicolon
@@ -108,14 +111,6 @@ module _ (limit : ℕ) (m : Bodies) (d : ℕ) (low : d ≤ limit) where
   name_complete n = c_at limit (λ t. ret (named t)) low (λ t ts s. name_here t ts s.kind) (λ t s. c_value (named_is n d t s.content s.starts.0) (c_ret limit (named t)))
 
   -- lists of statements
-
-  abbrev pub list_of : Stmts → List Stmt
-  list_of no_stmts = []
-  list_of (more_stmts s ss) = s ∷ list_of ss
-
-  pub of_list : (ss : Stmts) → stmts_of (list_of ss) ≡ ss
-  of_list no_stmts = refl
-  of_list (more_stmts s ss) = ap (more_stmts s) (of_list ss)
 
   flat_stmts : (ss : Stmts) → flat (λ s. print_stmt m (suc d) s) (list_of ss) ++ [] ≡ print_stmts m d ss
   flat_stmts no_stmts = refl

@@ -1,18 +1,18 @@
 -- Reading a list of places: wherever lexemes stand at them, in front of one that may follow, a parser reads this value, or
 -- finds the first of them that is too deep. Combined from the parts.
-use Rattle.std.proofs.Common.{◌≡◌, ℕ, zero, suc, ◌+◌, ◌≤◌, ◌<◌, List, [], ◌∷◌, ◌++◌, length, refl, sym, ap, ◌∙◌, subst, arith, append_assoc, append-nil, Bool, true, false, cond, nat_lt}
+use Rattle.std.proofs.Common.{◌≡◌, ℕ, ◌≤◌, ◌<◌, List, [], ◌∷◌, ◌++◌, length, refl, sym, ap, ◌∙◌, subst, arith, true}
 use Rattle.script_grammar.specs.declared.token.Kind.{Kind}
 use Rattle.script_grammar.specs.declared.token.Kind.TheVariants as kind
 use Rattle.script_grammar.specs.Lexeme.{Lexeme}
 use Rattle.script_grammar.specs.Pieces.{Piece, At, Gap, Slot, Is, Ending, may_omit, mark_piece, word_piece}
 use Rattle.script_grammar.specs.Kinds.{is_mark, is_word}
-use Rattle.pure_parser.specs.Parser.{Reply, Read, Bad, Deep, Parser, head_of, ret, bad, bind, peek, step, when, Turn, Again, Stop, loop, Many}
+use Rattle.pure_parser.specs.Parser.{Read, Deep, Parser, head_of, ret, bad, bind, step, when}
 use Rattle.pure_parser.specs.Exprs.{expect}
 use Rattle.pure_parser.specs.Stmts.{expect_word}
 use Rattle.pure_parser.proofs.Friendly.{first_of}
 use Rattle.pure_parser.proofs.Fitting.{head_first}
 use Rattle.pure_parser.proofs.Stands.{Marked, lexemes, Stands, stands_split}
-use Rattle.pure_parser.proofs.Complete.{Parses, bare, cut, AllK, flat, parses_ret, parses_parts, parses_map, parses_items, shallow}
+use Rattle.pure_parser.proofs.Complete.{Parses, bare, cut, parses_ret, parses_parts, parses_map, shallow}
 
 -- a lexeme with another kind
 abbrev pub of_kind : Kind → Lexeme → Lexeme
@@ -74,11 +74,13 @@ module _ (limit : ℕ) where
       none (x ∷ w) rest h g = absurd h
 
   pub c_bind : {A B : Type 0} {ps qs : List Piece} {F G : Lexeme → Type 0} {m : Parser A} (f : A → Parser B) {a : A} {b : B} → Completes ps F m a → Leads qs G F → Completes qs G (f a) b → Completes (ps ++ qs) G (bind m f) b
-  c_bind {ps = ps} {qs = qs} {F = F} f c l e = record { at = λ w rest h g.
-      let p = stands_split ps qs w (head_of rest) h in
-      parses_parts limit f w p.front p.back p.split
-          (c.at p.front (lexemes p.back ++ rest) (subst (λ y. Stands ps p.front y) (sym (head_first (lexemes p.back) rest)) p.first) (subst F (sym (head_first (lexemes p.back) rest)) (l.by p.back (head_of rest) p.second g)))
-          (e.at p.back rest p.second g) }
+  c_bind {ps = ps} {qs = qs} {F = F} f c l e = record {
+    at = λ w rest h g.
+        let p = stands_split ps qs w (head_of rest) h in
+        parses_parts limit f w p.front p.back p.split
+        (c.at p.front (lexemes p.back ++ rest) (subst (λ y. Stands ps p.front y) (sym (head_first (lexemes p.back) rest)) p.first) (subst F (sym (head_first (lexemes p.back) rest)) (l.by p.back (head_of rest) p.second g)))
+        (e.at p.back rest p.second g);
+  }
 
   -- the value is made into another
   pub c_made : {A B : Type 0} {ps : List Piece} {F : Lexeme → Type 0} {m : Parser A} (g : A → B) {a : A} → Completes ps F m a → Completes ps F (bind m (λ x. ret (g x))) (g a)

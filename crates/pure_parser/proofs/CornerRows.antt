@@ -1,9 +1,9 @@
 -- Texts at corners of the grammar, and what the parser answers, computed.
-use Rattle.std.proofs.Common.{◌≡◌, List, [], ◌∷◌, true, false, refl}
+use Rattle.std.proofs.Common.{◌≡◌, [], ◌∷◌, true, false, refl}
 use Rattle.script_grammar.specs.declared.token.Kind.TheVariants as kind
 use Rattle.script_grammar.specs.declared.token.mark.TheConstants as mark
 use Rattle.script_grammar.specs.declared.token.word.TheConstants as word
-use Rattle.pure_parser.proofs.Rows.{Accepted, Unexpected, TooDeep, answer, name_at, number_at, text_at, word_at, mark_at, bad_at, end_at}
+use Rattle.pure_parser.proofs.Rows.{Accepted, Unexpected, answer, name_at, number_at, text_at, word_at, mark_at, bad_at, end_at}
 
 -- `function f(){}()`
 row_0 : answer 12 ((word_at word.FUNCTION (102 ∷ 117 ∷ 110 ∷ 99 ∷ 116 ∷ 105 ∷ 111 ∷ 110 ∷ []) 0 8 false) ∷ (name_at (102 ∷ []) 9 10 false) ∷ (mark_at mark.OPEN_PAREN 10 11 false) ∷ (mark_at mark.CLOSE_PAREN 11 12 false) ∷ (mark_at mark.OPEN_BRACE 12 13 false) ∷ (mark_at mark.CLOSE_BRACE 13 14 false) ∷ (mark_at mark.OPEN_PAREN 14 15 false) ∷ (mark_at mark.CLOSE_PAREN 15 16 false) ∷ (end_at 16 false) ∷ []) ≡ Unexpected 16

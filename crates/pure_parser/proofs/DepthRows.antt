@@ -1,9 +1,7 @@
 -- The limit of depth, computed.
-use Rattle.std.proofs.Common.{◌≡◌, List, [], ◌∷◌, true, false, refl}
-use Rattle.script_grammar.specs.declared.token.Kind.TheVariants as kind
+use Rattle.std.proofs.Common.{◌≡◌, [], ◌∷◌, false, refl}
 use Rattle.script_grammar.specs.declared.token.mark.TheConstants as mark
-use Rattle.script_grammar.specs.declared.token.word.TheConstants as word
-use Rattle.pure_parser.proofs.Rows.{Accepted, Unexpected, TooDeep, answer, name_at, number_at, text_at, word_at, mark_at, bad_at, end_at, many}
+use Rattle.pure_parser.proofs.Rows.{Accepted, TooDeep, answer, name_at, number_at, mark_at, end_at, many}
 
 -- 10 times `(`, a name, and as many `)`
 few_parens : answer 12 (many mark.OPEN_PAREN 10 0 (name_at (120 ∷ []) 10 11 false ∷ many mark.CLOSE_PAREN 10 11 (end_at 21 false ∷ []))) ≡ Accepted

@@ -1,19 +1,19 @@
 -- The first places of an expression: the first is for a lexeme that begins an AssignmentExpression, and behind a name that
 -- is first no colon stands.
-use Rattle.std.proofs.Common.{◌≡◌, ℕ, zero, suc, ◌+◌, ◌≤◌, ◌<◌, List, [], ◌∷◌, ◌++◌, length, refl, sym, ap, ◌∙◌, subst, arith, Bool, true, false, not, ◌&&◌, ◌||◌, nat_eq, nat_le, if◌then◌else◌, ◌⊎◌, inl, inr}
-use Rattle.std.proofs.lemmas.Bool.{eqb-true, leb-true, eq-eqb}
+use Rattle.std.proofs.Common.{◌≡◌, ℕ, suc, ◌≤◌, ◌<◌, List, [], ◌∷◌, ◌++◌, length, refl, sym, ap, ◌∙◌, subst, arith, Bool, true, false, ◌||◌, nat_eq, nat_le, ◌⊎◌, inl, inr}
+use Rattle.std.proofs.lemmas.Bool.{eqb-true, leb-true}
 use Rattle.script_grammar.specs.declared.token.Kind.{Kind}
 use Rattle.script_grammar.specs.declared.token.Kind.TheVariants as kind
 use Rattle.script_grammar.specs.declared.token.mark.TheConstants as mark
 use Rattle.script_grammar.specs.declared.token.word.TheConstants as word
 use Rattle.script_grammar.specs.declared.token.FuncForm.TheVariants as form
 use Rattle.script_grammar.specs.Lexeme.{Lexeme}
-use Rattle.script_grammar.specs.Kinds.{is_mark, is_word, is_name, is_any_word, is_prefix_op, is_update_op, is_assign_op, op_kind, op_level, mark_level, no_level, between}
+use Rattle.script_grammar.specs.Kinds.{is_mark, is_word, is_name, is_any_word, is_prefix_op, is_update_op, is_assign_op, op_kind, op_level, mark_level, no_level}
 use Rattle.script_grammar.specs.Tree.{Named, Expr, Exprs, no_exprs, more_exprs, Function, function, Params, no_params, more_params, no_expr, some_expr, Tails, no_tails, more_tails, Operands, no_operands, more_operands, Parts, no_parts, more_parts}
 use Rattle.script_grammar.specs.Tree as tree
-use Rattle.script_grammar.specs.Pieces.{Bodies, Piece, At, Gap, Pass, Slot, Wanted, Exactly, AnyWord, IsWanted, Is, from}
-use Rattle.script_grammar.specs.Print.{print, print_func, print_tails, print_operands, print_list, print_more, above, param_depth, first_kind}
-use Rattle.script_grammar.specs.Proper.{Proper, ProperFunction, ProperExprs, ProperOperands, HasOperands, HasTails, IsFuncExpression, IsExpressionForm, BareIf, IsBare, AreParams, operands_level}
+use Rattle.script_grammar.specs.Pieces.{Bodies, Piece, At, Gap, Pass, Wanted, Exactly, AnyWord, IsWanted, from}
+use Rattle.script_grammar.specs.Print.{print, print_func, print_tails, print_operands, print_more, above, first_kind}
+use Rattle.script_grammar.specs.Proper.{Proper, ProperFunction, IsFuncExpression, operands_level}
 use Rattle.pure_parser.specs.Exprs.{begins_assign, begins_word, begins_mark}
 use Rattle.pure_parser.proofs.Friendly.{first_of}
 use Rattle.pure_parser.proofs.Stands.{Marked, lexemes, Stands}

@@ -1,11 +1,10 @@
 -- Lexemes that stand at places.
-use Rattle.std.proofs.Common.{◌≡◌, ℕ, zero, suc, List, [], ◌∷◌, ◌++◌, length, refl, sym, ap, ◌∙◌, subst, append_assoc, append-nil, Bool, true, false, Option, Some, None}
+use Rattle.std.proofs.Common.{◌≡◌, ℕ, List, [], ◌∷◌, ◌++◌, refl, sym, ap, ◌∙◌, subst, append_assoc, append-nil, true, false}
 use Rattle.script_grammar.specs.declared.token.Kind.{Kind}
 use Rattle.script_grammar.specs.declared.token.Kind.TheVariants as kind
 use Rattle.script_grammar.specs.Lexeme.{Lexeme, Role, no_role}
 use Rattle.script_grammar.specs.Kinds.{is_any_word}
-use Rattle.script_grammar.specs.Tree.{Named}
-use Rattle.script_grammar.specs.Pieces.{Piece, At, Gap, Pass, Slot, Ending, Wanted, Exactly, AnyWord, Is, Fits, IsWanted, may_omit, slot, mark_piece, word_piece, glued_mark, placed, closing_mark, number_piece, str_piece, text_piece, template_piece, name_piece, glued_name, any_word, role_piece, glue, from, ending_at, until, comma_piece, semi_piece}
+use Rattle.script_grammar.specs.Pieces.{Piece, At, Gap, Pass, Slot, Ending, Is, Fits, may_omit, slot, mark_piece, word_piece, glued_mark, placed, closing_mark, number_piece, str_piece, text_piece, template_piece, name_piece, glued_name, any_word, role_piece, glue, from, ending_at, until}
 use Rattle.pure_parser.specs.Parser.{head_of}
 use Rattle.pure_parser.specs.Exprs.{last_end, named}
 use Rattle.pure_parser.proofs.Friendly.{first_of, Friendly, friendly_omits, Starter}

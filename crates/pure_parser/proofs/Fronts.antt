@@ -1,19 +1,14 @@
 -- The first place of an expression: its kind is the same at every depth, and the first lexeme is of it.
-use Rattle.std.proofs.Common.{◌≡◌, ℕ, zero, suc, ◌≤◌, ◌<◌, List, [], ◌∷◌, ◌++◌, refl, sym, ap, ◌∙◌, subst, arith, Bool, true, false, Option, Some, None}
+use Rattle.std.proofs.Common.{◌≡◌, ℕ, List, ◌∷◌, ◌++◌, refl, sym, ap, ◌∙◌, subst, Bool, true, false}
 use Rattle.script_grammar.specs.declared.token.Kind.{Kind}
-use Rattle.script_grammar.specs.declared.token.Kind.TheVariants as kind
 use Rattle.script_grammar.specs.declared.token.FuncForm.{FuncForm}
 use Rattle.script_grammar.specs.declared.token.FuncForm.TheVariants as form
-use Rattle.script_grammar.specs.declared.token.mark.TheConstants as mark
 use Rattle.script_grammar.specs.Lexeme.{Lexeme}
-use Rattle.script_grammar.specs.Kinds.{is_mark, is_arrow_form}
 use Rattle.script_grammar.specs.Tree.{Named, Expr, Exprs, no_exprs, more_exprs, Function, function, Params, no_params, more_params, no_expr, some_expr, Body}
 use Rattle.script_grammar.specs.Tree as tree
-use Rattle.script_grammar.specs.Pieces.{Bodies, whole, Piece, At, Gap, Pass, Slot, Wanted, Exactly, AnyWord, Fits, from, begins_with, is_wanted, IsWanted}
-use Rattle.script_grammar.specs.Print.{print, print_func, print_list, print_body, print_params, parenthesized, func_word, arrow_pieces, param_depth}
-use Rattle.script_grammar.specs.Proper.{Proper, begins_brace, begins_function, BareIf, IsFuncExpression, IsExpressionForm, ProperFunction}
-use Rattle.pure_parser.proofs.Tests.{false_true, true_false}
-use Rattle.pure_parser.proofs.Fitting.{FitsAll}
+use Rattle.script_grammar.specs.Pieces.{Bodies, Piece, At, Slot, Wanted, Exactly, AnyWord, Fits, from, begins_with, is_wanted, IsWanted}
+use Rattle.script_grammar.specs.Print.{print, print_func, print_params}
+use Rattle.script_grammar.specs.Proper.{Proper, BareIf, IsFuncExpression, ProperFunction}
 
 -- two lists of places whose first ones are of one kind
 pub record SameFront (a b : List Piece) : Type 0 where

@@ -1,20 +1,20 @@
 -- The heads and bodies of arrows look at no lexeme behind the place where they stop, where the calls that count for the
 -- depth do not.
-use Rattle.std.proofs.Common.{◌≡◌, ℕ, zero, suc, ◌+◌, ◌≤◌, ◌<◌, List, [], ◌∷◌, ◌++◌, length, refl, sym, ap, ◌∙◌, subst, arith, length-append, append_assoc, append-nil, Bool, true, false, ◌&&◌, ◌||◌, not, Option, Some, None}
+use Rattle.std.proofs.Common.{◌≡◌, ℕ, List, [], ◌∷◌, length, refl, sym, ap, ◌∙◌, subst, arith, Bool, true, false}
 use Rattle.script_grammar.specs.declared.token.FuncForm.TheVariants as form
 use Rattle.script_grammar.specs.declared.token.mark.TheConstants as mark
 use Rattle.script_grammar.specs.Lexeme.{Lexeme}
 use Rattle.script_grammar.specs.Kinds.{is_mark, is_name}
-use Rattle.script_grammar.specs.Tree.{Named, Expr}
+use Rattle.script_grammar.specs.Tree.{Expr}
 use Rattle.script_grammar.specs.TreeLists.{Param}
-use Rattle.pure_parser.specs.Parser.{Recorded, Reply, Read, Bad, Deep, Parser, head_of, rest_of, after, ret, bad, bind, peek, step, when, Turn, Again, Stop, Many, stopped, loop}
+use Rattle.pure_parser.specs.Parser.{Deep, Parser, head_of, after, ret, bind, step, when, Turn, Again, Stop, stopped, loop}
 use Rattle.pure_parser.specs.Exprs
 use Rattle.pure_parser.specs.Exprs.{Env, AnAssign, AParam, ARest, ParamsEnd, Plain, Trailing, Rest, Head, expect, name_of, again, is_param_form, is_arrow, bare_head, is_simple, short_body, spanned}
-use Rattle.pure_parser.proofs.Tests.{name_known, and_left}
+use Rattle.pure_parser.proofs.Tests.{and_left}
 use Rattle.pure_parser.proofs.Local.{Local, Same, out, kept, left, grown, after_shorter, local_ret, local_bad, local_bind, local_peek, local_when, local_step, local_loop, Gains, gains_peek, gains_step, moves_when}
 use Rattle.pure_parser.proofs.Spanned.{local_spanned}
 use Rattle.pure_parser.proofs.LocalStmts.{local_two}
-use Rattle.pure_parser.proofs.LocalExprs.{LocalEnv, NameEnd, deep_end, read_end, expect_local, name_of_local, param_local, items_local, doomed_local, params_led_local, after_twice, more_turn_local, more_turn_gains, no_form}
+use Rattle.pure_parser.proofs.LocalExprs.{LocalEnv, NameEnd, deep_end, read_end, expect_local, name_of_local, param_local, items_local, doomed_local, params_led_local, more_turn_local, more_turn_gains, no_form}
 
 pub arrow_rest_local : Local Exprs.arrow_rest
 unfolding Exprs.arrow_rest

@@ -1,24 +1,21 @@
 -- The parts of the parser of expressions look at no lexeme behind the place where they stop, where the calls that count
 -- for the depth do not.
-use Rattle.std.proofs.Common.{◌≡◌, ℕ, zero, suc, ◌+◌, ◌≤◌, ◌<◌, List, [], ◌∷◌, ◌++◌, length, refl, sym, ap, ◌∙◌, subst, arith, length-append, append_assoc, append-nil, Bool, true, false, ◌&&◌, ◌||◌, not, nat_le, nat_eq, Option, Some, None, if◌then◌else◌}
+use Rattle.std.proofs.Common.{◌≡◌, ℕ, zero, suc, ◌≤◌, ◌<◌, List, [], ◌∷◌, ◌++◌, length, refl, sym, ap, subst, arith, length-append, append_assoc, append-nil, Bool, true, false, ◌&&◌, ◌||◌, not, nat_le, Option, Some, None}
 use Rattle.std.proofs.lemmas.Bool.{ne_eqb}
-use Rattle.script_grammar.specs.declared.token.Kind.{Kind}
-use Rattle.script_grammar.specs.declared.token.Kind.TheVariants as kind
 use Rattle.script_grammar.specs.declared.token.FuncForm.{FuncForm}
 use Rattle.script_grammar.specs.declared.token.FuncForm.TheVariants as form
 use Rattle.script_grammar.specs.declared.token.mark.TheConstants as mark
 use Rattle.script_grammar.specs.declared.token.word.TheConstants as word
 use Rattle.script_grammar.specs.Lexeme.{Lexeme}
-use Rattle.script_grammar.specs.Kinds.{is_mark, is_word, is_name, is_number, is_str, is_whole, is_head, is_middle, is_tail, is_any_word, is_get, is_set, is_assign_mark, is_prefix, is_update}
+use Rattle.script_grammar.specs.Kinds.{is_mark, is_word, is_name, is_number, is_str, is_head, is_middle, is_tail, is_any_word, is_get, is_set, is_assign_mark, is_prefix, is_update}
 use Rattle.script_grammar.specs.Tree.{Named, Expr, Tail, Key, Prop, Function}
 use Rattle.script_grammar.specs.Tree as tree
 use Rattle.script_grammar.specs.Proper.{rank}
-use Rattle.script_grammar.specs.TreeLists.{Args, Operand, Part, Param, exprs_of, maybe_args_of, parts_of, props_of}
-use Rattle.pure_parser.specs.Parser.{Recorded, Reply, Read, Bad, Deep, Parser, head_of, rest_of, put_before, noted, after, ret, bad, deep, bind, peek, step, when, Turn, Again, Stop, Many, stopped, begun, loop, led}
+use Rattle.script_grammar.specs.TreeLists.{Operand, Param}
+use Rattle.pure_parser.specs.Parser.{Recorded, Reply, Read, Bad, Deep, Parser, head_of, rest_of, put_before, noted, after, ret, bad, bind, step, when, Turn, Again, Stop, stopped, loop, peek}
 use Rattle.pure_parser.specs.Exprs
 use Rattle.pure_parser.specs.Exprs.{Env, Call, AnAssign, APrefix, ANew, AParam, ARest, ParamsEnd, Plain, Trailing, Rest, Head, expect, name_of, named, param, peek_two, again, begins_value, ends_key, is_param_form, is_atom, atom_case, is_chain_head, is_update_expr, is_op, is_arrow}
-use Rattle.pure_parser.proofs.Local.{Local, Same, out, kept, left, grown, grown_records, left_noted, after_shorter, local_ret, local_bad, local_bind, local_peek, local_when, local_step, local_loop, local_led, Gains, Moves, gains_peek, gains_step, gains_eats, moves_when, moves_eats, Eats, Ate, eats_peek, eats_bind, ate_step, ate_when, ate_each, ate_less, rest_shorter}
-use Rattle.pure_parser.proofs.Spanned.{local_spanned}
+use Rattle.pure_parser.proofs.Local.{Local, Same, out, kept, left, after_shorter, local_ret, local_bad, local_bind, local_peek, local_when, local_step, local_loop, local_led, Gains, Moves, gains_peek, gains_step, gains_eats, moves_when, moves_eats, Eats, Ate, eats_bind}
 use Rattle.pure_parser.proofs.LocalStmts.{local_two}
 
 -- how the calls read a name behind which no lexeme is: it is too deep, or it is read
@@ -58,12 +55,12 @@ put_twice rs qs (Read a ps us) = ap (λ x. Read a x us) (append_assoc rs qs ps)
 put_twice rs qs (Bad ps us) = ap (λ x. Bad x us) (append_assoc rs qs ps)
 put_twice rs qs (Deep ps us) = ap (λ x. Deep x us) (append_assoc rs qs ps)
 
-noted_twice : {A : Type 0} (rs qs : List Recorded) (r : Reply A) → noted (rs ++ qs) r ≡ noted rs (noted qs r)
+pub noted_twice : {A : Type 0} (rs qs : List Recorded) (r : Reply A) → noted (rs ++ qs) r ≡ noted rs (noted qs r)
 noted_twice [] qs r = refl
 noted_twice (b ∷ rs) [] r = ap (λ x. put_before x r) (append-nil (b ∷ rs))
 noted_twice (b ∷ rs) (c ∷ qs) r = put_twice (b ∷ rs) (c ∷ qs) r
 
-after_noted : {B C : Type 0} (rs : List Recorded) (r : Reply B) (g : B → Parser C) → after (noted rs r) g ≡ noted rs (after r g)
+pub after_noted : {B C : Type 0} (rs : List Recorded) (r : Reply B) (g : B → Parser C) → after (noted rs r) g ≡ noted rs (after r g)
 after_noted [] r g = refl
 after_noted (b ∷ rs) (Read a qs us) g = noted_twice (b ∷ rs) qs (g a us)
 after_noted (b ∷ rs) (Bad qs us) g = refl
@@ -128,7 +125,7 @@ module _ (v : Env) (l : LocalEnv v) where
   item_turn_gains =
       let item : Eats (bind (v.sub (AnAssign true)) Exprs.item_end) = eats_bind (l.eats (AnAssign true)) item_end_local in
       gains_peek (λ t. when (is_mark mark.CLOSE_BRACKET t.kind) (ret (Stop None)) (when (is_mark mark.COMMA t.kind) (step (ret (Again None))) (bind (v.sub (AnAssign true)) Exprs.item_end))) (moves_eats (bind (v.sub (AnAssign true)) Exprs.item_end) item [])
-          (λ t ts. moves_when _ _ (is_mark mark.CLOSE_BRACKET t.kind) t ts tt (moves_when _ _ (is_mark mark.COMMA t.kind) t ts (gains_step _ (local_ret {A = Turn (Option Expr) (Option Expr)} (Again None)) t ts) (moves_eats (bind (v.sub (AnAssign true)) Exprs.item_end) item (t ∷ ts))))
+      (λ t ts. moves_when _ _ (is_mark mark.CLOSE_BRACKET t.kind) t ts tt (moves_when _ _ (is_mark mark.COMMA t.kind) t ts (gains_step _ (local_ret {A = Turn (Option Expr) (Option Expr)} (Again None)) t ts) (moves_eats (bind (v.sub (AnAssign true)) Exprs.item_end) item (t ∷ ts))))
 
   pub array_local : (at : ℕ) → Local (Exprs.array_of v at)
   unfolding Exprs.array_of
@@ -296,7 +293,7 @@ module _ (v : Env) (l : LocalEnv v) where
       let stop = λ (es : List Expr). ret {A = Turn Expr (List Expr)} (Stop es) in
       let more_local = λ (e : Expr). local_bind (local_loop (more_turn_local true) (more_turn_gains true)) (λ m. local_ret (e ∷ m.items)) in
       subst (λ r. Same q r (bind (v.sub (AnAssign true)) Exprs.lead_end (t ∷ q))) (sym (after_twice (v.sub (AnAssign true) (t ∷ [])) more stop))
-          (first_same q (λ e. bind (more e) stop) Exprs.lead_end (λ e. local_bind (more_local e) (λ es. local_ret (Stop es))) lead_end_local (v.sub (AnAssign true) (t ∷ [])) (v.sub (AnAssign true) (t ∷ q)) ((l.eats (AnAssign true)).each (t ∷ [])) ((l.at (AnAssign true)).same (t ∷ []) q))
+      (first_same q (λ e. bind (more e) stop) Exprs.lead_end (λ e. local_bind (more_local e) (λ es. local_ret (Stop es))) lead_end_local (v.sub (AnAssign true) (t ∷ [])) (v.sub (AnAssign true) (t ∷ q)) ((l.eats (AnAssign true)).each (t ∷ [])) ((l.at (AnAssign true)).same (t ∷ []) q))
 
   lead_item_same : (t : Lexeme) (q : List Lexeme) (b : Bool) → is_param_form t (head_of q) ≡ b → Same q (bind (Exprs.items_from v) (λ es. ret (Stop es)) (t ∷ [])) (when b (bind (v.sub (AnAssign true)) Exprs.lead_end) (bind (Exprs.items_from v) (λ es. ret (Stop es))) (t ∷ q))
   lead_item_same t q true h = lead_item_end t q
@@ -478,9 +475,12 @@ module _ (v : Env) (l : LocalEnv v) where
   unfolding Exprs.or_from
   or_local w e = local_bind (operands_local w 9 (Exprs.level_of v w 8 false) (level_local w 8 (omega arith) false) (omega arith) e) (operands_local w 10 (Exprs.level_of v w 9 false) (level_local w 9 (omega arith) false) (omega arith))
 
+  pub short_behind_local : (w : Bool) (e : Expr) → Local (peek (λ t. when (is_op w Exprs.coalesce_level t.kind) (Exprs.operands_from w Exprs.coalesce_level (Exprs.level_of v w Exprs.bit_or_level false) e) (Exprs.or_from v w e)))
+  short_behind_local w e = local_peek (λ t. local_when (is_op w 11 t.kind) (operands_local w 11 (Exprs.level_of v w 8 false) (level_local w 8 (omega arith) false) (omega arith) e) (or_local w e))
+
   pub short_circuit_local : (w heads : Bool) → Local (Exprs.short_circuit v w heads)
   unfolding Exprs.short_circuit
-  short_circuit_local w heads = local_bind (level_local w 8 (omega arith) heads) (λ e. local_peek (λ t. local_when (is_op w 11 t.kind) (operands_local w 11 (Exprs.level_of v w 8 false) (level_local w 8 (omega arith) false) (omega arith) e) (or_local w e)))
+  short_circuit_local w heads = local_bind (level_local w 8 (omega arith) heads) (short_behind_local w)
 
   -- conditionals and assignments
 

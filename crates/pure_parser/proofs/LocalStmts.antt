@@ -1,7 +1,5 @@
 -- The parser of statements looks at no lexeme behind the place where it stops, and each statement reads one at least.
-use Rattle.std.proofs.Common.{◌≡◌, ℕ, zero, suc, ◌+◌, ◌≤◌, ◌<◌, List, [], ◌∷◌, ◌++◌, length, refl, sym, ap, ◌∙◌, subst, arith, length-append, Bool, true, false, ◌&&◌, ◌||◌, not, nat_le, Option, Some, None}
-use Rattle.script_grammar.specs.declared.token.Kind.{Kind}
-use Rattle.script_grammar.specs.declared.token.Kind.TheVariants as kind
+use Rattle.std.proofs.Common.{◌≡◌, ℕ, suc, List, [], ◌∷◌, ◌++◌, length, refl, sym, ap, subst, arith, Bool, true, false, ◌&&◌, ◌||◌, not, nat_le, Option, Some, None}
 use Rattle.script_grammar.specs.declared.token.mark.TheConstants as mark
 use Rattle.script_grammar.specs.declared.token.word.TheConstants as word
 use Rattle.script_grammar.specs.declared.token.FuncForm.{FuncForm}
@@ -17,11 +15,11 @@ use Rattle.script_grammar.specs.Tree.{Named, Expr, Init, Each, Stmt, Stmts}
 use Rattle.script_grammar.specs.Tree as tree
 use Rattle.script_grammar.specs.TreeLists.{Bind, Clause, maybe_expr_of, maybe_stmt_of, binds_of, stmts_of, clauses_of}
 use Rattle.pure_parser.proofs.Tests.{name_known}
-use Rattle.pure_parser.specs.Parser.{Parser, Reply, Read, Bad, Deep, head_of, rest_of, ret, bad, bind, peek, step, when, Turn, Again, Stop, loop, led}
+use Rattle.pure_parser.specs.Parser.{Parser, head_of, rest_of, ret, bad, bind, step, when, Turn, Again, Stop}
 use Rattle.pure_parser.specs.Exprs.{Env, AnAssign, expect, name_of, named, peek_two, expr_of, function_of, again}
 use Rattle.pure_parser.specs.Stmts as parser
 use Rattle.pure_parser.specs.Stmts.{Place, AnItem, AStmt, StmtCalls, Block, is_item, is_inside}
-use Rattle.pure_parser.proofs.Local.{Local, Same, out, kept, left, grown, local_ret, local_bad, local_bind, local_peek, local_when, local_step, local_loop, local_led, Gains, Eats, Ate, eats_peek, eats_bind, ate_step, ate_when, ate_each, gains_eats, gains_peek, gains_step, Moves, moves_when, moves_eats}
+use Rattle.pure_parser.proofs.Local.{Local, Same, out, local_ret, local_bad, local_bind, local_peek, local_when, local_step, local_loop, local_led, Gains, Eats, Ate, eats_peek, eats_bind, ate_step, ate_when, ate_each, gains_peek, gains_step, moves_when, moves_eats}
 
 pub local_expect : (i : ℕ) → Local (expect i)
 unfolding expect
@@ -274,7 +272,7 @@ module _ (b : Block) (l : LocalBlock b) (i : Bool) where
   unfolding parser.clause_turn default_turn
   clause_turn_gains = gains_peek (λ t. when (is_word word.CASE t.kind) (step (bind (parser.case_of b i) again)) (default_turn t)) tt
       (λ t ts. moves_when (step (bind (parser.case_of b i) again)) (default_turn t) (is_word word.CASE t.kind) t ts (gains_step (bind (parser.case_of b i) again) behind_case t ts)
-          (moves_when (step (bind (parser.default_of b i) (λ c. ret (Stop (Some c))))) (ret (Stop None)) (is_word word.DEFAULT t.kind) t ts (gains_step (bind (parser.default_of b i) (λ c. ret (Stop (Some c)))) behind_default t ts) tt))
+      (moves_when (step (bind (parser.default_of b i) (λ c. ret (Stop (Some c))))) (ret (Stop None)) (is_word word.DEFAULT t.kind) t ts (gains_step (bind (parser.default_of b i) (λ c. ret (Stop (Some c)))) behind_default t ts) tt))
 
   local_more_clauses : (o : Option Clause) → Local (parser.more_clauses b i o)
   unfolding parser.more_clauses

@@ -1,13 +1,13 @@
 -- A name that stands alone as an item: behind it a comma, a closing parenthesis or `=`.
-use Rattle.std.proofs.Common.{◌≡◌, ℕ, zero, suc, List, [], ◌∷◌, refl, sym, ap, ◌∙◌, subst, Bool, true, false, ◌&&◌, ◌||◌, not, if◌then◌else◌}
+use Rattle.std.proofs.Common.{◌≡◌, List, [], ◌∷◌, refl, sym, ap, ◌∙◌, subst, Bool, true, false, ◌&&◌, ◌||◌, if◌then◌else◌}
 use Rattle.script_grammar.specs.declared.token.Kind.{Kind}
 use Rattle.script_grammar.specs.declared.token.Kind.TheVariants as kind
 use Rattle.script_grammar.specs.declared.token.mark.TheConstants as mark
-use Rattle.script_grammar.specs.Lexeme.{Lexeme, Role}
+use Rattle.script_grammar.specs.Lexeme.{Lexeme}
 use Rattle.script_grammar.specs.Kinds.{is_mark, is_name}
 use Rattle.script_grammar.specs.Pieces.{paren}
 use Rattle.script_grammar.specs.Tree as tree
-use Rattle.pure_parser.specs.Parser.{Parser, Reply, when, turns, loop}
+use Rattle.pure_parser.specs.Parser.{when, turns, loop}
 use Rattle.pure_parser.specs.Exprs
 use Rattle.pure_parser.specs.Exprs.{Env, named, is_param_form}
 use Rattle.pure_parser.proofs.Tests.{mark_known, name_known, and_left, and_right, or_cases}
@@ -42,8 +42,8 @@ pub form_cases : {C : Type 0} (t u : Lexeme) → is_param_form t u ≡ true → 
 form_cases t u h f g k =
     let marks = and_right (is_name t.kind) (is_mark mark.COMMA u.kind || is_mark mark.CLOSE_PAREN u.kind || is_mark mark.ASSIGN u.kind) h in
     or_cases (is_mark mark.COMMA u.kind || is_mark mark.CLOSE_PAREN u.kind) (is_mark mark.ASSIGN u.kind) marks
-        (λ x. or_cases (is_mark mark.COMMA u.kind) (is_mark mark.CLOSE_PAREN u.kind) x (λ y. f (mark_known mark.COMMA u.kind y)) (λ y. g (mark_known mark.CLOSE_PAREN u.kind y)))
-        (λ x. k (mark_known mark.ASSIGN u.kind x))
+    (λ x. or_cases (is_mark mark.COMMA u.kind) (is_mark mark.CLOSE_PAREN u.kind) x (λ y. f (mark_known mark.COMMA u.kind y)) (λ y. g (mark_known mark.CLOSE_PAREN u.kind y)))
+    (λ x. k (mark_known mark.ASSIGN u.kind x))
 
 pub form_name : (t u : Lexeme) → is_param_form t u ≡ true → t.kind ≡ kind.Name
 form_name t u h = name_known t.kind (and_left (is_name t.kind) (is_mark mark.COMMA u.kind || is_mark mark.CLOSE_PAREN u.kind || is_mark mark.ASSIGN u.kind) h)
@@ -52,9 +52,9 @@ pub lone_plain : (v : Env) (w : Bool) (t u : Lexeme) (ts : List Lexeme) → is_p
 lone_plain v w t u ts h =
     let n = form_name t u h in
     form_cases t u h
-        (λ e. at_kinds v w t u ts (kind.Mark mark.COMMA) n e (before_comma v w t u ts))
-        (λ e. at_kinds v w t u ts (kind.Mark mark.CLOSE_PAREN) n e (before_close v w t u ts))
-        (λ e. at_kinds v w t u ts (kind.Mark mark.ASSIGN) n e (before_assign v w t u ts))
+    (λ e. at_kinds v w t u ts (kind.Mark mark.COMMA) n e (before_comma v w t u ts))
+    (λ e. at_kinds v w t u ts (kind.Mark mark.CLOSE_PAREN) n e (before_close v w t u ts))
+    (λ e. at_kinds v w t u ts (kind.Mark mark.ASSIGN) n e (before_assign v w t u ts))
 
 -- no arrow begins there
 

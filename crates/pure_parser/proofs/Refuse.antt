@@ -1,7 +1,7 @@
 -- A fault at a lexeme: no list of lexemes that begins as these do, up to and including this one, is read.
-use Rattle.std.proofs.Common.{◌≡◌, ℕ, zero, suc, ◌+◌, ◌≤◌, ◌<◌, List, [], ◌∷◌, ◌++◌, length, refl, sym, ap, ◌∙◌, subst, arith, append_assoc, append-nil, length-append, cond, nat_lt, Bool, true, false}
+use Rattle.std.proofs.Common.{◌≡◌, ℕ, List, [], ◌∷◌, ◌++◌, length, refl, sym, ap, ◌∙◌, arith, append_assoc, length-append, cond, nat_lt, Bool, true, false}
 use Rattle.script_grammar.specs.Lexeme.{Lexeme}
-use Rattle.pure_parser.specs.Parser.{Recorded, Reply, Read, Bad, Deep, Parser}
+use Rattle.pure_parser.specs.Parser.{Reply, Read, Bad, Deep, Parser}
 use Rattle.pure_parser.proofs.Local.{Local, Same, out, kept, left, grown}
 use Rattle.pure_parser.proofs.Stands.{Marked, lexemes}
 use Rattle.pure_parser.proofs.Complete.{Parses, cut, bare}

@@ -1,5 +1,5 @@
 -- Lexemes for computed rows, and what the parser answers in short.
-use Rattle.std.proofs.Common.{◌≡◌, ℕ, zero, suc, List, [], ◌∷◌, Bool, false}
+use Rattle.std.proofs.Common.{ℕ, zero, suc, List, [], ◌∷◌, Bool, false}
 use Rattle.script_grammar.specs.declared.token.Kind.{Kind}
 use Rattle.script_grammar.specs.declared.token.Kind.TheVariants as kind
 use Rattle.script_grammar.specs.Lexeme.{Lexeme, role_of}

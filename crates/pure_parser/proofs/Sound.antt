@@ -7,7 +7,7 @@ use Rattle.script_grammar.specs.declared.token.Kind.{Kind}
 use Rattle.script_grammar.specs.declared.token.Kind.TheVariants as kind
 use Rattle.script_grammar.specs.declared.token.FuncForm.{FuncForm}
 use Rattle.script_grammar.specs.Lexeme.{Lexeme}
-use Rattle.pure_parser.specs.Parser.{Recorded, Reply, Read, Bad, Deep, Parser, head_of, rest_of, put_before, noted, after, ret, bad, deep, bind, peek, step, when, note, no_room, Turn, Again, Stop, turned, turns, loop, Many, stopped, begun, led}
+use Rattle.pure_parser.specs.Parser.{Recorded, Reply, Read, Bad, Deep, Parser, head_of, put_before, noted, after, ret, bad, deep, bind, peek, step, when, note, no_room, Turn, Again, Stop, turned, turns, loop, Many, stopped, begun}
 use Rattle.pure_parser.proofs.Friendly.{Starter, Spot, AtFront, Inside}
 
 -- what a part at this spot has read is not nothing, where it stands at the front
@@ -324,7 +324,6 @@ module _ {A B : Type 0} (Q E : List Lexeme → Turn A B → Type 0) (R S : List 
     (go_end : (w v : List Lexeme) (a : A) (m : Many A B) → Q w (Again a) → S v m → S (w ++ v) (begun a m))
     (fault : (w : List Lexeme) (t : Turn A B) → E w t → Mended Inside (Behind w S))
     (some : Mended Inside S) where
-
   turned_leads : (f : Parser (Many A B)) → Leads Inside R S f → (w : List Lexeme) (t : Turn A B) → Q w t → Leads Inside (Behind w R) (Behind w S) (turned f t)
   turned_leads f l w (Again a) q = leads_made (begun a) l (λ v m r. go w v a m q r) (λ v m r. go_end w v a m q r)
   turned_leads f l w (Stop b) q = leads_done R S w (stopped b) (stop w b q)
@@ -343,7 +342,6 @@ module _ {A B : Type 0} (Q : List Lexeme → Turn A B → Type 0) (R : List Lexe
     (stop : (w : List Lexeme) (b : B) → Q w (Stop b) → R w (stopped b))
     (go : (w v : List Lexeme) (a : A) (m : Many A B) → Q w (Again a) → R v m → R (w ++ v) (begun a m))
     (some : Mended Inside R) where
-
   fault_some : (w : List Lexeme) (t : Turn A B) → Q w t → Mended Inside (Behind w R)
   fault_some w (Again a) q = record { end = some.end; of = begun a some.of; starts = tt; is = go w some.end a some.of q some.is }
   fault_some w (Stop b) q = some_done R w (stopped b) (stop w b q)

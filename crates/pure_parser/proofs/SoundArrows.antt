@@ -1,8 +1,7 @@
 -- Arrows, and the parentheses that might be an arrow's: what is read fits its places, and faults can be mended. Where only
 -- an arrow can go on, the end makes an arrow of what stands in the parentheses; where an arrow cannot, it makes a
 -- parenthesized expression of what was read as parameters.
-use Rattle.std.proofs.Common.{◌≡◌, ℕ, zero, suc, ◌+◌, ◌≤◌, List, [], ◌∷◌, ◌++◌, refl, sym, ap, ◌∙◌, subst, arith, append_assoc, append-nil, Bool, true, false, ◌&&◌, ◌||◌, not, Option, Some, None}
-use Rattle.script_grammar.specs.declared.token.Kind.{Kind}
+use Rattle.std.proofs.Common.{◌≡◌, ℕ, suc, ◌≤◌, List, [], ◌∷◌, ◌++◌, refl, sym, ap, ◌∙◌, subst, arith, append_assoc, append-nil, Bool, true, false, ◌||◌, Option, Some, None}
 use Rattle.script_grammar.specs.declared.token.Kind.TheVariants as kind
 use Rattle.script_grammar.specs.declared.token.FuncForm.TheVariants as form
 use Rattle.script_grammar.specs.declared.token.mark.TheConstants as mark
@@ -11,21 +10,19 @@ use Rattle.script_grammar.specs.Kinds.{is_mark, is_name}
 use Rattle.script_grammar.specs.Tree.{Named, Expr, Body}
 use Rattle.script_grammar.specs.Tree as tree
 use Rattle.script_grammar.specs.TreeLists.{Param, params_of, exprs_of, maybe_expr_of}
-use Rattle.script_grammar.specs.Pieces.{Bodies, Piece, At, mark_piece, glued_mark, comma_piece, name_piece, placed, until}
+use Rattle.script_grammar.specs.Pieces.{Bodies, Piece, mark_piece, glued_mark, comma_piece, name_piece}
 use Rattle.script_grammar.specs.Print.{print, print_list, print_more, print_params, print_body, parenthesized, param_depth}
-use Rattle.script_grammar.specs.Proper.{rank, Proper, ProperExprs, ProperParams, ProperBody, ProperMaybe, AreParams, BareIf, HasExprs, begins_brace, free_of_in, body_free, all_free, InIf}
-use Rattle.pure_parser.specs.Parser.{Parser, head_of, rest_of, ret, bad, bind, peek, step, when, Turn, Again, Stop, loop, Many, stopped, begun}
+use Rattle.script_grammar.specs.Proper.{rank, Proper, ProperExprs, ProperParams, ProperBody, ProperMaybe, AreParams, BareIf, HasExprs, body_free, InIf}
+use Rattle.pure_parser.specs.Parser.{head_of, rest_of, ret, bind, when, Turn, Again, Stop, loop, Many, stopped, begun}
 use Rattle.pure_parser.specs.Exprs
 use Rattle.pure_parser.specs.Exprs.{Env, AnAssign, AParam, ARest, ParamsEnd, Plain, Trailing, Rest, Head, BodyRead, Spanned, spanned, last_end, short_body, expect, named, param, ended_params, is_trailing, head_case, bare_head, arrow_case, is_simple, is_arrow, is_param_form, list_case, comma_case}
-use Rattle.pure_parser.proofs.Friendly.{Spot, AtFront, Inside}
-use Rattle.pure_parser.proofs.Fitting.{FitsAll, all_none, all_append, all_mark, all_placed, all_name, all_glued, all_same, fits_until, EndsBy, lexeme_of_kind, zero_lexeme}
-use Rattle.pure_parser.proofs.Tests.{false_true, mark_known, name_known, and_left, and_right, or_cases, not_true, bool_cases}
-use Rattle.pure_parser.proofs.Sound.{Leads, LeadsAt, Outcome, Sound, Mended, Behind, Begun, BeginsAt, here, started, outcome_after, sound_bind, leads_bind, sound_ret, sound_bad, sound_at, sound_peek, sound_look, at_step, at_when, at_bind, end_bind, sound_first, sound_done, leads_done, some_done, sound_some, sound_map, leads_map, sound_inside, sound_loop, leads_loop, sound_made, leads_made, sound_when}
-use Rattle.pure_parser.proofs.Spanned.{sound_spanned, WithEnd}
-use Rattle.pure_parser.proofs.Fronts.{begins_no}
-use Rattle.pure_parser.proofs.SoundParts.{IsExpr, IsParam, IsRest, IsItem, IsBraced, print_param, param_value, param_expr, param_print, param_is, SoundEnv, SoundCalls, SoundBody, in_both, looser, freed, zero_is, zero_some, IsMark, expect_sound, mark_some, top, top_le}
-use Rattle.pure_parser.proofs.SoundLists.{more_loop_sound, comma_is}
-use Rattle.pure_parser.proofs.SoundFunctions.{next_end, next_pieces, first_print, AreSingle, AreProper, all_proper, are_params, FirstTurn, NextTurn, NextMany, ParamsMany, next_go, params_first, params_rest, params_none}
+use Rattle.pure_parser.proofs.Friendly.{Inside}
+use Rattle.pure_parser.proofs.Fitting.{FitsAll, all_none, all_append, all_mark, all_placed, all_glued, all_same, fits_until, lexeme_of_kind, zero_lexeme}
+use Rattle.pure_parser.proofs.Tests.{false_true, mark_known, and_right}
+use Rattle.pure_parser.proofs.Sound.{Leads, Outcome, Sound, Mended, Behind, outcome_after, sound_bind, leads_bind, sound_ret, sound_bad, sound_at, sound_peek, at_step, at_when, leads_done, some_done, sound_inside, leads_loop, sound_made, leads_made}
+use Rattle.pure_parser.proofs.SoundParts.{IsExpr, IsItem, print_param, param_value, param_expr, param_print, param_is, SoundEnv, looser, zero_is, IsMark, expect_sound, mark_some, top}
+use Rattle.pure_parser.proofs.SoundLists.{more_loop_sound}
+use Rattle.pure_parser.proofs.SoundFunctions.{next_end, next_pieces, first_print, AreSingle, AreProper, all_proper, are_params}
 
 module _ (m : Bodies) (d : ℕ) where
   -- items in parentheses
@@ -70,10 +67,11 @@ module _ (m : Bodies) (d : ℕ) where
 
   pub arrow_is : (w : Bool) (u x y : List Lexeme) (h : Head) (b : BodyRead) → ArrowHead u h → IsArrowMark x tt → ArrowBody w y b → IsExpr m w d 20 (u ++ (x ++ y)) (arrow_case h b)
   arrow_is w u x y h b p c q = record {
-      rank_le = omega arith;
-      proper = ((refl, refl), (p.are, tt, p.bare, p.proper, q.proper));
-      in_if = q.in_if;
-      fits = all_append p.fits (all_append c q.fits) }
+    rank_le = omega arith;
+    proper = ((refl, refl), (p.are, tt, p.bare, p.proper, q.proper));
+    in_if = q.in_if;
+    fits = all_append p.fits (all_append c q.fits);
+  }
 
   -- the mark and the body 0
   abbrev pub arrow_lexeme : Lexeme
@@ -85,9 +83,10 @@ module _ (m : Bodies) (d : ℕ) where
   pub zero_body_is : (w : Bool) → ArrowBody w (zero_lexeme ∷ []) zero_body
   unfolding zero_body
   zero_body_is w = record {
-      proper = (refl, omega arith, refl, tt);
-      in_if = either w;
-      fits = record { before = λ n. fits_until (print m (suc d) (tree.Number 0 0)) (zero_lexeme ∷ []) n 0 refl ((zero_is m w (suc d) 0).fits.before n) } }
+    proper = (refl, omega arith, refl, tt);
+    in_if = either w;
+    fits = record { before = λ n. fits_until (print m (suc d) (tree.Number 0 0)) (zero_lexeme ∷ []) n 0 refl ((zero_is m w (suc d) 0).fits.before n) };
+  }
     where
       either : (w : Bool) → (w || true) ≡ true
       either true = refl
@@ -135,12 +134,15 @@ module _ (m : Bodies) (d : ℕ) where
   tail_head start t e s [] None a p front f = (record { start = t.start; params = []; comma = false; bare = false }, record { are = refl; bare = tt; proper = tt; fits = all_append (all_placed (kind.Mark mark.OPEN_PAREN) d t e) f })
   tail_head start t e s [] (Some n) a p front f = (record { start = t.start; params = Exprs.rest_param n ∷ []; comma = false; bare = false }, record { are = refl; bare = tt; proper = (tt, tt); fits = all_append (all_placed (kind.Mark mark.OPEN_PAREN) d t e) f })
   tail_head start t e s (q ∷ ps) o a p front f =
-      let x = end_behind o in
-      (record { start = t.start; params = ended_params (q ∷ ps) x; comma = is_trailing x; bare = false }, record {
+      let x = end_behind o in (
+        record { start = t.start; params = ended_params (q ∷ ps) x; comma = is_trailing x; bare = false },
+        record {
           are = are_params m q ps x a;
           bare = tt;
           proper = all_proper m (q ∷ ps) x p;
-          fits = all_append (all_placed (kind.Mark mark.OPEN_PAREN) d t e) (all_same (sym (sym (append_assoc (print_params m (suc d) d (params_of (ended_params (q ∷ ps) x))) (comma_piece (is_trailing x) d) (mark_piece mark.CLOSE_PAREN d ∷ [])) ∙ ap (λ y. y ++ mark_piece mark.CLOSE_PAREN d ∷ []) (lead_print q ps o) ∙ append_assoc (lead_pieces (q ∷ ps)) (rest_pieces o) (mark_piece mark.CLOSE_PAREN d ∷ []))) f) })
+          fits = all_append (all_placed (kind.Mark mark.OPEN_PAREN) d t e) (all_same (sym (sym (append_assoc (print_params m (suc d) d (params_of (ended_params (q ∷ ps) x))) (comma_piece (is_trailing x) d) (mark_piece mark.CLOSE_PAREN d ∷ [])) ∙ ap (λ y. y ++ mark_piece mark.CLOSE_PAREN d ∷ []) (lead_print q ps o) ∙ append_assoc (lead_pieces (q ∷ ps)) (rest_pieces o) (mark_piece mark.CLOSE_PAREN d ∷ []))) f);
+        },
+      )
 
   tail_is : (w : Bool) (t : Lexeme) → t.kind ≡ kind.Mark mark.OPEN_PAREN → (u : List Lexeme) → ArrowTail u → (e : Expr) × IsExpr m w d 20 (t ∷ u) e
   tail_is w t e u a =
@@ -181,23 +183,26 @@ module _ (m : Bodies) (d : ℕ) where
       record {
         has = tt;
         proper = subst (λ y. (rank y ≤ 20) × Proper m y × ProperExprs m (exprs_of es)) (sym h.is) (q.0, q.1, r.proper);
-        fits = subst (λ y. FitsAll (print m (suc d) y ++ print_more m d (exprs_of es)) (u ++ x)) (sym h.is) (all_same (ap (λ y. y ++ (mark_piece mark.COMMA d ∷ print_list m d (exprs_of es))) (param_print m (suc d) h.param h.single) ∙ ap (λ y. print m (suc d) (param_expr h.param) ++ y) (sym (list_more es r.has))) f) }
+        fits = subst (λ y. FitsAll (print m (suc d) y ++ print_more m d (exprs_of es)) (u ++ x)) (sym h.is) (all_same (ap (λ y. y ++ (mark_piece mark.COMMA d ∷ print_list m d (exprs_of es))) (param_print m (suc d) h.param h.single) ∙ ap (λ y. print m (suc d) (param_expr h.param) ++ y) (sym (list_more es r.has))) f);
+      }
     where
       value_facts : (n : Named) (o : Option Expr) → ProperMaybe m (maybe_expr_of o) → (rank (param_value n o) ≤ 20) × Proper m (param_value n o)
       value_facts n None p = (omega arith, tt)
       value_facts n (Some e) p = (omega arith, (refl, omega arith, tt, p.0, p.1))
+
       param_facts : (p : Param) → p.rest ≡ false → ProperMaybe m (maybe_expr_of p.value) → (rank (param_expr p) ≤ 20) × Proper m (param_expr p)
       param_facts p s h = value_facts p.name p.value h
 
   tail_go : (u x : List Lexeme) (e : Expr) → LeadAgain u e → ArrowTail x → ArrowTail (u ++ x)
   tail_go u x e h a = record {
-      params = h.param ∷ a.params;
-      last = a.last;
-      single = (h.single, a.single);
-      proper = (h.proper, a.proper);
-      front = u ++ a.front;
-      split = ap (λ y. u ++ y) a.split ∙ sym (append_assoc u a.front arrow_end);
-      fits = all_same (append_assoc (print_param m (suc d) h.param) (mark_piece mark.COMMA d ∷ []) (lead_pieces a.params ++ (rest_pieces a.last ++ mark_piece mark.CLOSE_PAREN d ∷ [])) ∙ sym (append_assoc (print_param m (suc d) h.param) (mark_piece mark.COMMA d ∷ lead_pieces a.params) (rest_pieces a.last ++ mark_piece mark.CLOSE_PAREN d ∷ []))) (all_append h.fits a.fits) }
+    params = h.param ∷ a.params;
+    last = a.last;
+    single = (h.single, a.single);
+    proper = (h.proper, a.proper);
+    front = u ++ a.front;
+    split = ap (λ y. u ++ y) a.split ∙ sym (append_assoc u a.front arrow_end);
+    fits = all_same (append_assoc (print_param m (suc d) h.param) (mark_piece mark.COMMA d ∷ []) (lead_pieces a.params ++ (rest_pieces a.last ++ mark_piece mark.CLOSE_PAREN d ∷ [])) ∙ sym (append_assoc (print_param m (suc d) h.param) (mark_piece mark.COMMA d ∷ lead_pieces a.params) (rest_pieces a.last ++ mark_piece mark.CLOSE_PAREN d ∷ []))) (all_append h.fits a.fits);
+  }
 
   zero_items : IsItems (zero_lexeme ∷ []) (tree.Number 0 0 ∷ [])
   zero_items = record { has = tt; proper = (omega arith, tt, tt); fits = all_same (sym (append-nil (print m (suc d) (tree.Number 0 0)))) (zero_is m true (suc d) 0).fits }
@@ -244,8 +249,8 @@ module _ (m : Bodies) (d : ℕ) where
     lead_item_form ts h =
         let w = form_two ts h in
         subst (λ y. Outcome Inside LeadTurn LeadEnd y (bind (v.sub (AnAssign true)) Exprs.lead_end y)) (sym w.3)
-            (outcome_after Inside (IsItem m (suc d)) (IsItem m (suc d)) LeadTurn LeadEnd Exprs.lead_end lead_end_sound lead_item_mend (w.0 ∷ w.1 ∷ w.2) (v.sub (AnAssign true) (w.0 ∷ w.1 ∷ w.2))
-                (s.calls.item w.0 w.1 (subst (λ y. is_param_form (head_of y) (head_of (rest_of y)) ≡ true) w.3 h) w.2))
+        (outcome_after Inside (IsItem m (suc d)) (IsItem m (suc d)) LeadTurn LeadEnd Exprs.lead_end lead_end_sound lead_item_mend (w.0 ∷ w.1 ∷ w.2) (v.sub (AnAssign true) (w.0 ∷ w.1 ∷ w.2))
+        (s.calls.item w.0 w.1 (subst (λ y. is_param_form (head_of y) (head_of (rest_of y)) ≡ true) w.3 h) w.2))
 
     lead_item_sound : Leads Inside LeadTurn LeadEnd (Exprs.lead_item v)
     unfolding Exprs.lead_item
@@ -253,6 +258,7 @@ module _ (m : Bodies) (d : ℕ) where
       where
         plain : Leads Inside LeadTurn LeadEnd (bind (Exprs.items_from v) (λ es. ret (Stop es)))
         plain = leads_made Stop items_sound (λ u es h. h) (λ u es h. lead_usual h)
+
         either : (ts : List Lexeme) (b : Bool) → is_param_form (head_of ts) (head_of (rest_of ts)) ≡ b → Outcome Inside LeadTurn LeadEnd ts (when b (bind (v.sub (AnAssign true)) Exprs.lead_end) (bind (Exprs.items_from v) (λ es. ret (Stop es))) ts)
         either ts true h = lead_item_form ts h
         either ts false h = plain.at ts

@@ -1,27 +1,24 @@
 -- All calls of the parser of expressions: with whatever room for depth, what is read is the print of a proper tree, and
 -- faults can be mended.
-use Rattle.std.proofs.Common.{◌≡◌, ℕ, zero, suc, ◌+◌, ◌≤◌, List, [], ◌∷◌, ◌++◌, refl, sym, ap, ◌∙◌, subst, arith, append_assoc, append-nil, Bool, true, false, ◌&&◌, ◌||◌, not, nat_le, nat_eq, Option, Some, None}
+use Rattle.std.proofs.Common.{◌≡◌, ℕ, zero, suc, ◌≤◌, List, [], ◌∷◌, refl, sym, ap, ◌∙◌, subst, arith, Bool, true, false, ◌&&◌, ◌||◌, nat_eq, Some, None}
 use Rattle.std.proofs.lemmas.Bool.{eqb-true}
 use Rattle.script_grammar.specs.declared.token.Kind.{Kind}
 use Rattle.script_grammar.specs.declared.token.Kind.TheVariants as kind
-use Rattle.script_grammar.specs.declared.token.FuncForm.{FuncForm}
 use Rattle.script_grammar.specs.declared.token.mark.TheConstants as mark
 use Rattle.script_grammar.specs.declared.token.word.TheConstants as word
 use Rattle.script_grammar.specs.Lexeme.{Lexeme}
-use Rattle.script_grammar.specs.Kinds.{is_mark, is_name, is_word, is_prefix, is_prefix_op, is_update, is_update_op, is_assign_mark}
+use Rattle.script_grammar.specs.Kinds.{is_mark, is_prefix, is_update, is_assign_mark}
 use Rattle.script_grammar.specs.Tree.{Named, Expr}
 use Rattle.script_grammar.specs.Tree as tree
-use Rattle.script_grammar.specs.TreeLists.{Param}
-use Rattle.script_grammar.specs.Pieces.{Bodies, Piece, At, mark_piece, name_piece}
-use Rattle.script_grammar.specs.Print.{print, print_initializer}
-use Rattle.pure_parser.specs.Parser.{Parser, Reply, head_of, rest_of, ret, bad, deep, bind, peek, step, when, no_room}
+use Rattle.script_grammar.specs.Pieces.{Bodies}
+use Rattle.pure_parser.specs.Parser.{Parser, ret, bad, deep, bind, step, when, no_room}
 use Rattle.pure_parser.specs.Exprs
 use Rattle.pure_parser.specs.Exprs.{Env, Call, Calls, BodyParser, AnAssign, APrefix, ANew, AParam, ARest, named, param, is_param_form, calls, no_calls, call_case, begins_assign, begins_word, begins_mark, begins_call, is_atom, is_word_atom, atom_case}
-use Rattle.pure_parser.proofs.Friendly.{Spot, AtFront, Inside}
-use Rattle.pure_parser.proofs.Fitting.{FitsAll, all_none, all_append, all_mark, all_name, lexeme_of_kind, zero_lexeme}
-use Rattle.pure_parser.proofs.Tests.{false_true, mark_known, word_known, name_known, or_cases, or_left, or_right}
-use Rattle.pure_parser.proofs.Sound.{Leads, LeadsAt, Outcome, Sound, Mended, Behind, outcome_behind, sound_bind, sound_ret, sound_bad, sound_at, sound_peek, at_step, at_when, sound_done, some_done, sound_some, leads_some, sound_map, leads_map, sound_inside, sound_made, sound_when, sound_no_room}
-use Rattle.pure_parser.proofs.SoundParts.{IsExpr, IsParam, IsRest, IsItem, SoundEnv, SoundCalls, SoundBody, looser, freed, zero_is, zero_some, name_sound, param_value, param_expr}
+use Rattle.pure_parser.proofs.Friendly.{AtFront, Inside}
+use Rattle.pure_parser.proofs.Fitting.{all_append, all_mark, all_name, lexeme_of_kind}
+use Rattle.pure_parser.proofs.Tests.{false_true, mark_known, word_known, name_known, or_cases}
+use Rattle.pure_parser.proofs.Sound.{Outcome, Sound, Mended, Behind, outcome_behind, sound_bad, sound_at, sound_peek, at_step, at_when, sound_some, sound_map, sound_inside, sound_made, sound_when, sound_no_room}
+use Rattle.pure_parser.proofs.SoundParts.{IsExpr, IsParam, IsRest, IsItem, SoundEnv, SoundCalls, SoundBody, looser, freed, zero_some, name_sound}
 use Rattle.pure_parser.proofs.SoundFunctions.{param_sound, func_sound}
 use Rattle.pure_parser.proofs.SoundLists.{array_sound, template_sound}
 use Rattle.pure_parser.proofs.SoundObjects.{object_sound}
@@ -69,8 +66,10 @@ nothing_sound m d body b = record {
     new = sound_bad (zero_some AtFront m false d 3);
     param = sound_bad (param_mend m (suc d));
     rest = sound_bad (rest_mend m (suc d));
-    item = λ t u h ts. no_item m (suc d) t u ts };
-  body = b }
+    item = λ t u h ts. no_item m (suc d) t u ts;
+  };
+  body = b;
+}
 
 -- what may begin an AssignmentExpression is completed by some end
 module _ (m : Bodies) (d : ℕ) (body : BodyParser) (b : SoundBody m d body) (b2 : SoundBody m (suc d) body) (w : Bool) (t : Lexeme) where
@@ -188,16 +187,16 @@ module _ (m : Bodies) (d : ℕ) (v : Env) (s : SoundEnv m d v) where
       let e : Expr = tree.Name (named t) in
       let read : Parser Expr = bind (v.sub (AnAssign true)) (λ x. ret (tree.Assign mark.ASSIGN e x)) in
       subst (λ r. Outcome Inside (IsItem m d) (IsItem m d) (t ∷ u ∷ ts) r)
-          (sym (ap (λ k. when (is_assign_mark k && true) (step (bind (v.sub (AnAssign true)) (λ x. ret (tree.Assign (Exprs.mark_of k) e x)))) (ret e) (u ∷ ts)) k))
-          (outcome_behind Inside (IsItem m d) (IsItem m d) (t ∷ u ∷ []) (t ∷ u ∷ ts) ts tt refl (read ts) ((value_tail t u n k).at ts))
+      (sym (ap (λ k. when (is_assign_mark k && true) (step (bind (v.sub (AnAssign true)) (λ x. ret (tree.Assign (Exprs.mark_of k) e x)))) (ret e) (u ∷ ts)) k))
+      (outcome_behind Inside (IsItem m d) (IsItem m d) (t ∷ u ∷ []) (t ∷ u ∷ ts) ts tt refl (read ts) ((value_tail t u n k).at ts))
 
   item_tail : (t u : Lexeme) → is_param_form t u ≡ true → (ts : List Lexeme) → Outcome Inside (IsItem m d) (IsItem m d) (t ∷ u ∷ ts) (Exprs.assign_tail v true (tree.Name (named t)) (u ∷ ts))
   item_tail t u h ts =
       let n = form_name t u h in
       form_cases t u h
-          (λ e. lone_tail t u n ts (ap is_assign_mark e))
-          (λ e. lone_tail t u n ts (ap is_assign_mark e))
-          (λ e. valued_tail t u n e ts)
+      (λ e. lone_tail t u n ts (ap is_assign_mark e))
+      (λ e. lone_tail t u n ts (ap is_assign_mark e))
+      (λ e. valued_tail t u n e ts)
 
   pub item_sound : (t u : Lexeme) → is_param_form t u ≡ true → (ts : List Lexeme) → Outcome Inside (IsItem m d) (IsItem m d) (t ∷ u ∷ ts) (Exprs.assign_of v true (t ∷ u ∷ ts))
   item_sound t u h ts = subst (λ r. Outcome Inside (IsItem m d) (IsItem m d) (t ∷ u ∷ ts) r) (sym (lone_assign v true t u ts h)) (item_tail t u h ts)
@@ -211,13 +210,13 @@ either_begun : (m : Bodies) (d : ℕ) (body : BodyParser) → SoundBody m (suc d
 either_begun m d body b t h =
     let below = nothing_sound m (suc d) body b in
     or_cases (is_prefix t.kind) (is_update t.kind) h
-        (λ h. sound_some (unary_behind m d (nothing body) below (paren_sound m (suc d) (nothing body) below) t h))
-        (λ h. sound_some (update_behind m d (nothing body) below (paren_sound m (suc d) (nothing body) below) t h))
+    (λ h. sound_some (unary_behind m d (nothing body) below (paren_sound m (suc d) (nothing body) below) t h))
+    (λ h. sound_some (update_behind m d (nothing body) below (paren_sound m (suc d) (nothing body) below) t h))
 
 no_room_item : (m : Bodies) (d : ℕ) (t u : Lexeme) → is_param_form t u ≡ true → (ts : List Lexeme) → Outcome Inside (IsItem m (suc d)) (IsItem m (suc d)) (t ∷ u ∷ ts) (no_room (begins_call (AnAssign true)) (t ∷ u ∷ ts))
 no_room_item m d t u h ts =
     subst (λ b. Outcome Inside (IsItem m (suc d)) (IsItem m (suc d)) (t ∷ u ∷ ts) (when b deep bad (t ∷ u ∷ ts))) (sym (ap begins_assign (form_name t u h)))
-        (record { front = []; split = refl; token = t; behind = u ∷ ts; first = refl; end = []; of = tree.Name (named t); is = name_item m (suc d) t (form_name t u h) })
+    (record { front = []; split = refl; token = t; behind = u ∷ ts; first = refl; end = []; of = tree.Name (named t); is = name_item m (suc d) t (form_name t u h) })
 
 -- without room
 pub no_calls_sound : (m : Bodies) (body : BodyParser) → ((d : ℕ) → SoundBody m d body) → (d : ℕ) → SoundCalls m d no_calls
@@ -227,7 +226,8 @@ no_calls_sound m body b d = record {
   new = sound_no_room (begins_call ANew) refl (zero_some AtFront m false d 3) (λ t h. let below = nothing_sound m (suc d) body (b (suc d)) in sound_some (new_behind m d (nothing body) below (paren_sound m (suc d) (nothing body) below) t (word_known word.NEW t.kind h)));
   param = sound_no_room (begins_call AParam) refl (param_mend m (suc d)) (λ t h. record { end = []; of = param (named t) None; starts = tt; is = name_param m (suc d) t (name_known t.kind h) });
   rest = sound_no_room (begins_call ARest) refl (rest_mend m (suc d)) (λ t h. rest_behind m (suc d) t (mark_known mark.ELLIPSIS t.kind h));
-  item = no_room_item m d }
+  item = no_room_item m d;
+}
 
 module _ (m : Bodies) where
   assign_sound : (d : ℕ) (v : Env) → SoundEnv m d v → (w : Bool) → Sound AtFront (IsExpr m w d 20) (Exprs.assign_of v w)
@@ -250,7 +250,8 @@ module _ (m : Bodies) where
     new = new_sound m d v s (paren_sound m (suc d) v s);
     param = arrow_param_sound (suc d) v s;
     rest = arrow_rest_sound (suc d);
-    item = item_sound m (suc d) v s }
+    item = item_sound m (suc d) v s;
+  }
 
 -- with whatever room for depth
 pub calls_sound : (m : Bodies) (body : ℕ → BodyParser) → ((room d : ℕ) → SoundBody m d (body room)) → (room d : ℕ) → SoundCalls m d (calls body room)

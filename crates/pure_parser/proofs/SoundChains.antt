@@ -1,6 +1,6 @@
 -- Primaries, members, calls, `new`, and the operators of one operand: what is read fits its places, and faults can be
 -- mended.
-use Rattle.std.proofs.Common.{◌≡◌, ℕ, zero, suc, ◌+◌, ◌≤◌, List, [], ◌∷◌, ◌++◌, refl, sym, ap, ◌∙◌, subst, arith, append_assoc, append-nil, Bool, true, false, ◌&&◌, ◌||◌, not, nat_le, nat_eq, Option, Some, None, if◌then◌else◌}
+use Rattle.std.proofs.Common.{◌≡◌, ℕ, suc, ◌≤◌, List, [], ◌∷◌, ◌++◌, refl, sym, ap, subst, arith, append_assoc, append-nil, Bool, true, false, ◌&&◌, ◌||◌, not, nat_eq, Option, Some, None, if◌then◌else◌}
 use Rattle.std.proofs.lemmas.Bool.{leb-true, eqb-true}
 use Rattle.script_grammar.specs.declared.token.Kind.{Kind}
 use Rattle.script_grammar.specs.declared.token.Kind.TheVariants as kind
@@ -10,19 +10,19 @@ use Rattle.script_grammar.specs.Lexeme.{Lexeme}
 use Rattle.script_grammar.specs.Kinds.{is_mark, is_word, is_any_word, is_prefix, is_prefix_op, is_update, is_update_op, is_head, op_kind}
 use Rattle.script_grammar.specs.Tree.{Named, Expr, Tail, Tails}
 use Rattle.script_grammar.specs.Tree as tree
-use Rattle.script_grammar.specs.TreeLists.{Args, exprs_of, tails_of, maybe_args_of, parts_of}
-use Rattle.script_grammar.specs.Pieces.{Bodies, Piece, At, mark_piece, glued_mark, placed, from}
+use Rattle.script_grammar.specs.TreeLists.{Args, exprs_of, tails_of, maybe_args_of}
+use Rattle.script_grammar.specs.Pieces.{Bodies, Piece, from}
 use Rattle.script_grammar.specs.Print.{print, print_tail, print_tails, print_args}
-use Rattle.script_grammar.specs.Proper.{rank, Proper, ProperTail, ProperTails, ProperArgs, is_member_tail, are_member_tails, free_of_in}
-use Rattle.pure_parser.specs.Parser.{Parser, head_of, ret, bad, bind, peek, step, when, Turn, Again, Stop, loop, Many, stopped, begun}
+use Rattle.script_grammar.specs.Proper.{rank, ProperTail, ProperTails, ProperArgs, is_member_tail, are_member_tails}
+use Rattle.pure_parser.specs.Parser.{Parser, ret, bind, step, when, Turn, Again, Stop, loop, Many, stopped}
 use Rattle.pure_parser.specs.Exprs
 use Rattle.pure_parser.specs.Exprs.{Env, AnAssign, APrefix, ANew, expect, is_atom, is_word_atom, word_atom, atom_case, chain_case, is_chain_head, mark_of, is_word_kind}
-use Rattle.pure_parser.proofs.Friendly.{Spot, AtFront, Inside}
-use Rattle.pure_parser.proofs.Fitting.{FitsAll, all_none, all_append, all_mark, all_placed, all_name, all_text, all_number, all_str, all_some_word, all_glued, all_same, all_none_left, fits_from, lexeme_of_kind, zero_lexeme}
+use Rattle.pure_parser.proofs.Friendly.{AtFront, Inside}
+use Rattle.pure_parser.proofs.Fitting.{FitsAll, all_none, all_append, all_mark, all_placed, all_name, all_text, all_number, all_str, all_some_word, all_glued, all_same, fits_from, lexeme_of_kind}
 use Rattle.pure_parser.proofs.Tests.{false_true, mark_known, word_known, head_known, and_left, and_right, or_cases, not_true}
-use Rattle.pure_parser.proofs.Sound.{Leads, LeadsAt, Sound, Mended, Behind, Begun, BeginsAt, sound_bind, leads_bind, sound_ret, sound_bad, sound_at, sound_peek, sound_look, at_step, at_when, at_bind, end_bind, sound_first, sound_done, some_done, sound_some, sound_map, leads_map, sound_inside, sound_loop, sound_made, sound_when}
-use Rattle.pure_parser.proofs.SoundParts.{IsExpr, SoundEnv, SoundCalls, SoundHead, looser, freed, zero_some, zero_is, IsMark, expect_sound, top, top_le, head_bind, head_map, head_of_sound}
-use Rattle.pure_parser.proofs.SoundLists.{expr_sound, args_sound, IsArgs, array_sound, template_sound}
+use Rattle.pure_parser.proofs.Sound.{Leads, LeadsAt, Sound, Mended, Behind, BeginsAt, sound_bind, sound_ret, sound_bad, sound_at, sound_peek, sound_look, at_step, at_when, at_bind, end_bind, sound_first, sound_done, some_done, leads_map, sound_inside, sound_loop, sound_made, sound_when}
+use Rattle.pure_parser.proofs.SoundParts.{IsExpr, SoundEnv, SoundHead, looser, zero_some, expect_sound, top, top_le, head_bind, head_map, head_of_sound}
+use Rattle.pure_parser.proofs.SoundLists.{expr_sound, args_sound, array_sound, template_sound}
 use Rattle.pure_parser.proofs.SoundFunctions.{func_sound}
 use Rattle.pure_parser.proofs.SoundObjects.{object_sound}
 
@@ -32,12 +32,12 @@ module _ (m : Bodies) (d : ℕ) where
   word_atom_at : (i : ℕ) (t : Lexeme) → t.kind ≡ kind.Word i → is_word_atom i ≡ true → IsExpr m false d 0 (t ∷ []) (word_atom i t.start)
   word_atom_at i t e h =
       or_cases (nat_eq i word.THIS || nat_eq i word.NULL || nat_eq i word.TRUE) (nat_eq i word.FALSE) h
-          (λ h. or_cases (nat_eq i word.THIS || nat_eq i word.NULL) (nat_eq i word.TRUE) h
-              (λ h. or_cases (nat_eq i word.THIS) (nat_eq i word.NULL) h
-                  (λ h. subst (λ j. t.kind ≡ kind.Word j → IsExpr m false d 0 (t ∷ []) (word_atom j t.start)) (sym (eqb-true i word.THIS h)) (λ e. record { rank_le = omega arith; proper = tt; in_if = refl; fits = all_placed (kind.Word word.THIS) d t e }) e)
-                  (λ h. subst (λ j. t.kind ≡ kind.Word j → IsExpr m false d 0 (t ∷ []) (word_atom j t.start)) (sym (eqb-true i word.NULL h)) (λ e. record { rank_le = omega arith; proper = tt; in_if = refl; fits = all_placed (kind.Word word.NULL) d t e }) e))
-              (λ h. subst (λ j. t.kind ≡ kind.Word j → IsExpr m false d 0 (t ∷ []) (word_atom j t.start)) (sym (eqb-true i word.TRUE h)) (λ e. record { rank_le = omega arith; proper = tt; in_if = refl; fits = all_placed (kind.Word word.TRUE) d t e }) e))
-          (λ h. subst (λ j. t.kind ≡ kind.Word j → IsExpr m false d 0 (t ∷ []) (word_atom j t.start)) (sym (eqb-true i word.FALSE h)) (λ e. record { rank_le = omega arith; proper = tt; in_if = refl; fits = all_placed (kind.Word word.FALSE) d t e }) e)
+      (λ h. or_cases (nat_eq i word.THIS || nat_eq i word.NULL) (nat_eq i word.TRUE) h
+      (λ h. or_cases (nat_eq i word.THIS) (nat_eq i word.NULL) h
+      (λ h. subst (λ j. t.kind ≡ kind.Word j → IsExpr m false d 0 (t ∷ []) (word_atom j t.start)) (sym (eqb-true i word.THIS h)) (λ e. record { rank_le = omega arith; proper = tt; in_if = refl; fits = all_placed (kind.Word word.THIS) d t e }) e)
+      (λ h. subst (λ j. t.kind ≡ kind.Word j → IsExpr m false d 0 (t ∷ []) (word_atom j t.start)) (sym (eqb-true i word.NULL h)) (λ e. record { rank_le = omega arith; proper = tt; in_if = refl; fits = all_placed (kind.Word word.NULL) d t e }) e))
+      (λ h. subst (λ j. t.kind ≡ kind.Word j → IsExpr m false d 0 (t ∷ []) (word_atom j t.start)) (sym (eqb-true i word.TRUE h)) (λ e. record { rank_le = omega arith; proper = tt; in_if = refl; fits = all_placed (kind.Word word.TRUE) d t e }) e))
+      (λ h. subst (λ j. t.kind ≡ kind.Word j → IsExpr m false d 0 (t ∷ []) (word_atom j t.start)) (sym (eqb-true i word.FALSE h)) (λ e. record { rank_le = omega arith; proper = tt; in_if = refl; fits = all_placed (kind.Word word.FALSE) d t e }) e)
 
   pub atom_at : (k : Kind) (t : Lexeme) → t.kind ≡ k → is_atom k ≡ true → IsExpr m false d 0 (t ∷ []) (atom_case k t)
   atom_at kind.Name t e h = record { rank_le = omega arith; proper = tt; in_if = refl; fits = all_name d t e }
@@ -92,7 +92,6 @@ module _ (m : Bodies) (d : ℕ) where
 
   module _ (v : Env) (s : SoundEnv m d v)
       (paren : (heads : Bool) (t : Lexeme) → t.kind ≡ kind.Mark mark.OPEN_PAREN → Leads Inside (Behind (t ∷ []) (IsExpr m false d 0)) (Behind (t ∷ []) (IsExpr m false d (top heads 0))) (Exprs.paren_of v heads t.start)) where
-
     primed : (heads : Bool) (w : List Lexeme) (f : Parser Expr) → Sound Inside (Behind w (IsExpr m false d 0)) f → Leads Inside (Behind w (IsExpr m false d 0)) (Behind w (IsExpr m false d (top heads 0))) f
     primed heads w f h = leads_map (λ u e q. q) (λ u e q. looser (top_le heads 0 (omega arith)) (w ++ u) e q) h
 
@@ -209,12 +208,13 @@ module _ (m : Bodies) (d : ℕ) where
     postfix_sound t u e q b =
         let alone : Sound Inside (Behind u (IsExpr m false d 5)) (ret e) = sound_done (IsExpr m false d 5) u e (looser (omega arith) u e q) in
         sound_peek (λ k. at_when (is_update k.kind && not k.after_line) (λ h.
-            let known = update_known k.kind (and_left (is_update k.kind) (not k.after_line) h) in
-            at_step k (sound_ret {a = tree.Update t.start (mark_of k.kind) false e} (record {
-                rank_le = omega arith;
-                proper = (known.1, q.rank_le, q.proper);
-                in_if = q.in_if;
-                fits = all_append (from_fits (print m d e) u t b q.fits) (all_glued (mark_of k.kind) d k known.0 (not_true k.after_line (and_right (is_update k.kind) (not k.after_line) h))) }))) (λ _. sound_at k alone)) alone
+        let known = update_known k.kind (and_left (is_update k.kind) (not k.after_line) h) in
+        at_step k (sound_ret {a = tree.Update t.start (mark_of k.kind) false e} (record {
+          rank_le = omega arith;
+          proper = (known.1, q.rank_le, q.proper);
+          in_if = q.in_if;
+          fits = all_append (from_fits (print m d e) u t b q.fits) (all_glued (mark_of k.kind) d k known.0 (not_true k.after_line (and_right (is_update k.kind) (not k.after_line) h)));
+        }))) (λ _. sound_at k alone)) alone
 
     update_mend : (heads : Bool) (u : List Lexeme) (e : Expr) → IsExpr m false d (top heads 4) u e → Mended Inside (Behind u (IsExpr m false d (top heads 5)))
     update_mend true u e q = some_done (IsExpr m false d 20) u e q
@@ -249,7 +249,6 @@ prefix_known kind.End e = absurd (false_true e)
 
 module _ (m : Bodies) (d : ℕ) (v : Env) (s : SoundEnv m (suc d) v)
     (paren : (heads : Bool) (t : Lexeme) → t.kind ≡ kind.Mark mark.OPEN_PAREN → Leads Inside (Behind (t ∷ []) (IsExpr m false (suc d) 0)) (Behind (t ∷ []) (IsExpr m false (suc d) (top heads 0))) (Exprs.paren_of v heads t.start)) where
-
   new_is : (t : Lexeme) → t.kind ≡ kind.Word word.NEW → (u x : List Lexeme) (e : Expr) (o : Option Args) → IsExpr m false (suc d) 2 u e → IsMaybeArgs m (suc d) x o → IsExpr m false d 3 (t ∷ (u ++ x)) (tree.New t.start e (maybe_args_of o))
   new_is t k u x e None q r = record { rank_le = omega arith; proper = (omega (arith, q.rank_le), q.proper, r.proper); in_if = refl; fits = all_append (all_placed (kind.Word word.NEW) (suc d) t k) (all_append q.fits r.fits) }
   new_is t k u x e (Some a) q r = record { rank_le = omega arith; proper = (q.rank_le, q.proper, r.proper); in_if = refl; fits = all_append (all_placed (kind.Word word.NEW) (suc d) t k) (all_append q.fits r.fits) }
@@ -261,8 +260,8 @@ module _ (m : Bodies) (d : ℕ) (v : Env) (s : SoundEnv m (suc d) v)
   unfolding Exprs.new_from
   new_from_sound t k u e q = sound_when (is_chain_head e)
       (λ c. sound_bind (tails_sound m (suc d) v s paren false (Exprs.member_turn v) (member_turn_sound m (suc d) v s paren)) (λ x n r.
-          let callee = chain_is m (suc d) false u x e n.items (record { rank_le = leb-true (rank e) 1 c; proper = q.proper; in_if = q.in_if; fits = q.fits }) (record { proper = r.proper; members = r.members; fits = r.fits }) in
-          sound_made (λ o. tree.New t.start (chain_case e n.items) (maybe_args_of o)) (new_args_sound m (suc d) v s paren) (λ y o a. subst (λ z. IsExpr m false d 3 (t ∷ z) (tree.New t.start (chain_case e n.items) (maybe_args_of o))) (append_assoc u x y) (new_is t k (u ++ x) y (chain_case e n.items) o callee a))))
+      let callee = chain_is m (suc d) false u x e n.items (record { rank_le = leb-true (rank e) 1 c; proper = q.proper; in_if = q.in_if; fits = q.fits }) (record { proper = r.proper; members = r.members; fits = r.fits }) in
+      sound_made (λ o. tree.New t.start (chain_case e n.items) (maybe_args_of o)) (new_args_sound m (suc d) v s paren) (λ y o a. subst (λ z. IsExpr m false d 3 (t ∷ z) (tree.New t.start (chain_case e n.items) (maybe_args_of o))) (append_assoc u x y) (new_is t k (u ++ x) y (chain_case e n.items) o callee a))))
       (λ _. sound_done (Behind (t ∷ []) (IsExpr m false d 3)) u (tree.New t.start e (maybe_args_of None)) (new_alone t k u e q))
 
   pub new_behind : (t : Lexeme) → t.kind ≡ kind.Word word.NEW → Sound Inside (Behind (t ∷ []) (IsExpr m false d 3)) (bind (Exprs.new_or_prim v false) (Exprs.new_from v t.start))
@@ -289,5 +288,5 @@ module _ (m : Bodies) (d : ℕ) (v : Env) (s : SoundEnv m (suc d) v)
   prefix_sound =
       let some = zero_some AtFront m false d 6 in
       sound_peek (λ t.
-          at_when (is_prefix t.kind) (λ e. at_step t (unary_behind t e)) (λ _.
-          at_when (is_update t.kind) (λ e. at_step t (update_behind t e)) (λ _. sound_at t (sound_bad some)))) (sound_bad some)
+      at_when (is_prefix t.kind) (λ e. at_step t (unary_behind t e)) (λ _.
+      at_when (is_update t.kind) (λ e. at_step t (update_behind t e)) (λ _. sound_at t (sound_bad some)))) (sound_bad some)

@@ -1,5 +1,5 @@
 -- Parameters and functions that are no arrows: what is read fits its places, and faults can be mended.
-use Rattle.std.proofs.Common.{◌≡◌, ℕ, zero, suc, ◌+◌, ◌≤◌, List, [], ◌∷◌, ◌++◌, refl, sym, ap, ◌∙◌, subst, arith, append_assoc, append-nil, Bool, true, false, ◌&&◌, ◌||◌, Option, Some, None, if◌then◌else◌}
+use Rattle.std.proofs.Common.{◌≡◌, ℕ, List, [], ◌∷◌, ◌++◌, refl, sym, ap, ◌∙◌, subst, arith, append_assoc, append-nil, Bool, true, false, Option, Some, None}
 use Rattle.script_grammar.specs.declared.token.Kind.TheVariants as kind
 use Rattle.script_grammar.specs.declared.token.FuncForm.{FuncForm}
 use Rattle.script_grammar.specs.declared.token.FuncForm.TheVariants as form
@@ -10,18 +10,18 @@ use Rattle.script_grammar.specs.Kinds.{is_mark, is_name, is_arrow_form}
 use Rattle.script_grammar.specs.Tree.{Named, Expr, MaybeExpr, no_expr, some_expr, Params, no_params, more_params, Function, function, Body, Stmts}
 use Rattle.script_grammar.specs.Tree as tree
 use Rattle.script_grammar.specs.TreeLists.{Param, params_of, maybe_expr_of}
-use Rattle.script_grammar.specs.Pieces.{Bodies, Piece, At, mark_piece, comma_piece, name_piece, placed}
-use Rattle.script_grammar.specs.Print.{print, print_params, print_more_params, print_initializer, parenthesized, print_function, print_func, print_body, arrow_pieces, func_word, param_depth, ellipsis, print_name}
-use Rattle.script_grammar.specs.Proper.{rank, Proper, ProperMaybe, ProperParams, ProperFunction, ProperBody, AreParams, SuitsForm, BareIf, IsOneParam, IsFuncExpression, IsExpressionForm, function_rank, function_free, body_free}
+use Rattle.script_grammar.specs.Pieces.{Bodies, Piece, mark_piece, comma_piece, name_piece}
+use Rattle.script_grammar.specs.Print.{print_params, print_more_params, print_initializer, parenthesized, print_function, print_body, ellipsis, print_name}
+use Rattle.script_grammar.specs.Proper.{ProperMaybe, ProperParams, ProperFunction, AreParams, SuitsForm, IsOneParam, function_free}
 use Rattle.script_grammar.specs.Script.{IsOf}
-use Rattle.pure_parser.specs.Parser.{Parser, head_of, ret, bad, bind, peek, step, when, Turn, Again, Stop, loop, Many, stopped, begun, led}
+use Rattle.pure_parser.specs.Parser.{Parser, ret, bind, Turn, Again, Stop, loop, Many, stopped, begun}
 use Rattle.pure_parser.specs.Exprs
 use Rattle.pure_parser.specs.Exprs.{Env, AnAssign, ParamsEnd, Plain, Trailing, Rest, Head, BodyRead, expect, name_of, named, param, rest_param, ended_params, is_trailing, head_case, function_case, is_simple}
-use Rattle.pure_parser.proofs.Friendly.{Spot, AtFront, Inside}
-use Rattle.pure_parser.proofs.Fitting.{FitsAll, all_none, all_append, all_mark, all_placed, all_word, all_name, all_same, lexeme_of_kind, zero_lexeme}
-use Rattle.pure_parser.proofs.Tests.{false_true, mark_known, name_known}
-use Rattle.pure_parser.proofs.Sound.{Leads, Sound, Mended, Behind, sound_bind, sound_ret, sound_bad, sound_at, sound_peek, at_step, at_when, sound_done, some_done, sound_some, sound_map, sound_inside, sound_loop, sound_made, sound_when}
-use Rattle.pure_parser.proofs.SoundParts.{IsExpr, IsParam, IsRest, IsBraced, print_param, SoundEnv, SoundCalls, SoundBody, IsMark, IsName, expect_sound, name_sound}
+use Rattle.pure_parser.proofs.Friendly.{Inside}
+use Rattle.pure_parser.proofs.Fitting.{FitsAll, all_none, all_append, all_mark, all_placed, all_name, all_same, lexeme_of_kind}
+use Rattle.pure_parser.proofs.Tests.{mark_known, name_known}
+use Rattle.pure_parser.proofs.Sound.{Sound, Mended, Behind, sound_bind, sound_ret, sound_bad, sound_at, sound_peek, at_step, at_when, sound_done, sound_some, sound_map, sound_inside, sound_loop, sound_made}
+use Rattle.pure_parser.proofs.SoundParts.{IsExpr, IsParam, IsRest, IsBraced, print_param, SoundEnv, IsMark, expect_sound, name_sound}
 
 module _ (m : Bodies) where
   -- how a list of parameters ends behind a parameter; the first number is the depth of a parameter, the second of a comma
@@ -113,13 +113,15 @@ module _ (m : Bodies) where
   next_go q d u x p n h r = record {
     single = (h.0, r.single);
     proper = (h.1, r.proper);
-    fits = all_same (ap (λ y. mark_piece mark.COMMA d ∷ y) (sym (append_assoc (print_param m q p) (next_pieces q d n.items) (next_end q d n.last)))) (all_append h.2 r.fits) }
+    fits = all_same (ap (λ y. mark_piece mark.COMMA d ∷ y) (sym (append_assoc (print_param m q p) (next_pieces q d n.items) (next_end q d n.last)))) (all_append h.2 r.fits);
+  }
 
   pub params_first : (q d : ℕ) (u x : List Lexeme) (p : Param) (n : Many Param ParamsEnd) → IsParam m q u p → NextMany q d x n → ParamsMany q d (u ++ x) (begun p n)
   params_first q d u x p n h r = record {
     are = are_params p n.items n.last (h.single, r.single);
     proper = all_proper (p ∷ n.items) n.last (h.proper, r.proper);
-    fits = all_same (sym (first_print q d p n.items n.last)) (all_append h.fits r.fits) }
+    fits = all_same (sym (first_print q d p n.items n.last)) (all_append h.fits r.fits);
+  }
 
   pub params_rest : (q d : ℕ) (u : List Lexeme) (n : Named) → IsRest q u n → ParamsMany q d u (stopped (Rest n))
   params_rest q d u n h = record { are = refl; proper = (tt, tt); fits = h }
@@ -152,7 +154,8 @@ module _ (m : Bodies) where
     bare = refl;
     are = r.are;
     proper = r.proper;
-    fits = all_append (all_placed (kind.Mark mark.OPEN_PAREN) d t e) (all_same (append_assoc (print_params m q d (params_of (ended_params n.items n.last))) (comma_piece (is_trailing n.last) d) (mark_piece mark.CLOSE_PAREN d ∷ [])) (all_append r.fits c)) }
+    fits = all_append (all_placed (kind.Mark mark.OPEN_PAREN) d t e) (all_same (append_assoc (print_params m q d (params_of (ended_params n.items n.last))) (comma_piece (is_trailing n.last) d) (mark_piece mark.CLOSE_PAREN d ∷ [])) (all_append r.fits c));
+  }
 
   -- an initializer, or none
   pub record IsInit (d : ℕ) (u : List Lexeme) (o : Option Expr) : Type 0 where
@@ -226,8 +229,9 @@ module _ (m : Bodies) where
 
     one_sound : (t : Lexeme) → t.kind ≡ kind.Mark mark.OPEN_PAREN → Sound Inside (Behind (t ∷ []) (SuitedHead form.Setter)) (Exprs.one_param v t.start)
     one_sound t e = sound_bind param_sound (λ u p h. sound_made (λ _. record { start = t.start; params = p ∷ []; comma = false; bare = false }) (expect_sound mark.CLOSE_PAREN d) (λ x _ c. record {
-        suits = one_param p h.single;
-        is = head_is d d t u x (begun p (stopped Plain)) e (subst (λ y. ParamsMany d d y (begun p (stopped Plain))) (append-nil u) (params_first d d u [] p (stopped Plain) h (record { single = tt; proper = tt; fits = all_none }))) c }))
+      suits = one_param p h.single;
+      is = head_is d d t u x (begun p (stopped Plain)) e (subst (λ y. ParamsMany d d y (begun p (stopped Plain))) (append-nil u) (params_first d d u [] p (stopped Plain) h (record { single = tt; proper = tt; fits = all_none }))) c;
+    }))
       where
         one_param : (p : Param) → p.rest ≡ false → IsOneParam (params_of (p ∷ [])) false
         one_param p h = subst (λ r. IsOneParam (more_params p.name (maybe_expr_of p.value) r no_params) false) (sym h) refl
@@ -269,11 +273,12 @@ module _ (m : Bodies) where
     function_is : (f : FuncForm) → IsPlainForm f → (name : Option Named) (u x : List Lexeme) (h : Head) (b : BodyRead) → SuitedHead f u h → IsBraced m d f x b → IsFunctionOf f name (u ++ x) (function_case f name h b)
     function_is f i name u x h b p q =
         subst (λ y. IsFunctionOf f name (u ++ x) (function f h.start b.end name (params_of h.params) h.comma y b.body)) (sym p.is.bare)
-            (subst (λ y. IsFunctionOf f name (u ++ x) (function f h.start b.end name (params_of h.params) h.comma false y)) (sym q.is) (record {
-                of = (refl, refl);
-                free = refl;
-                proper = (p.is.are, p.suits, tt, p.is.proper, q.proper);
-                fits = all_same (plain_print f (plain_arrow f i) h.start b.end name (params_of h.params) h.comma (tree.BracedBody q.items)) (all_append p.is.fits q.fits) }))
+        (subst (λ y. IsFunctionOf f name (u ++ x) (function f h.start b.end name (params_of h.params) h.comma false y)) (sym q.is) (record {
+          of = (refl, refl);
+          free = refl;
+          proper = (p.is.are, p.suits, tt, p.is.proper, q.proper);
+          fits = all_same (plain_print f (plain_arrow f i) h.start b.end name (params_of h.params) h.comma (tree.BracedBody q.items)) (all_append p.is.fits q.fits);
+        }))
 
     pub function_sound : (f : FuncForm) (name : Option Named) → IsPlainForm f → Sound Inside (IsFunctionOf f name) (Exprs.function_of v f name)
     unfolding Exprs.function_of
@@ -291,11 +296,12 @@ module _ (m : Bodies) where
     func_is : (t : Lexeme) → t.kind ≡ kind.Word word.FUNCTION → (u x : List Lexeme) (o : Option Named) (f : Function) → IsMaybeName u o → IsFunctionOf form.Function o x f → IsExpr m false d 0 (t ∷ (u ++ x)) (tree.Func t.start f)
     func_is t e u x o (function f start end name ps comma bare body) h r =
         subst (λ y. IsFunctionOf form.Function o x (function y start end name ps comma bare body) → IsExpr m false d 0 (t ∷ (u ++ x)) (tree.Func t.start (function y start end name ps comma bare body))) (sym r.of.0)
-            (λ k. record {
-                rank_le = omega arith;
-                proper = (tt, k.proper);
-                in_if = k.free;
-                fits = all_append (all_placed (kind.Word word.FUNCTION) d t e) (all_append (subst (λ n. FitsAll (print_name n d) u) (sym k.of.1) h) k.fits) }) r
+        (λ k. record {
+          rank_le = omega arith;
+          proper = (tt, k.proper);
+          in_if = k.free;
+          fits = all_append (all_placed (kind.Word word.FUNCTION) d t e) (all_append (subst (λ n. FitsAll (print_name n d) u) (sym k.of.1) h) k.fits);
+        }) r
 
     pub func_sound : (t : Lexeme) → t.kind ≡ kind.Word word.FUNCTION → Sound Inside (Behind (t ∷ []) (IsExpr m false d 0)) (Exprs.func_of v t.start)
     unfolding Exprs.func_of

@@ -1,31 +1,29 @@
 -- The heads of arrows, arrows, and all calls that count for the depth: what is read fits its places, and faults can be
 -- mended.
-use Rattle.std.proofs.Common.{◌≡◌, ℕ, zero, suc, ◌+◌, ◌≤◌, List, [], ◌∷◌, ◌++◌, refl, sym, ap, ◌∙◌, subst, arith, append_assoc, append-nil, Bool, true, false, ◌&&◌, ◌||◌, not, nat_le, Option, Some, None}
-use Rattle.script_grammar.specs.declared.token.Kind.{Kind}
+use Rattle.std.proofs.Common.{◌≡◌, ℕ, suc, ◌≤◌, List, [], ◌∷◌, ◌++◌, refl, sym, ap, ◌∙◌, subst, arith, append_assoc, append-nil, Bool, true, false, ◌||◌, not, Option, Some, None}
 use Rattle.script_grammar.specs.declared.token.Kind.TheVariants as kind
 use Rattle.script_grammar.specs.declared.token.FuncForm.TheVariants as form
 use Rattle.script_grammar.specs.declared.token.mark.TheConstants as mark
-use Rattle.script_grammar.specs.declared.token.word.TheConstants as word
 use Rattle.script_grammar.specs.Lexeme.{Lexeme}
-use Rattle.script_grammar.specs.Kinds.{is_mark, is_name, is_word, is_prefix, is_update, is_assign_mark}
+use Rattle.script_grammar.specs.Kinds.{is_mark, is_name}
 use Rattle.script_grammar.specs.Tree.{Named, Expr, Body}
 use Rattle.script_grammar.specs.Tree as tree
-use Rattle.script_grammar.specs.TreeLists.{Param, params_of, exprs_of, maybe_expr_of}
-use Rattle.script_grammar.specs.Pieces.{Bodies, Piece, At, Fits, mark_piece, glued_mark, comma_piece, name_piece, until}
+use Rattle.script_grammar.specs.TreeLists.{Param, exprs_of, maybe_expr_of}
+use Rattle.script_grammar.specs.Pieces.{Bodies, Fits, mark_piece}
 use Rattle.script_grammar.specs.Print.{print, print_list, print_more, print_body}
-use Rattle.script_grammar.specs.Proper.{rank, Proper, ProperExprs, ProperBody, ProperMaybe, HasExprs, begins_brace, free_of_in, body_free, InIf}
-use Rattle.pure_parser.specs.Parser.{Parser, head_of, rest_of, ret, bad, deep, bind, peek, step, when, no_room, Turn, Again, Stop, loop, Many, stopped, begun}
+use Rattle.script_grammar.specs.Proper.{rank, Proper, ProperExprs, ProperBody, ProperMaybe, HasExprs, begins_brace, body_free}
+use Rattle.pure_parser.specs.Parser.{head_of, rest_of, ret, bind, Turn, Again, Stop, loop, Many, stopped, begun}
 use Rattle.pure_parser.specs.Exprs
 use Rattle.pure_parser.specs.Exprs.{Env, Calls, BodyParser, AnAssign, APrefix, ANew, AParam, ARest, ParamsEnd, Plain, Trailing, Rest, Head, BodyRead, Spanned, spanned, short_body, expect, named, param, head_case, bare_head, arrow_case, is_simple, is_arrow, is_param_form}
-use Rattle.pure_parser.proofs.Friendly.{Spot, AtFront, Inside, Starter}
+use Rattle.pure_parser.proofs.Friendly.{AtFront, Inside}
 use Rattle.pure_parser.proofs.Fitting.{FitsAll, all_none, all_append, all_mark, all_placed, all_name, all_glued, all_same, fits_until, EndsBy, lexeme_of_kind, zero_lexeme, zero_starts}
-use Rattle.pure_parser.proofs.Tests.{false_true, mark_known, name_known, and_left, and_right, not_true}
-use Rattle.pure_parser.proofs.Sound.{Leads, LeadsAt, Outcome, Sound, Mended, Behind, Begun, BeginsAt, here, started, sound_bind, leads_bind, sound_ret, sound_bad, sound_at, sound_peek, sound_look, at_step, at_when, at_bind, sound_first, sound_done, leads_done, some_done, sound_some, sound_map, leads_map, sound_inside, sound_loop, leads_loop, sound_made, leads_made, sound_when, sound_no_room, at_inside, inside_outcome, end_outcome, sound_first_end}
+use Rattle.pure_parser.proofs.Tests.{mark_known, name_known, and_left, and_right, not_true}
+use Rattle.pure_parser.proofs.Sound.{Leads, LeadsAt, Outcome, Sound, Mended, Behind, Begun, BeginsAt, here, started, sound_bind, leads_bind, sound_ret, sound_bad, sound_at, sound_peek, sound_look, at_step, at_when, at_bind, sound_first, sound_done, leads_done, some_done, sound_map, leads_map, leads_loop, sound_made, leads_made, sound_when, at_inside, inside_outcome, end_outcome, sound_first_end}
 use Rattle.pure_parser.proofs.Spanned.{at_spanned, spanned_outcome, WithEnd}
 use Rattle.pure_parser.proofs.Fronts.{begins_no}
-use Rattle.pure_parser.proofs.SoundParts.{IsExpr, IsParam, IsRest, IsItem, IsBraced, print_param, param_value, param_expr, param_print, param_is, SoundEnv, SoundCalls, SoundBody, looser, freed, zero_is, zero_some, IsMark, expect_sound, mark_some, name_sound}
-use Rattle.pure_parser.proofs.SoundFunctions.{next_end, AreSingle, AreProper, FirstTurn, NextTurn, NextMany, ParamsMany, next_go, params_first, params_rest, params_none, head_is, IsHead, param_sound, behind_comma}
-use Rattle.pure_parser.proofs.SoundArrows.{IsItems, list_more, items_first, items_sound, paren_is, ArrowHead, IsArrowMark, ArrowBody, arrow_is, arrow_lexeme, arrow_mark_is, zero_body, zero_body_is}
+use Rattle.pure_parser.proofs.SoundParts.{IsExpr, IsParam, IsBraced, param_value, param_expr, param_print, param_is, SoundEnv, freed, zero_is, IsMark, expect_sound}
+use Rattle.pure_parser.proofs.SoundFunctions.{FirstTurn, NextTurn, NextMany, ParamsMany, next_go, params_first, params_rest, params_none, head_is, behind_comma}
+use Rattle.pure_parser.proofs.SoundArrows.{IsItems, list_more, items_sound, ArrowHead, IsArrowMark, ArrowBody, arrow_is, arrow_lexeme, arrow_mark_is, zero_body, zero_body_is}
 
 module _ (m : Bodies) (d : ℕ) where
   -- What is completed to a parenthesized expression, from its items on, and from a comma on.
@@ -74,11 +72,13 @@ module _ (m : Bodies) (d : ℕ) where
         items = e ∷ r.items;
         has = tt;
         proper = ((value_rank p.name p.value).0, value_proper p.name p.value h.1, r.proper);
-        fits = all_same (ap (λ y. mark_piece mark.COMMA d ∷ (y ++ (print_more m d (exprs_of r.items) ++ mark_piece mark.CLOSE_PAREN d ∷ []))) (param_print m (suc d) p h.0) ∙ ap (λ y. mark_piece mark.COMMA d ∷ y) (sym (append_assoc (print m (suc d) e) (print_more m d (exprs_of r.items)) (mark_piece mark.CLOSE_PAREN d ∷ [])))) (all_append h.2 r.fits) }
+        fits = all_same (ap (λ y. mark_piece mark.COMMA d ∷ (y ++ (print_more m d (exprs_of r.items) ++ mark_piece mark.CLOSE_PAREN d ∷ []))) (param_print m (suc d) p h.0) ∙ ap (λ y. mark_piece mark.COMMA d ∷ y) (sym (append_assoc (print m (suc d) e) (print_more m d (exprs_of r.items)) (mark_piece mark.CLOSE_PAREN d ∷ [])))) (all_append h.2 r.fits);
+      }
     where
       value_rank : (n : Named) (o : Option Expr) → (rank (param_value n o) ≤ 20) × Unit {0}
       value_rank n None = (omega arith, tt)
       value_rank n (Some e) = (omega arith, tt)
+
       value_proper : (n : Named) (o : Option Expr) → ProperMaybe m (maybe_expr_of o) → Proper m (param_value n o)
       value_proper n None p = tt
       value_proper n (Some e) p = (refl, omega arith, tt, p.0, p.1)
@@ -90,7 +90,8 @@ module _ (m : Bodies) (d : ℕ) where
         items = param_expr p ∷ r.items;
         has = tt;
         proper = (q.rank_le, q.proper, r.proper);
-        fits = all_same (sym (append_assoc (print m (suc d) (param_expr p)) (print_more m d (exprs_of r.items)) (mark_piece mark.CLOSE_PAREN d ∷ []))) (all_append q.fits r.fits) }
+        fits = all_same (sym (append_assoc (print m (suc d) (param_expr p)) (print_more m d (exprs_of r.items)) (mark_piece mark.CLOSE_PAREN d ∷ []))) (all_append q.fits r.fits);
+      }
 
   -- the items and the closing parenthesis
   paren_items : (t : Lexeme) → t.kind ≡ kind.Mark mark.OPEN_PAREN → (u : List Lexeme) (es : List Expr) → HasExprs (exprs_of es) → ProperExprs m (exprs_of es) → FitsAll (print_list m d (exprs_of es) ++ mark_piece mark.CLOSE_PAREN d ∷ []) u → IsExpr m false d 20 (t ∷ u) (tree.Paren t.start (Exprs.list_case es))
@@ -111,8 +112,8 @@ module _ (m : Bodies) (d : ℕ) where
     doomed_items_sound =
         let mend : (u : List Lexeme) (es : List Expr) → IsItems m d u es → (x : List Lexeme) → IsMark mark.CLOSE_PAREN d x tt → Mended Inside (Behind x (Behind u FirstEnd)) = λ u es h x c. some_done (Behind u FirstEnd) x (Stop Plain) (first_doomed (items_tail u x es h c)) in
         leads_bind (items_sound m d v s)
-            (λ u es h. leads_bind (expect_sound mark.CLOSE_PAREN d) (λ x _ c. sound_bad (mend u es h x c)) (λ x _ c. mend u es h x c))
-            (λ u es h. record { end = close_lexeme ∷ []; of = Stop Plain; starts = tt; is = first_doomed (items_tail u (close_lexeme ∷ []) es h (close_is close_lexeme refl)) })
+        (λ u es h. leads_bind (expect_sound mark.CLOSE_PAREN d) (λ x _ c. sound_bad (mend u es h x c)) (λ x _ c. mend u es h x c))
+        (λ u es h. record { end = close_lexeme ∷ []; of = Stop Plain; starts = tt; is = first_doomed (items_tail u (close_lexeme ∷ []) es h (close_is close_lexeme refl)) })
       where
         close_is : (t : Lexeme) → t.kind ≡ kind.Mark mark.CLOSE_PAREN → IsMark mark.CLOSE_PAREN d (t ∷ []) tt
         close_is t e = all_mark mark.CLOSE_PAREN d t e
@@ -209,8 +210,8 @@ module _ (m : Bodies) (d : ℕ) where
     arrow_head_sound =
         let some : Mended AtFront HeadEnd = record { end = zero_lexeme ∷ []; of = bare_head zero_lexeme; starts = zero_starts; is = head_doomed (tree.Number 0 0) (zero_is m false d 20) } in
         sound_peek (λ t.
-            at_when (is_name t.kind) (λ e. at_step t (sound_ret {a = bare_head t} (bare_is t (name_known t.kind e)))) (λ _.
-            at_when (is_mark mark.OPEN_PAREN t.kind) (λ e. at_step t (listed_sound t (mark_known mark.OPEN_PAREN t.kind e))) (λ _. sound_at t (sound_bad some)))) (sound_bad some)
+        at_when (is_name t.kind) (λ e. at_step t (sound_ret {a = bare_head t} (bare_is t (name_known t.kind e)))) (λ _.
+        at_when (is_mark mark.OPEN_PAREN t.kind) (λ e. at_step t (listed_sound t (mark_known mark.OPEN_PAREN t.kind e))) (λ _. sound_at t (sound_bad some)))) (sound_bad some)
 
     -- the mark, on the line of what stands before it
     pub arrow_mark_sound : Sound Inside (IsArrowMark m d) Exprs.arrow_mark
@@ -228,15 +229,17 @@ module _ (m : Bodies) (d : ℕ) where
 
     short_is : (w : Bool) (t : Lexeme) → is_mark mark.OPEN_BRACE t.kind ≡ false → (u : List Lexeme) (x : Spanned Expr) → IsExpr m w (suc d) 20 u x.value → Begun t u → EndsBy u x.end → ArrowBody m d w u (short_body x)
     short_is w t k u x q b e = record {
-        proper = (refl, q.rank_le, first_no_brace t k w u x.value q b, q.proper);
-        in_if = q.in_if;
-        fits = record { before = λ n. fits_until (print m (suc d) x.value) u n x.end e (q.fits.before n) } }
+      proper = (refl, q.rank_le, first_no_brace t k w u x.value q b, q.proper);
+      in_if = q.in_if;
+      fits = record { before = λ n. fits_until (print m (suc d) x.value) u n x.end e (q.fits.before n) };
+    }
 
     braced_is : (w : Bool) (u : List Lexeme) (b : BodyRead) → IsBraced m d form.Arrow u b → ArrowBody m d w u b
     braced_is w u b h = record {
-        proper = subst (λ y. ProperBody m form.Arrow y) (sym h.is) h.proper;
-        in_if = subst (λ y. (w || body_free y) ≡ true) (sym h.is) (free_none w);
-        fits = subst (λ y. FitsAll (print_body m d b.end y) u) (sym h.is) h.fits }
+      proper = subst (λ y. ProperBody m form.Arrow y) (sym h.is) h.proper;
+      in_if = subst (λ y. (w || body_free y) ≡ true) (sym h.is) (free_none w);
+      fits = subst (λ y. FitsAll (print_body m d b.end y) u) (sym h.is) h.fits;
+    }
       where
         free_none : (w : Bool) → (w || true) ≡ true
         free_none true = refl
@@ -258,15 +261,15 @@ module _ (m : Bodies) (d : ℕ) where
     short_end w =
         let t : Lexeme = head_of [] in
         inside_outcome (ArrowBody m d w) (ArrowBody m d w) [] (bind (spanned (v.sub (AnAssign w))) (λ x. ret (short_body x)) [])
-            (end_outcome (WithEnd (Short w t)) (WithEnd (ShortEnd w t)) (ArrowBody m d w) (ArrowBody m d w) (λ x. ret (short_body x)) (short_mend w t refl) (spanned (v.sub (AnAssign w)) [])
-                (spanned_outcome AtFront (Short w t) (ShortEnd w t) [] (v.sub (AnAssign w) []) (sound_first_end t (s.calls.assign w))))
+        (end_outcome (WithEnd (Short w t)) (WithEnd (ShortEnd w t)) (ArrowBody m d w) (ArrowBody m d w) (λ x. ret (short_body x)) (short_mend w t refl) (spanned (v.sub (AnAssign w)) [])
+        (spanned_outcome AtFront (Short w t) (ShortEnd w t) [] (v.sub (AnAssign w) []) (sound_first_end t (s.calls.assign w))))
 
     pub arrow_body_sound : (w : Bool) (h : Head) → Sound Inside (ArrowBody m d w) (Exprs.arrow_body v w h)
     unfolding Exprs.arrow_body
     arrow_body_sound w h = sound_look
         (λ t. at_when (is_mark mark.OPEN_BRACE t.kind)
-            (λ _. sound_at t (sound_map (λ u b r. braced_is w u b r) (s.body.braced form.Arrow h.start (is_simple h.params))))
-            (short_sound w t))
+        (λ _. sound_at t (sound_map (λ u b r. braced_is w u b r) (s.body.braced form.Arrow h.start (is_simple h.params))))
+        (short_sound w t))
         (short_end w)
 
     head_mend : (w : Bool) (u : List Lexeme) (h : Head) → HeadEnd u h → Mended Inside (Behind u (IsExpr m w d 20))

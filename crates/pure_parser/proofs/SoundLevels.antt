@@ -10,17 +10,17 @@ use Rattle.script_grammar.specs.Kinds.{is_mark, is_word, kind_level, op_level, o
 use Rattle.script_grammar.specs.Tree.{Expr, Operands, no_operands, more_operands}
 use Rattle.script_grammar.specs.Tree as tree
 use Rattle.script_grammar.specs.TreeLists.{Operand, operands_of}
-use Rattle.script_grammar.specs.Pieces.{Bodies, Piece, At, mark_piece}
+use Rattle.script_grammar.specs.Pieces.{Bodies, Piece}
 use Rattle.script_grammar.specs.Print.{print, print_operands, operator_piece}
-use Rattle.script_grammar.specs.Proper.{rank, Proper, ProperOperands, operand_rank, first_rank, rest_rank, level_rank, operands_level, free_of_in, operands_free, InIf}
-use Rattle.pure_parser.specs.Parser.{Parser, head_of, ret, bad, bind, peek, step, when, Turn, Again, Stop, loop, Many, stopped, begun}
+use Rattle.script_grammar.specs.Proper.{rank, Proper, ProperOperands, operand_rank, first_rank, rest_rank, level_rank, free_of_in, operands_free, InIf}
+use Rattle.pure_parser.specs.Parser.{Parser, head_of, ret, bind, peek, step, when, Turn, Again, Stop, loop, Many, stopped, begun}
 use Rattle.pure_parser.specs.Exprs
 use Rattle.pure_parser.specs.Exprs.{Env, AnAssign, expect, mark_of, is_word_kind, operand, binary_case, with_last, is_op, is_update_expr, power_operand}
-use Rattle.pure_parser.proofs.Friendly.{Spot, AtFront, Inside}
+use Rattle.pure_parser.proofs.Friendly.{AtFront, Inside}
 use Rattle.pure_parser.proofs.Fitting.{FitsAll, all_none, all_append, all_mark, all_kind, all_same}
-use Rattle.pure_parser.proofs.Tests.{false_true, mark_known, and_left, and_right, bool_cases}
-use Rattle.pure_parser.proofs.Sound.{Leads, Sound, Mended, Behind, sound_bind, sound_ret, sound_bad, sound_at, sound_peek, at_step, at_when, sound_done, some_done, sound_some, sound_map, leads_map, sound_inside, sound_loop, sound_made, sound_when}
-use Rattle.pure_parser.proofs.SoundParts.{IsExpr, SoundEnv, SoundCalls, SoundHead, in_both, looser, freed, IsMark, expect_sound, top, top_le, head_bind, head_map, head_of_sound}
+use Rattle.pure_parser.proofs.Tests.{false_true, mark_known, and_left, and_right}
+use Rattle.pure_parser.proofs.Sound.{Sound, Behind, sound_bind, sound_ret, sound_at, sound_peek, at_step, at_when, sound_done, sound_map, sound_inside, sound_loop, sound_made, sound_when}
+use Rattle.pure_parser.proofs.SoundParts.{IsExpr, SoundEnv, SoundHead, in_both, looser, expect_sound, head_bind, head_map}
 
 -- behind lexemes in two parts
 pub regroup : {A : Type 0} (R : List Lexeme → A → Type 0) (u x : List Lexeme) {f : Parser A} → Sound Inside (Behind (u ++ x) R) f → Sound Inside (Behind x (Behind u R)) f
@@ -101,7 +101,8 @@ module _ (m : Bodies) (d : ℕ) where
         rank_le = q.rank_le;
         proper = q.proper;
         in_if = q.in_if;
-        fits = all_append (all_kind (op_kind (mark_of t.kind) (is_word_kind t.kind)) d t known.0) q.fits }
+        fits = all_append (all_kind (op_kind (mark_of t.kind) (is_word_kind t.kind)) d t known.0) q.fits;
+      }
 
   -- operands of the level n behind one another
   pub record AreOperands (w : Bool) (n : ℕ) (u : List Lexeme) (os : List Operand) : Type 0 where
@@ -125,13 +126,15 @@ module _ (m : Bodies) (d : ℕ) where
         rank_le = omega (arith, same);
         proper = (tt, omega (arith, same, l), subst (λ i. rank e ≤ first_rank i) (sym same) k, q.proper, subst (λ i. ProperOperands m i (operands_of (o ∷ os))) (sym same) a.proper);
         in_if = in_both w (free_of_in e) (operands_free (operands_of (o ∷ os))) q.in_if a.in_if;
-        fits = all_append q.fits a.fits }
+        fits = all_append q.fits a.fits;
+      }
 
   operands_go : (w : Bool) (n r : ℕ) (u x : List Lexeme) (o : Operand) (os : List Operand) → IsOperand w n r u o → rank o.value ≤ rest_rank n (operands_of os) → AreOperands w n x os → AreOperands w n (u ++ x) (o ∷ os)
   operands_go w n r u x o os h k a = record {
     proper = (h.level, k, h.proper, a.proper);
     in_if = in_both w (not (o.is_word && nat_eq o.op word.IN)) (free_of_in o.value && operands_free (operands_of os)) h.no_in (in_both w (free_of_in o.value) (operands_free (operands_of os)) h.in_if a.in_if);
-    fits = all_append h.fits a.fits }
+    fits = all_append h.fits a.fits;
+  }
 
   -- a chain of `**`
 
@@ -196,9 +199,9 @@ module _ (m : Bodies) (d : ℕ) where
     pub operands_sound : (w : Bool) (n : ℕ) (lower : Parser Expr) → suc n < 12 → Sound AtFront (IsExpr m w d (operand_rank (suc n))) lower → (u : List Lexeme) (e : Expr) → IsExpr m w d (operand_rank (suc n)) u e → Sound Inside (Behind u (IsExpr m w d (level_rank (suc n)))) (Exprs.operands_from w (suc n) lower e)
     operands_sound w n lower l h u e q = sound_made (λ o. binary_case e o.items)
         (sound_loop (OpTurn w (suc n)) (λ x o. AreOperands w (suc n) x o.items) (Exprs.op_turn w (suc n) lower) (op_turn_sound w (suc n) lower l h)
-            (λ x b r. subst (λ y. AreOperands w (suc n) y []) (sym r) (no_operands_are w (suc n)))
-            (λ x y o r p a. operands_go w (suc n) (operand_rank (suc n)) x y o r.items p p.rank_le a)
-            (record { end = []; of = stopped tt; starts = tt; is = no_operands_are w (suc n) }))
+        (λ x b r. subst (λ y. AreOperands w (suc n) y []) (sym r) (no_operands_are w (suc n)))
+        (λ x y o r p a. operands_go w (suc n) (operand_rank (suc n)) x y o r.items p p.rank_le a)
+        (record { end = []; of = stopped tt; starts = tt; is = no_operands_are w (suc n) }))
         (λ x o r. binary_is w (suc n) (operand_rank (suc n)) u x e o.items l (operand_le (suc n)) q q.rank_le r)
 
     pub level_sound : (n : ℕ) → n ≤ 10 → (w heads : Bool) → SoundHead m w d heads (level_rank n) (Exprs.level_of v w n heads)
@@ -208,7 +211,7 @@ module _ (m : Bodies) (d : ℕ) where
         let same : operand_rank (suc n) ≡ level_rank n = operand_known (suc n) h ∙ omega arith in
         let lower = subst (λ r. Sound AtFront (IsExpr m w d r) (Exprs.level_of v w n false)) (sym same) (level_sound n (omega arith) w false) in
         head_bind heads (Exprs.operands_from w (suc n) (Exprs.level_of v w n false)) (omega arith) (level_sound n (omega arith) w heads)
-            (λ u e q. operands_sound w n (Exprs.level_of v w n false) (omega arith) lower u e (subst (λ r. IsExpr m w d r u e) (sym same) q))
+        (λ u e q. operands_sound w n (Exprs.level_of v w n false) (omega arith) lower u e (subst (λ r. IsExpr m w d r u e) (sym same) q))
 
     or_sound : (w : Bool) (u : List Lexeme) (e : Expr) → IsExpr m w d 15 u e → Sound Inside (Behind u (IsExpr m w d 17)) (Exprs.or_from v w e)
     unfolding Exprs.or_from
@@ -229,10 +232,11 @@ module _ (m : Bodies) (d : ℕ) where
     branches_sound : (w : Bool) (u : List Lexeme) (e : Expr) → IsExpr m w d 18 u e → (t : Lexeme) → t.kind ≡ kind.Mark mark.QUESTION → Sound Inside (Behind (t ∷ []) (Behind u (IsExpr m w d 19))) (Exprs.branches_of v w e)
     unfolding Exprs.branches_of
     branches_sound w u e q t k = sound_bind (sound_inside (s.calls.assign true)) (λ x y p. sound_bind (expect_sound mark.COLON d) (λ z _ c. sound_made (λ n. tree.Cond e y n) (sound_inside (s.calls.assign w)) (λ o n r. record {
-        rank_le = omega arith;
-        proper = (q.rank_le, q.proper, p.rank_le, p.proper, r.rank_le, r.proper);
-        in_if = in_both w (free_of_in e) (free_of_in n) q.in_if r.in_if;
-        fits = all_append q.fits (all_append (all_mark mark.QUESTION d t k) (all_append p.fits (all_append c r.fits))) })))
+      rank_le = omega arith;
+      proper = (q.rank_le, q.proper, p.rank_le, p.proper, r.rank_le, r.proper);
+      in_if = in_both w (free_of_in e) (free_of_in n) q.in_if r.in_if;
+      fits = all_append q.fits (all_append (all_mark mark.QUESTION d t k) (all_append p.fits (all_append c r.fits)));
+    })))
 
     cond_behind : (w : Bool) (u : List Lexeme) (e : Expr) → IsExpr m w d 18 u e → Sound Inside (Behind u (IsExpr m w d 19)) (Exprs.cond_tail v w e)
     unfolding Exprs.cond_tail
@@ -251,12 +255,13 @@ module _ (m : Bodies) (d : ℕ) where
     assign_behind w u e q =
         let alone : Sound Inside (Behind u (IsExpr m w d 20)) (ret e) = sound_done (IsExpr m w d 20) u e (looser (omega arith) u e q) in
         sound_peek (λ t. at_when (is_assign_mark t.kind && nat_le (rank e) 4) (λ h.
-            let known = assign_known t.kind (and_left (is_assign_mark t.kind) (nat_le (rank e) 4) h) in
-            at_step t (sound_made (λ x. tree.Assign (mark_of t.kind) e x) (sound_inside (s.calls.assign w)) (λ x a r. record {
-                rank_le = omega arith;
-                proper = (known.1, leb-true (rank e) 4 (and_right (is_assign_mark t.kind) (nat_le (rank e) 4) h), q.proper, r.rank_le, r.proper);
-                in_if = in_both w (free_of_in e) (free_of_in a) q.in_if r.in_if;
-                fits = all_append q.fits (all_append (all_mark (mark_of t.kind) d t known.0) r.fits) }))) (λ _. sound_at t alone)) alone
+        let known = assign_known t.kind (and_left (is_assign_mark t.kind) (nat_le (rank e) 4) h) in
+        at_step t (sound_made (λ x. tree.Assign (mark_of t.kind) e x) (sound_inside (s.calls.assign w)) (λ x a r. record {
+          rank_le = omega arith;
+          proper = (known.1, leb-true (rank e) 4 (and_right (is_assign_mark t.kind) (nat_le (rank e) 4) h), q.proper, r.rank_le, r.proper);
+          in_if = in_both w (free_of_in e) (free_of_in a) q.in_if r.in_if;
+          fits = all_append q.fits (all_append (all_mark (mark_of t.kind) d t known.0) r.fits);
+        }))) (λ _. sound_at t alone)) alone
 
     pub plain_sound : (w : Bool) → Sound AtFront (IsExpr m w d 20) (Exprs.plain_of v w)
     unfolding Exprs.plain_of

@@ -1,24 +1,23 @@
 -- Lists of expressions, arguments, arrays and templates: what is read fits its places, and faults can be mended.
-use Rattle.std.proofs.Common.{◌≡◌, ℕ, zero, suc, ◌+◌, ◌≤◌, List, [], ◌∷◌, ◌++◌, refl, sym, ap, ◌∙◌, subst, arith, append_assoc, append-nil, Bool, true, false, ◌&&◌, ◌||◌, Option, Some, None, is_none}
-use Rattle.script_grammar.specs.declared.token.Kind.{Kind}
+use Rattle.std.proofs.Common.{◌≡◌, ℕ, suc, ◌≤◌, List, [], ◌∷◌, ◌++◌, refl, sym, ap, ◌∙◌, subst, arith, append_assoc, append-nil, Bool, true, false, ◌&&◌, ◌||◌, Option, Some, None, is_none}
 use Rattle.script_grammar.specs.declared.token.Kind.TheVariants as kind
 use Rattle.script_grammar.specs.declared.token.mark.TheConstants as mark
 use Rattle.script_grammar.specs.Lexeme.{Lexeme}
-use Rattle.script_grammar.specs.Kinds.{is_mark, is_word, is_name, is_middle, is_tail}
+use Rattle.script_grammar.specs.Kinds.{is_mark, is_middle, is_tail}
 use Rattle.script_grammar.specs.Tree.{Expr, Exprs, Items, Parts, no_exprs, more_exprs}
 use Rattle.script_grammar.specs.Tree as tree
 use Rattle.script_grammar.specs.TreeLists.{Args, Part, exprs_of, items_of, parts_of, maybe_expr_of}
-use Rattle.script_grammar.specs.Pieces.{Bodies, Piece, At, mark_piece, comma_piece, template_piece, text_piece}
+use Rattle.script_grammar.specs.Pieces.{Bodies, Piece, mark_piece, comma_piece, template_piece, text_piece}
 use Rattle.script_grammar.specs.Print.{print, print_list, print_more, print_items, print_more_items, print_maybe, print_parts, part_kind, first_kind}
 use Rattle.script_grammar.specs.Proper.{rank, Proper, ProperExprs, ProperItems, ProperMaybe, ProperParts, AreItems, HasExprs, free_of_in, all_free, InIf}
-use Rattle.pure_parser.specs.Parser.{Parser, head_of, ret, bad, bind, peek, step, when, Turn, Again, Stop, loop, Many, stopped, begun, led}
+use Rattle.pure_parser.specs.Parser.{ret, bind, Turn, Again, Stop, loop, Many, stopped, begun, led}
 use Rattle.pure_parser.specs.Exprs
 use Rattle.pure_parser.specs.Exprs.{Env, AnAssign, expect}
-use Rattle.pure_parser.proofs.Friendly.{Spot, AtFront, Inside}
+use Rattle.pure_parser.proofs.Friendly.{AtFront, Inside}
 use Rattle.pure_parser.proofs.Fitting.{FitsAll, all_none, all_append, all_mark, all_placed, all_same, all_template, all_text, lexeme_of_kind, zero_lexeme}
-use Rattle.pure_parser.proofs.Tests.{false_true, mark_known, middle_known, tail_known, and_both}
-use Rattle.pure_parser.proofs.Sound.{Leads, Sound, Mended, Behind, sound_bind, sound_ret, sound_bad, sound_at, sound_peek, at_step, at_when, sound_done, some_done, sound_some, sound_map, sound_inside, sound_loop, sound_made}
-use Rattle.pure_parser.proofs.SoundParts.{IsExpr, SoundEnv, SoundCalls, in_both, looser, freed, zero_some, zero_is, IsMark, expect_sound}
+use Rattle.pure_parser.proofs.Tests.{false_true, mark_known, middle_known, tail_known}
+use Rattle.pure_parser.proofs.Sound.{Sound, Mended, Behind, sound_bind, sound_ret, sound_bad, sound_at, sound_peek, at_step, at_when, sound_done, sound_inside, sound_loop, sound_made}
+use Rattle.pure_parser.proofs.SoundParts.{IsExpr, SoundEnv, in_both, zero_is, expect_sound}
 
 module _ (m : Bodies) (d : ℕ) where
   -- expressions behind commas
@@ -170,7 +169,8 @@ module _ (m : Bodies) (d : ℕ) where
   part_go u x p n q r = record {
     proper = (q.0, r.proper);
     fits = subst (λ k. FitsAll (print m (suc d) p.value ++ (template_piece k p.behind d ∷ print_parts m d (parts_of (n.items ++ n.last ∷ [])))) (u ++ x)) (sym (middle_kind n.items n.last))
-        (all_same (append_assoc (print m (suc d) p.value) (template_piece kind.TemplateMiddle p.behind d ∷ []) (print_parts m d (parts_of (n.items ++ n.last ∷ [])))) (all_append q.1 r.fits)) }
+        (all_same (append_assoc (print m (suc d) p.value) (template_piece kind.TemplateMiddle p.behind d ∷ []) (print_parts m d (parts_of (n.items ++ n.last ∷ [])))) (all_append q.1 r.fits));
+  }
 
   module _ (v : Env) (s : SoundEnv m d v) where
     item_end_sound : (u : List Lexeme) (e : Expr) → IsExpr m true (suc d) 20 u e → Sound Inside (Behind u ItemTurn) (Exprs.item_end e)
@@ -184,8 +184,8 @@ module _ (m : Bodies) (d : ℕ) where
     item_turn_sound =
         let item : Sound Inside ItemTurn (bind (v.sub (AnAssign true)) Exprs.item_end) = sound_bind (sound_inside (s.calls.assign true)) item_end_sound in
         sound_peek (λ t.
-            at_when (is_mark mark.CLOSE_BRACKET t.kind) (λ _. sound_at t (sound_ret {a = Stop None} (tt, all_none))) (λ _.
-            at_when (is_mark mark.COMMA t.kind) (λ h. at_step t (sound_ret {a = Again None} (tt, all_mark mark.COMMA d t (mark_known mark.COMMA t.kind h)))) (λ _. sound_at t item))) item
+        at_when (is_mark mark.CLOSE_BRACKET t.kind) (λ _. sound_at t (sound_ret {a = Stop None} (tt, all_none))) (λ _.
+        at_when (is_mark mark.COMMA t.kind) (λ h. at_step t (sound_ret {a = Again None} (tt, all_mark mark.COMMA d t (mark_known mark.COMMA t.kind h)))) (λ _. sound_at t item))) item
 
     items_sound : Sound Inside ItemMany (loop (Exprs.item_turn v))
     items_sound = sound_loop ItemTurn ItemMany (Exprs.item_turn v) item_turn_sound
@@ -196,10 +196,11 @@ module _ (m : Bodies) (d : ℕ) where
     pub array_sound : (t : Lexeme) → t.kind ≡ kind.Mark mark.OPEN_BRACKET → Sound Inside (Behind (t ∷ []) (IsExpr m false d 0)) (Exprs.array_of v t.start)
     unfolding Exprs.array_of
     array_sound t e = sound_bind items_sound (λ u n r. sound_made (λ _. Exprs.array_case t.start n.items n.last) (expect_sound mark.CLOSE_BRACKET d) (λ x _ c. record {
-        rank_le = omega arith;
-        proper = (are_items n.items n.last, r.proper);
-        in_if = refl;
-        fits = all_append (all_placed (kind.Mark mark.OPEN_BRACKET) d t e) (array_fits n.items n.last (u ++ x) (all_append r.fits c)) }))
+      rank_le = omega arith;
+      proper = (are_items n.items n.last, r.proper);
+      in_if = refl;
+      fits = all_append (all_placed (kind.Mark mark.OPEN_BRACKET) d t e) (array_fits n.items n.last (u ++ x) (all_append r.fits c));
+    }))
 
     part_end_sound : (u : List Lexeme) (e : Expr) → IsExpr m true (suc d) 21 u e → Sound Inside (Behind u PartTurn) (Exprs.part_end e)
     unfolding Exprs.part_end
@@ -207,8 +208,8 @@ module _ (m : Bodies) (d : ℕ) where
         let tail : Lexeme = lexeme_of_kind kind.TemplateTail in
         let some : Mended Inside (Behind u PartTurn) = record { end = tail ∷ []; of = Stop (Exprs.part e tail); starts = tt; is = (q.proper, all_append q.fits (all_template kind.TemplateTail d tail refl)) } in
         sound_peek (λ t.
-            at_when (is_middle t.kind) (λ h. at_step t (sound_ret {a = Again (Exprs.part e t)} (q.proper, all_append q.fits (all_template kind.TemplateMiddle d t (middle_known t.kind h))))) (λ _.
-            at_when (is_tail t.kind) (λ h. at_step t (sound_ret {a = Stop (Exprs.part e t)} (q.proper, all_append q.fits (all_template kind.TemplateTail d t (tail_known t.kind h))))) (λ _. sound_at t (sound_bad some)))) (sound_bad some)
+        at_when (is_middle t.kind) (λ h. at_step t (sound_ret {a = Again (Exprs.part e t)} (q.proper, all_append q.fits (all_template kind.TemplateMiddle d t (middle_known t.kind h))))) (λ _.
+        at_when (is_tail t.kind) (λ h. at_step t (sound_ret {a = Stop (Exprs.part e t)} (q.proper, all_append q.fits (all_template kind.TemplateTail d t (tail_known t.kind h))))) (λ _. sound_at t (sound_bad some)))) (sound_bad some)
 
     part_turn_sound : Sound Inside PartTurn (Exprs.part_turn v)
     unfolding Exprs.part_turn
@@ -223,7 +224,8 @@ module _ (m : Bodies) (d : ℕ) where
     pub template_sound : (t : Lexeme) → t.kind ≡ kind.TemplateHead → Sound Inside (Behind (t ∷ []) (IsExpr m false d 0)) (Exprs.template_of v t.start t.text)
     unfolding Exprs.template_of
     template_sound t e = sound_made (λ n. tree.Template t.start t.text (parts_of (n.items ++ n.last ∷ []))) parts_sound (λ u n r. record {
-        rank_le = omega arith;
-        proper = r.proper;
-        in_if = refl;
-        fits = subst (λ k. FitsAll (text_piece k t.text t.start d ∷ print_parts m d (parts_of (n.items ++ n.last ∷ []))) (t ∷ u)) (sym (head_kind n.items n.last)) (all_append (all_text kind.TemplateHead d t e) r.fits) })
+      rank_le = omega arith;
+      proper = r.proper;
+      in_if = refl;
+      fits = subst (λ k. FitsAll (text_piece k t.text t.start d ∷ print_parts m d (parts_of (n.items ++ n.last ∷ []))) (t ∷ u)) (sym (head_kind n.items n.last)) (all_append (all_text kind.TemplateHead d t e) r.fits);
+    })

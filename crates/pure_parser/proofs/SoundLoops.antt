@@ -1,45 +1,39 @@
 -- `for`: what is read fits its places, and faults can be mended.
-use Rattle.std.proofs.Common.{◌≡◌, ℕ, zero, suc, ◌+◌, ◌≤◌, List, [], ◌∷◌, ◌++◌, refl, sym, ap, ◌∙◌, subst, arith, append_assoc, append-nil, Bool, true, false, ◌&&◌, ◌||◌, not, Option, Some, None}
-use Rattle.script_grammar.specs.declared.token.Kind.{Kind}
+use Rattle.std.proofs.Common.{◌≡◌, ℕ, suc, List, [], ◌∷◌, ◌++◌, refl, ap, append_assoc, true, false, ◌&&◌, Option, Some, None}
 use Rattle.script_grammar.specs.declared.token.Kind.TheVariants as kind
 use Rattle.script_grammar.specs.declared.token.mark.TheConstants as mark
 use Rattle.script_grammar.specs.declared.token.word.TheConstants as word
-use Rattle.script_grammar.specs.declared.token.FuncForm.TheVariants as form
 use Rattle.script_grammar.specs.declared.token.Decl.{Decl}
 use Rattle.script_grammar.specs.declared.token.Decl.TheVariants as decl
 use Rattle.script_grammar.specs.Lexeme.{Lexeme}
-use Rattle.script_grammar.specs.Kinds.{is_mark, is_word, is_name, is_end, decl_word, is_var}
+use Rattle.script_grammar.specs.Kinds.{is_mark, is_word, decl_word}
 use Rattle.script_grammar.specs.Tree.{Named, Expr, Stmt, Stmts, MaybeStmt, Function}
 use Rattle.script_grammar.specs.Tree as tree
-use Rattle.script_grammar.specs.TreeLists.{Bind, maybe_expr_of, maybe_stmt_of, binds_of, stmts_of}
-use Rattle.script_grammar.specs.Pieces.{Bodies, Piece, At, slot, Ending, BareBinding, Keyword, DoWhile, begins_with, mark_piece, word_piece, name_piece, semi_piece, glue, placed}
-use Rattle.script_grammar.specs.Endings.{ending, return_ending, binds_ending}
-use Rattle.script_grammar.specs.Print.{print, print_stmt, print_stmts, print_else, print_label, print_maybe, print_catch_param, print_declared}
-use Rattle.script_grammar.specs.Proper.{rank, Proper, ProperOption, ProperStmt, ProperStmts, ProperElse, ElseIsNearest, ProperBinds, HasBinds, is_statement, takes_else, begins_brace, begins_function}
-use Rattle.pure_parser.specs.Parser.{Recorded, Reply, Read, Bad, Deep, Parser, head_of, after, ret, bad, bind, peek, step, when, Turn, Again, Stop, loop, Many, stopped, begun, led}
-use Rattle.pure_parser.specs.Exprs.{Env, AnAssign, expect, expr_of, name_of, named}
+use Rattle.script_grammar.specs.TreeLists.{maybe_expr_of, binds_of}
+use Rattle.script_grammar.specs.Pieces.{Bodies, mark_piece, word_piece}
+use Rattle.script_grammar.specs.Print.{print_maybe}
+use Rattle.script_grammar.specs.Proper.{rank, ProperOption}
+use Rattle.pure_parser.specs.Parser.{bind}
+use Rattle.pure_parser.specs.Exprs.{expr_of}
 use Rattle.pure_parser.specs.Stmts as parser
 use Rattle.pure_parser.specs.Stmts.{Place, AnItem, AStmt, StmtCalls, Block, is_item, is_inside}
-use Rattle.pure_parser.proofs.Friendly.{Spot, AtFront, Inside, Friendly, Starter, first_of, friendly_omits}
-use Rattle.pure_parser.proofs.Fitting.{FitsAll, all_none, all_append, all_mark, all_word, all_name, all_placed, all_same, fits_glued_name, lexeme_of_kind, zero_lexeme, zero_starts}
-use Rattle.pure_parser.proofs.Tests.{false_true, true_false, and_left, and_right, not_true, neither_left, neither_right, mark_known, word_known, name_known}
+use Rattle.pure_parser.proofs.Friendly.{Inside}
+use Rattle.pure_parser.proofs.Fitting.{FitsAll, all_none, all_append, all_word}
+use Rattle.pure_parser.proofs.Tests.{and_left, and_right, word_known}
 use Rattle.pure_parser.proofs.Sound.{Sound, SoundAt, Mended, Behind, Begun, BeginsAt, here, started, sound_bind, sound_ret, sound_bad, sound_at, sound_peek, sound_done, sound_some, sound_map, sound_inside, sound_loop, sound_made, sound_first, at_map, outcome_noted}
 use Rattle.pure_parser.proofs.Sound as plain
-use Rattle.pure_parser.proofs.SoundNext.{SoundNext, NextAt, Past, Joined, Plain, past_bind, past_at, next_bind, next_made, next_ret, next_bad, next_peek, next_look, next_at, at_ret, at_step, at_when, next_when, next_inside, next_map, next_loop, plain_of, next_of}
-use Rattle.pure_parser.proofs.SoundNext as next
-use Rattle.pure_parser.proofs.SoundParts.{IsExpr, SoundEnv, SoundCalls, IsMark, IsName, expect_sound, name_sound, mark_some}
+use Rattle.pure_parser.proofs.SoundNext.{SoundNext, Past, past_bind, next_made, next_peek, next_at, at_step, at_when, next_inside}
+use Rattle.pure_parser.proofs.SoundParts.{IsExpr, IsMark, IsName, expect_sound, name_sound}
 use Rattle.pure_parser.proofs.SoundLists.{expr_sound}
-use Rattle.pure_parser.proofs.SoundFunctions.{IsFunctionOf, function_sound}
-use Rattle.pure_parser.proofs.StmtFitting.{FitsNext, none_next, all_next, then_all, then_next, next_all, close_all, same_next, same_pieces, glue_all}
-use Rattle.pure_parser.proofs.StmtNext.{front_bind, past_assoc}
-use Rattle.pure_parser.proofs.Begins.{begins_same, begins_not}
-use Rattle.pure_parser.proofs.SoundStmtLists.{IsStmt, SoundStmts, AreStmts, IsBlock, IsWord, expect_word_sound, IsSemi, semi_sound, stmts_sound, braced_sound, AreBinds, binds_from_sound}
+use Rattle.pure_parser.proofs.StmtFitting.{then_all, same_pieces}
+use Rattle.pure_parser.proofs.StmtNext.{past_assoc}
+use Rattle.pure_parser.proofs.SoundStmtLists.{IsStmt, AreBinds, binds_from_sound}
 use Rattle.std.proofs.Common.{nat_le}
 use Rattle.std.proofs.lemmas.Bool.{leb-true}
 use Rattle.script_grammar.specs.Tree.{Init, Each}
 use Rattle.script_grammar.specs.Print.{print_init, print_each}
 use Rattle.script_grammar.specs.Proper.{ProperInit, ProperEach, left_rank}
-use Rattle.pure_parser.proofs.SoundStmts.{SoundBlock, around_then}
+use Rattle.pure_parser.proofs.SoundStmts.{SoundBlock}
 
 module _ (m : Bodies) (d : ℕ) (b : Block) (s : SoundBlock m d b) (p : Place) where
   -- an Expression, or none
@@ -51,8 +45,8 @@ module _ (m : Bodies) (d : ℕ) (b : Block) (s : SoundBlock m d b) (p : Place) w
   unfolding parser.option_of
   option_sound i = sound_peek
       (λ t. plain.at_when (is_mark i t.kind)
-          (λ _. sound_at t (sound_ret {a = None} (record { proper = tt; fits = all_none })))
-          (λ _. sound_at t (sound_made Some (sound_inside (expr_sound m d b.exprs s.env true)) (λ u e q. record { proper = q.proper; fits = q.fits }))))
+      (λ _. sound_at t (sound_ret {a = None} (record { proper = tt; fits = all_none })))
+      (λ _. sound_at t (sound_made Some (sound_inside (expr_sound m d b.exprs s.env true)) (λ u e q. record { proper = q.proper; fits = q.fits }))))
       (sound_made Some (sound_inside (expr_sound m d b.exprs s.env true)) (λ u e q. record { proper = q.proper; fits = q.fits }))
 
   abbrev Target : List Lexeme → Stmt → Lexeme → Type 0
@@ -70,7 +64,8 @@ module _ (m : Bodies) (d : ℕ) (b : Block) (s : SoundBlock m d b) (p : Place) w
       next_made (λ z. tree.For i (maybe_expr_of x) (maybe_expr_of y) z) (next_inside (s.stmts.at (AStmt (is_inside p)))) (λ w z n r. record {
         proper = (h, q2.proper, q4.proper, r.stands refl, r.proper);
         stands = λ _. refl;
-        fits = then_all k (then_all q1 (then_all q2.fits (then_all q3 (then_all q4.fits (then_all q5 r.fits))))) }))))))
+        fits = then_all k (then_all q1 (then_all q2.fits (then_all q3 (then_all q4.fits (then_all q5 r.fits)))));
+      }))))))
 
   -- a for-in behind its `in`
   for_in_sound : (u : List Lexeme) (i : Each) → ProperEach m i → FitsAll (word_piece word.FOR d ∷ mark_piece mark.OPEN_PAREN d ∷ (print_each m d i ++ word_piece word.IN d ∷ [])) u → SoundNext Inside (Past u Target) (parser.for_in_from b (is_inside p) i)
@@ -81,7 +76,8 @@ module _ (m : Bodies) (d : ℕ) (b : Block) (s : SoundBlock m d b) (p : Place) w
       next_made (λ z. tree.ForIn i e z) (next_inside (s.stmts.at (AStmt (is_inside p)))) (λ w z n r. record {
         proper = (h, q1.proper, r.stands refl, r.proper);
         stands = λ _. refl;
-        fits = same_pieces (ap (λ x. word_piece word.FOR d ∷ mark_piece mark.OPEN_PAREN d ∷ x) (append_assoc (print_each m d i) (word_piece word.IN d ∷ []) _)) (then_all k (then_all q1.fits (then_all q2 r.fits))) })))
+        fits = same_pieces (ap (λ x. word_piece word.FOR d ∷ mark_piece mark.OPEN_PAREN d ∷ x) (append_assoc (print_each m d i) (word_piece word.IN d ∷ []) _)) (then_all k (then_all q1.fits (then_all q2 r.fits)));
+      })))
 
   abbrev HeadOf : List Lexeme → Type 0
   HeadOf u = FitsAll (word_piece word.FOR d ∷ mark_piece mark.OPEN_PAREN d ∷ []) u
@@ -91,8 +87,8 @@ module _ (m : Bodies) (d : ℕ) (b : Block) (s : SoundBlock m d b) (p : Place) w
   unfolding parser.for_named
   for_named_sound u x c n h k = next_peek
       (λ t. at_when (is_word word.IN t.kind)
-          (λ e. at_step t (past_assoc (Past u Target) x (t ∷ []) (past_assoc Target u (x ++ t ∷ []) (for_in_sound (u ++ (x ++ t ∷ [])) (tree.BindEach c n) tt (all_append h (all_append k (all_word word.IN d t (word_known word.IN t.kind e))))))))
-          (λ _. next_at t named_binds))
+      (λ e. at_step t (past_assoc (Past u Target) x (t ∷ []) (past_assoc Target u (x ++ t ∷ []) (for_in_sound (u ++ (x ++ t ∷ [])) (tree.BindEach c n) tt (all_append h (all_append k (all_word word.IN d t (word_known word.IN t.kind e))))))))
+      (λ _. next_at t named_binds))
       named_binds
     where
       named_binds : SoundNext Inside (Past x (Past u Target)) (bind (parser.binds_from b.exprs false n) (λ y. parser.for_from b (is_inside p) (tree.BindsInit c (binds_of y.items))))
@@ -107,8 +103,8 @@ module _ (m : Bodies) (d : ℕ) (b : Block) (s : SoundBlock m d b) (p : Place) w
   unfolding parser.for_valued
   for_valued_sound u x e h q = next_peek
       (λ t. at_when (is_word word.IN t.kind && nat_le (rank e) left_rank)
-          (λ c. at_step t (past_assoc (Past u Target) x (t ∷ []) (past_assoc Target u (x ++ t ∷ []) (for_in_sound (u ++ (x ++ t ∷ [])) (tree.TargetEach e) (leb-true (rank e) left_rank (and_right (is_word word.IN t.kind) (nat_le (rank e) left_rank) c), q.proper) (all_append h (all_append q.fits (all_word word.IN d t (word_known word.IN t.kind (and_left (is_word word.IN t.kind) (nat_le (rank e) left_rank) c)))))))))
-          (λ _. next_at t valued_init))
+      (λ c. at_step t (past_assoc (Past u Target) x (t ∷ []) (past_assoc Target u (x ++ t ∷ []) (for_in_sound (u ++ (x ++ t ∷ [])) (tree.TargetEach e) (leb-true (rank e) left_rank (and_right (is_word word.IN t.kind) (nat_le (rank e) left_rank) c), q.proper) (all_append h (all_append q.fits (all_word word.IN d t (word_known word.IN t.kind (and_left (is_word word.IN t.kind) (nat_le (rank e) left_rank) c)))))))))
+      (λ _. next_at t valued_init))
       valued_init
     where
       valued_init : SoundNext Inside (Past x (Past u Target)) (parser.for_from b (is_inside p) (tree.ValueInit e))
@@ -118,7 +114,7 @@ module _ (m : Bodies) (d : ℕ) (b : Block) (s : SoundBlock m d b) (p : Place) w
   unfolding parser.for_head
   for_head_sound u h = next_peek
       (λ t. at_when (is_mark mark.SEMICOLON t.kind)
-          (λ _. next_at t (for_from_sound u tree.NoInit tt h))
+      (λ _. next_at t (for_from_sound u tree.NoInit tt h))
       (λ _. at_when (is_word word.VAR t.kind) (λ e. at_step t (decl_at t decl.Var (word_known word.VAR t.kind e)))
       (λ _. at_when (is_word word.LET t.kind) (λ e. at_step t (decl_at t decl.Let (word_known word.LET t.kind e)))
       (λ _. at_when (is_word word.CONST t.kind) (λ e. at_step t (decl_at t decl.Const (word_known word.CONST t.kind e)))

@@ -1,5 +1,5 @@
 -- Properties and object literals: what is read fits its places, and faults can be mended.
-use Rattle.std.proofs.Common.{◌≡◌, ℕ, zero, suc, ◌+◌, ◌≤◌, List, [], ◌∷◌, ◌++◌, refl, sym, ap, ◌∙◌, subst, arith, append_assoc, append-nil, Bool, true, false, ◌&&◌, ◌||◌, Option, Some, None}
+use Rattle.std.proofs.Common.{◌≡◌, ℕ, suc, List, [], ◌∷◌, ◌++◌, refl, sym, arith, append_assoc, Bool, true, false, None}
 use Rattle.script_grammar.specs.declared.token.Kind.{Kind}
 use Rattle.script_grammar.specs.declared.token.Kind.TheVariants as kind
 use Rattle.script_grammar.specs.declared.token.FuncForm.{FuncForm}
@@ -10,17 +10,17 @@ use Rattle.script_grammar.specs.Kinds.{is_mark, is_name, is_str, is_number, is_a
 use Rattle.script_grammar.specs.Tree.{Named, Expr, Key, Prop, Function, function}
 use Rattle.script_grammar.specs.Tree as tree
 use Rattle.script_grammar.specs.TreeLists.{props_of}
-use Rattle.script_grammar.specs.Pieces.{Bodies, Piece, At, mark_piece, comma_piece, name_piece, role_piece}
-use Rattle.script_grammar.specs.Print.{print, print_key, print_prop, print_props, print_more_props, print_function}
-use Rattle.script_grammar.specs.Proper.{rank, Proper, ProperKey, ProperProp, ProperProps, HasProps, IsNamelessOf}
-use Rattle.pure_parser.specs.Parser.{Parser, head_of, ret, bad, bind, peek, step, when, Turn, Again, Stop, loop, Many, stopped, begun, led}
+use Rattle.script_grammar.specs.Pieces.{Bodies, mark_piece, comma_piece}
+use Rattle.script_grammar.specs.Print.{print_key, print_prop, print_props, print_more_props}
+use Rattle.script_grammar.specs.Proper.{ProperKey, ProperProp, ProperProps, HasProps, IsNamelessOf}
+use Rattle.pure_parser.specs.Parser.{Parser, ret, bind, Turn, Again, Stop, loop, Many, stopped, begun, led}
 use Rattle.pure_parser.specs.Exprs
 use Rattle.pure_parser.specs.Exprs.{Env, AnAssign, expect, named, begins_value, ends_key}
-use Rattle.pure_parser.proofs.Friendly.{Spot, AtFront, Inside}
+use Rattle.pure_parser.proofs.Friendly.{Inside}
 use Rattle.pure_parser.proofs.Fitting.{FitsAll, all_none, all_append, all_mark, all_placed, all_name, all_any_word, all_text, all_number, all_role, all_same, lexeme_of_kind, zero_lexeme}
 use Rattle.pure_parser.proofs.Tests.{false_true, mark_known, name_known, str_known, number_known}
-use Rattle.pure_parser.proofs.Sound.{Leads, Sound, Mended, Behind, sound_bind, sound_ret, sound_bad, sound_at, sound_peek, at_step, at_when, sound_done, some_done, sound_some, sound_map, sound_inside, sound_loop, sound_made, sound_when}
-use Rattle.pure_parser.proofs.SoundParts.{IsExpr, SoundEnv, SoundCalls, zero_is, IsMark, expect_sound}
+use Rattle.pure_parser.proofs.Sound.{Sound, Mended, Behind, sound_bind, sound_ret, sound_bad, sound_at, sound_peek, at_step, at_when, sound_inside, sound_loop, sound_made, sound_when}
+use Rattle.pure_parser.proofs.SoundParts.{IsExpr, SoundEnv, zero_is, expect_sound}
 use Rattle.pure_parser.proofs.SoundFunctions.{IsFunctionOf, function_sound}
 
 module _ (m : Bodies) (d : ℕ) where
@@ -89,8 +89,8 @@ module _ (m : Bodies) (d : ℕ) where
     keyed_sound w k h =
         let method : Sound Inside (Behind w IsProp) (bind (Exprs.function_of v form.Method None) (λ f. ret (tree.Method k f))) = sound_made (λ f. tree.Method k f) (function_sound m d v s form.Method None tt) (λ u f r. record { proper = (h.proper, nameless form.Method f v s u r, r.proper); fits = all_append h.fits r.fits }) in
         sound_peek (λ t.
-            at_when (is_mark mark.COLON t.kind) (λ e. at_step t (value_sound w k h t (mark_known mark.COLON t.kind e))) (λ _.
-            at_when (is_mark mark.OPEN_PAREN t.kind) (λ _. sound_at t method) (λ _. sound_at t (sound_bad (pair_some w k h))))) (sound_bad (pair_some w k h))
+        at_when (is_mark mark.COLON t.kind) (λ e. at_step t (value_sound w k h t (mark_known mark.COLON t.kind e))) (λ _.
+        at_when (is_mark mark.OPEN_PAREN t.kind) (λ _. sound_at t method) (λ _. sound_at t (sound_bad (pair_some w k h))))) (sound_bad (pair_some w k h))
 
     short_sound : (n : Lexeme) → n.kind ≡ kind.Name → Sound Inside (Behind (n ∷ []) IsProp) (Exprs.short_of v (named n))
     unfolding Exprs.short_of
@@ -155,7 +155,8 @@ module _ (m : Bodies) (d : ℕ) where
     pub object_sound : (t : Lexeme) → t.kind ≡ kind.Mark mark.OPEN_BRACE → Sound Inside (Behind (t ∷ []) (IsExpr m false d 0)) (Exprs.object_of v t.start)
     unfolding Exprs.object_of
     object_sound t e = sound_bind more_props_sound (λ u n r. sound_made (λ _. tree.Object t.start (props_of n.items) n.last) (expect_sound mark.CLOSE_BRACE d) (λ x _ c. record {
-        rank_le = omega arith;
-        proper = (r.has, r.proper);
-        in_if = refl;
-        fits = all_append (all_placed (kind.Mark mark.OPEN_BRACE) d t e) (all_same (append_assoc (print_props m d (props_of n.items)) (comma_piece n.last d) (mark_piece mark.CLOSE_BRACE d ∷ [])) (all_append r.fits c)) }))
+      rank_le = omega arith;
+      proper = (r.has, r.proper);
+      in_if = refl;
+      fits = all_append (all_placed (kind.Mark mark.OPEN_BRACE) d t e) (all_same (append_assoc (print_props m d (props_of n.items)) (comma_piece n.last d) (mark_piece mark.CLOSE_BRACE d ∷ [])) (all_append r.fits c));
+    }))

@@ -1,23 +1,22 @@
 -- What the calls that count for the depth read, and the parts that all others are made of.
-use Rattle.std.proofs.Common.{◌≡◌, ℕ, zero, suc, ◌+◌, ◌≤◌, List, [], ◌∷◌, ◌++◌, refl, sym, ap, ◌∙◌, subst, arith, append_assoc, append-nil, Bool, true, false, ◌&&◌, ◌||◌, Option, Some, None, if◌then◌else◌}
-use Rattle.script_grammar.specs.declared.token.Kind.{Kind}
+use Rattle.std.proofs.Common.{◌≡◌, ℕ, suc, ◌≤◌, List, [], ◌∷◌, ◌++◌, refl, subst, arith, Bool, true, false, ◌&&◌, ◌||◌, Option, Some, None}
 use Rattle.script_grammar.specs.declared.token.Kind.TheVariants as kind
 use Rattle.script_grammar.specs.declared.token.FuncForm.{FuncForm}
 use Rattle.script_grammar.specs.declared.token.mark.TheConstants as mark
 use Rattle.script_grammar.specs.Lexeme.{Lexeme}
-use Rattle.script_grammar.specs.Kinds.{is_mark, is_word, is_name}
+use Rattle.script_grammar.specs.Kinds.{is_mark, is_name}
 use Rattle.script_grammar.specs.Tree.{Named, Expr, Body, Stmts}
 use Rattle.script_grammar.specs.Tree as tree
 use Rattle.script_grammar.specs.TreeLists.{Param, maybe_expr_of}
-use Rattle.script_grammar.specs.Pieces.{Bodies, Piece, At, Fits, mark_piece, word_piece, name_piece}
+use Rattle.script_grammar.specs.Pieces.{Bodies, Piece, mark_piece, name_piece}
 use Rattle.script_grammar.specs.Print.{print, print_body, print_initializer, ellipsis}
 use Rattle.script_grammar.specs.Proper.{rank, Proper, ProperMaybe, ProperBody, free_of_in, InIf}
-use Rattle.pure_parser.specs.Parser.{Parser, head_of, ret, bad, deep, bind, peek, step, when}
-use Rattle.pure_parser.specs.Exprs.{Call, AnAssign, APrefix, ANew, AParam, ARest, Calls, BodyRead, BodyParser, Env, expect, name_of, named, is_param_form}
-use Rattle.pure_parser.proofs.Friendly.{Spot, AtFront, Inside, Starter}
-use Rattle.pure_parser.proofs.Fitting.{FitsAll, all_none, all_append, all_mark, all_name, all_kind, fits_number, lexeme_of_kind, zero_lexeme, zero_starts}
-use Rattle.pure_parser.proofs.Tests.{false_true, mark_known, name_known, and_both, or_left, or_right}
-use Rattle.pure_parser.proofs.Sound.{Leads, LeadsAt, Outcome, Sound, Mended, Behind, sound_bind, leads_bind, sound_ret, sound_bad, sound_at, sound_peek, at_step, at_when, sound_done, some_done, sound_some, sound_map, leads_map, sound_inside}
+use Rattle.pure_parser.specs.Parser.{Parser, bind}
+use Rattle.pure_parser.specs.Exprs.{AnAssign, APrefix, ANew, AParam, ARest, Calls, BodyRead, BodyParser, Env, expect, name_of, named, is_param_form}
+use Rattle.pure_parser.proofs.Friendly.{Spot, AtFront, Inside}
+use Rattle.pure_parser.proofs.Fitting.{FitsAll, all_mark, all_name, fits_number, lexeme_of_kind, zero_lexeme, zero_starts}
+use Rattle.pure_parser.proofs.Tests.{mark_known, name_known, and_both, or_right}
+use Rattle.pure_parser.proofs.Sound.{Leads, Outcome, Sound, Mended, Behind, leads_bind, sound_ret, sound_bad, sound_at, sound_peek, at_step, at_when, some_done, sound_some, leads_map}
 
 -- A proper expression that binds no looser than r, without `in` where it is left out, whose places the lexemes fit.
 pub record IsExpr (m : Bodies) (w : Bool) (d r : ℕ) (u : List Lexeme) (e : Expr) : Type 0 where

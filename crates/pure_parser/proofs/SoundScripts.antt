@@ -1,41 +1,36 @@
 -- Statements whole, and scripts: what is read fits its places, and faults can be mended.
-use Rattle.std.proofs.Common.{◌≡◌, ℕ, zero, suc, ◌+◌, ◌≤◌, List, [], ◌∷◌, ◌++◌, refl, sym, ap, ◌∙◌, subst, arith, append_assoc, append-nil, Bool, true, false, ◌&&◌, ◌||◌, not, Option, Some, None}
-use Rattle.script_grammar.specs.declared.token.Kind.{Kind}
+use Rattle.std.proofs.Common.{◌≡◌, ℕ, suc, List, [], ◌∷◌, ◌++◌, refl, sym, ap, ◌∙◌, subst, append_assoc, Bool, true, false, ◌&&◌, ◌||◌, Some}
 use Rattle.script_grammar.specs.declared.token.Kind.TheVariants as kind
 use Rattle.script_grammar.specs.declared.token.mark.TheConstants as mark
 use Rattle.script_grammar.specs.declared.token.word.TheConstants as word
 use Rattle.script_grammar.specs.declared.token.FuncForm.TheVariants as form
 use Rattle.script_grammar.specs.declared.token.Decl.{Decl}
 use Rattle.script_grammar.specs.Lexeme.{Lexeme}
-use Rattle.script_grammar.specs.Kinds.{is_mark, is_word, is_name, is_end, decl_word, is_var}
+use Rattle.script_grammar.specs.Kinds.{is_mark, is_word, is_name, decl_word, is_var}
 use Rattle.script_grammar.specs.Tree.{Named, Expr, Stmt, Stmts, MaybeStmt, Function}
 use Rattle.script_grammar.specs.Tree as tree
-use Rattle.script_grammar.specs.TreeLists.{Bind, maybe_expr_of, maybe_stmt_of, binds_of, stmts_of}
-use Rattle.script_grammar.specs.Pieces.{Bodies, whole, Piece, At, slot, Ending, BareBinding, Keyword, DoWhile, begins_with, mark_piece, word_piece, name_piece, semi_piece, glue, placed}
-use Rattle.script_grammar.specs.Endings.{ending, return_ending, binds_ending}
-use Rattle.script_grammar.specs.Print.{print, print_stmt, print_stmts, print_else, print_label, print_maybe, print_catch_param, print_declared}
-use Rattle.script_grammar.specs.Proper.{rank, Proper, ProperOption, ProperStmt, ProperStmts, ProperElse, ElseIsNearest, ProperBinds, HasBinds, is_statement, takes_else, begins_brace, begins_function}
-use Rattle.pure_parser.specs.Parser.{Recorded, Reply, Read, Bad, Deep, Parser, head_of, after, ret, bad, bind, peek, step, when, Turn, Again, Stop, loop, Many, stopped, begun, led}
-use Rattle.pure_parser.specs.Exprs.{Env, AnAssign, expect, expr_of, name_of, named}
+use Rattle.script_grammar.specs.TreeLists.{binds_of}
+use Rattle.script_grammar.specs.Pieces.{Bodies, whole, BareBinding}
+use Rattle.script_grammar.specs.Endings.{ending, binds_ending}
+use Rattle.pure_parser.specs.Parser.{Reply, Read, Bad, Deep, Parser, after, ret, bind}
+use Rattle.pure_parser.specs.Exprs.{expr_of}
 use Rattle.pure_parser.specs.Stmts as parser
 use Rattle.pure_parser.specs.Stmts.{Place, AnItem, AStmt, StmtCalls, Block, is_item, is_inside}
-use Rattle.pure_parser.proofs.Friendly.{Spot, AtFront, Inside, Friendly, Starter, first_of, friendly_omits}
-use Rattle.pure_parser.proofs.Fitting.{FitsAll, all_none, all_append, all_mark, all_word, all_name, all_placed, all_same, fits_glued_name, lexeme_of_kind, zero_lexeme, zero_starts}
-use Rattle.pure_parser.proofs.Tests.{false_true, true_false, and_left, and_right, not_true, neither_left, neither_right, mark_known, word_known, name_known}
+use Rattle.pure_parser.proofs.Friendly.{AtFront, Inside}
+use Rattle.pure_parser.proofs.Fitting.{all_append, all_mark, all_word, lexeme_of_kind, zero_lexeme}
+use Rattle.pure_parser.proofs.Tests.{true_false, and_left, and_right, neither_left, neither_right, mark_known, word_known}
 use Rattle.pure_parser.proofs.Sound.{Sound, SoundAt, Mended, Behind, Begun, BeginsAt, here, started, sound_bind, sound_ret, sound_bad, sound_at, sound_peek, sound_done, sound_some, sound_map, sound_inside, sound_loop, sound_made, sound_first, at_map, outcome_noted}
 use Rattle.pure_parser.proofs.Sound as plain
 use Rattle.pure_parser.proofs.SoundNext.{SoundNext, NextAt, Past, Joined, Plain, past_bind, past_at, next_bind, next_made, next_ret, next_bad, next_peek, next_look, next_at, at_ret, at_step, at_when, next_when, next_inside, next_map, next_loop, plain_of, next_of}
 use Rattle.pure_parser.proofs.SoundNext as next
-use Rattle.pure_parser.proofs.SoundParts.{IsExpr, SoundEnv, SoundCalls, IsMark, IsName, expect_sound, name_sound, mark_some}
+use Rattle.pure_parser.proofs.SoundParts.{IsExpr, IsMark, IsName, expect_sound, name_sound}
 use Rattle.pure_parser.proofs.SoundLists.{expr_sound}
 use Rattle.pure_parser.proofs.SoundFunctions.{IsFunctionOf, function_sound}
-use Rattle.pure_parser.proofs.StmtFitting.{FitsNext, none_next, all_next, then_all, then_next, next_all, close_all, same_next, same_pieces, glue_all}
-use Rattle.pure_parser.proofs.StmtNext.{front_bind, past_assoc}
-use Rattle.pure_parser.proofs.Begins.{begins_same, begins_not}
-use Rattle.pure_parser.proofs.SoundStmtLists.{IsStmt, SoundStmts, AreStmts, IsBlock, IsWord, expect_word_sound, IsSemi, semi_sound, stmts_sound, braced_sound, AreBinds, binds_from_sound}
+use Rattle.pure_parser.proofs.StmtFitting.{all_next, then_all, same_next}
+use Rattle.pure_parser.proofs.Begins.{begins_same}
+use Rattle.pure_parser.proofs.SoundStmtLists.{IsStmt, IsSemi, semi_sound, AreBinds, binds_from_sound}
 use Rattle.script_grammar.specs.declared.token.Decl.TheVariants as decl
 use Rattle.script_grammar.specs.Tree.{function}
-use Rattle.script_grammar.specs.Proper.{ProperFunction, IsDeclaration, IsDeclaredForm}
 use Rattle.pure_parser.proofs.SoundStmts.{SoundBlock, zero_stmt, begun_not, if_sound, while_sound, do_sound, block_sound, debugger_sound, continue_sound, break_sound, throw_sound, return_sound}
 use Rattle.pure_parser.proofs.SoundLoops.{for_sound}
 use Rattle.pure_parser.proofs.SoundSwitch.{switch_sound, try_sound}
@@ -55,13 +50,14 @@ module _ (m : Bodies) (d : ℕ) (b : Block) (s : SoundBlock m d b) (p : Place) w
       next_made (λ z. tree.Binding c (binds_of y.items) z) (semi_sound (binds_ending BareBinding (binds_of y.items)) d) (λ w z n2 x. record {
         proper = (r.has, r.proper);
         stands = h;
-        fits = same_next (ap (λ o. t ∷ o) (append_assoc u v w)) (then_all (all_word (decl_word c) d t k) (then_all r.fits x)) })))
+        fits = same_next (ap (λ o. t ∷ o) (append_assoc u v w)) (then_all (all_word (decl_word c) d t k) (then_all r.fits x));
+      })))
 
   is_declared : (t : Lexeme) (u w : List Lexeme) (n : Named) (f : Function) (x : Lexeme) → t.kind ≡ kind.Word word.FUNCTION → is_item p ≡ true → IsName d u n → IsFunctionOf m d b.exprs s.env form.Function (Some n) w f → Target (t ∷ (u ++ w)) (tree.Declared f) x
   is_declared t u w n (function g start end name ps comma bare body) x k h q r =
       subst (λ y. IsFunctionOf m d b.exprs s.env form.Function (Some n) w (function y start end name ps comma bare body) → Target (t ∷ (u ++ w)) (tree.Declared (function y start end name ps comma bare body)) x) (sym r.of.0)
-          (λ r1. subst (λ y. IsFunctionOf m d b.exprs s.env form.Function (Some n) w (function form.Function start end y ps comma bare body) → Target (t ∷ (u ++ w)) (tree.Declared (function form.Function start end y ps comma bare body)) x) (sym r1.of.1)
-              (λ r2. record { proper = (tt, r2.proper); stands = λ e. absurd (true_false (sym h ∙ e)); fits = all_next (all_append (all_word word.FUNCTION d t k) (all_append q r2.fits)) x }) r1) r
+      (λ r1. subst (λ y. IsFunctionOf m d b.exprs s.env form.Function (Some n) w (function form.Function start end y ps comma bare body) → Target (t ∷ (u ++ w)) (tree.Declared (function form.Function start end y ps comma bare body)) x) (sym r1.of.1)
+      (λ r2. record { proper = (tt, r2.proper); stands = λ e. absurd (true_false (sym h ∙ e)); fits = all_next (all_append (all_word word.FUNCTION d t k) (all_append q r2.fits)) x }) r1) r
 
   pub declared_sound : (t : Lexeme) → t.kind ≡ kind.Word word.FUNCTION → is_item p ≡ true → SoundNext Inside (Past (t ∷ []) Target) (parser.declared_of b.exprs)
   unfolding parser.declared_of
@@ -74,11 +70,14 @@ module _ (m : Bodies) (d : ℕ) (b : Block) (s : SoundBlock m d b) (p : Place) w
 
   pub valued_is : (t : Lexeme) (u : List Lexeme) (e : Expr) → is_word word.FUNCTION t.kind ≡ false → is_mark mark.OPEN_BRACE t.kind ≡ false → Valued t u e → (v : List Lexeme) (y : Bool) (n : Lexeme) → IsSemi (ending e) d v y n → Target (u ++ v) (tree.Value e y) n
   valued_is t u e h k q v y n r = record {
-    proper = (begins_same (is_mark mark.OPEN_BRACE) whole m 1 (suc d) e ∙ begun_not m (suc d) (is_mark mark.OPEN_BRACE) t u e k refl q.0.fits q.1,
-        begins_same (is_word word.FUNCTION) whole m 1 (suc d) e ∙ begun_not m (suc d) (is_word word.FUNCTION) t u e h refl q.0.fits q.1,
-        q.0.proper);
+    proper = (
+      begins_same (is_mark mark.OPEN_BRACE) whole m 1 (suc d) e ∙ begun_not m (suc d) (is_mark mark.OPEN_BRACE) t u e k refl q.0.fits q.1,
+      begins_same (is_word word.FUNCTION) whole m 1 (suc d) e ∙ begun_not m (suc d) (is_word word.FUNCTION) t u e h refl q.0.fits q.1,
+      q.0.proper,
+    );
     stands = λ _. refl;
-    fits = then_all q.0.fits r }
+    fits = then_all q.0.fits r;
+  }
 
   value_at : (t : Lexeme) → is_word word.FUNCTION t.kind ≡ false → is_mark mark.OPEN_BRACE t.kind ≡ false → NextAt AtFront Target t (parser.value_stmt b.exprs)
   unfolding parser.value_stmt
@@ -103,7 +102,8 @@ module _ (m : Bodies) (d : ℕ) (b : Block) (s : SoundBlock m d b) (p : Place) w
     end = (x ∷ v) ++ semicolon ∷ [];
     of = tree.Value e true;
     starts = λ n f. k.friendly;
-    is = λ n f. valued_is zero_lexeme (x ∷ v) e refl refl (q, started x v refl k) (semicolon ∷ []) true n (semi_written e n) }
+    is = λ n f. valued_is zero_lexeme (x ∷ v) e refl refl (q, started x v refl k) (semicolon ∷ []) true n (semi_written e n);
+  }
   end_bad (y ∷ w) us v e h k q = absurd (cc)
 
   end_deep : (w us : List Lexeme) (x : Lexeme) (bs : List Lexeme) → [] ≡ w ++ us → us ≡ x ∷ bs → ⊥
@@ -124,9 +124,10 @@ module _ (m : Bodies) (d : ℕ) (b : Block) (s : SoundBlock m d b) (p : Place) w
   label_at : (t : Lexeme) → is_name t.kind ≡ true → NextAt AtFront Target t (parser.labelled_of b (is_inside p))
   unfolding parser.labelled_of
   label_at t h = past_at {E = IsName (suc d)} (s.label t h) (λ u n q. past_bind {E = IsMark mark.COLON d} (expect_sound mark.COLON d) (λ v _ r. next_made (tree.Label n) (next_inside (s.stmts.at (AStmt (is_inside p)))) (λ w x o y. record {
-      proper = (y.stands refl, y.proper);
-      stands = λ _. refl;
-      fits = then_all q (then_all r y.fits) })))
+    proper = (y.stands refl, y.proper);
+    stands = λ _. refl;
+    fits = then_all q (then_all r y.fits);
+  })))
 
   -- all statements
 
@@ -134,10 +135,10 @@ module _ (m : Bodies) (d : ℕ) (b : Block) (s : SoundBlock m d b) (p : Place) w
   unfolding parser.plain_stmt
   plain_sound = next_look_two
       (λ t u. at_when (parser.is_label t u)
-          (λ h. label_at t (and_left (is_name t.kind) (is_mark mark.COLON u.kind) h))
-          (λ _. at_when (is_word word.FUNCTION t.kind || is_mark mark.OPEN_BRACE t.kind)
-              (λ _. next_at t (next_bad (zero_stmt m d p)))
-              (λ h. value_at t (neither_left (is_word word.FUNCTION t.kind) (is_mark mark.OPEN_BRACE t.kind) h) (neither_right (is_word word.FUNCTION t.kind) (is_mark mark.OPEN_BRACE t.kind) h))))
+      (λ h. label_at t (and_left (is_name t.kind) (is_mark mark.COLON u.kind) h))
+      (λ _. at_when (is_word word.FUNCTION t.kind || is_mark mark.OPEN_BRACE t.kind)
+      (λ _. next_at t (next_bad (zero_stmt m d p)))
+      (λ h. value_at t (neither_left (is_word word.FUNCTION t.kind) (is_mark mark.OPEN_BRACE t.kind) h) (neither_right (is_word word.FUNCTION t.kind) (is_mark mark.OPEN_BRACE t.kind) h))))
       value_end
 
   jump_sound : SoundNext AtFront Target (parser.jump_stmt b p)

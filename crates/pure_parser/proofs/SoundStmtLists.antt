@@ -1,33 +1,27 @@
 -- Semicolons, lists of statements and bindings: what is read fits its places, and faults can be mended.
-use Rattle.std.proofs.Common.{◌≡◌, ℕ, zero, suc, ◌+◌, ◌≤◌, List, [], ◌∷◌, ◌++◌, refl, sym, ap, ◌∙◌, subst, arith, append_assoc, append-nil, Bool, true, false, ◌&&◌, ◌||◌, Option, Some, None}
-use Rattle.script_grammar.specs.declared.token.Kind.{Kind}
+use Rattle.std.proofs.Common.{◌≡◌, ℕ, suc, List, [], ◌∷◌, ◌++◌, refl, sym, ap, subst, append_assoc, Bool, true, false, ◌||◌, Option, Some, None}
 use Rattle.script_grammar.specs.declared.token.Kind.TheVariants as kind
 use Rattle.script_grammar.specs.declared.token.mark.TheConstants as mark
-use Rattle.script_grammar.specs.declared.token.word.TheConstants as word
-use Rattle.script_grammar.specs.declared.token.Decl.{Decl}
 use Rattle.script_grammar.specs.Lexeme.{Lexeme}
-use Rattle.script_grammar.specs.Kinds.{is_mark, is_word, is_name, decl_word}
+use Rattle.script_grammar.specs.Kinds.{is_mark, is_word}
 use Rattle.script_grammar.specs.Tree.{Named, Expr, Stmt, Stmts}
-use Rattle.script_grammar.specs.Tree as tree
 use Rattle.script_grammar.specs.TreeLists.{Bind, maybe_expr_of, binds_of, stmts_of}
-use Rattle.script_grammar.specs.Pieces.{Bodies, Piece, At, Ending, BareBinding, may_omit, mark_piece, word_piece, name_piece, semi_piece}
-use Rattle.script_grammar.specs.Endings.{binds_ending}
-use Rattle.script_grammar.specs.Print.{print, print_stmt, print_stmts, print_binds, print_more_binds, print_initializer}
-use Rattle.script_grammar.specs.Proper.{rank, Proper, ProperMaybe, ProperStmt, ProperStmts, ProperBinds, HasBinds, maybe_free, binds_free, is_statement, InIf, free_of_in}
-use Rattle.pure_parser.specs.Parser.{Parser, head_of, ret, bad, bind, peek, step, when, Turn, Again, Stop, loop, Many, stopped, begun, led}
-use Rattle.pure_parser.specs.Exprs.{Env, AnAssign, expect, name_of, named}
+use Rattle.script_grammar.specs.Pieces.{Bodies, Ending, may_omit, mark_piece, word_piece, name_piece, semi_piece}
+use Rattle.script_grammar.specs.Print.{print_stmt, print_stmts, print_binds, print_more_binds, print_initializer}
+use Rattle.script_grammar.specs.Proper.{ProperMaybe, ProperStmt, ProperStmts, ProperBinds, HasBinds, maybe_free, binds_free, is_statement, InIf}
+use Rattle.pure_parser.specs.Parser.{Turn, Again, Stop, loop, Many, stopped, begun}
+use Rattle.pure_parser.specs.Exprs.{Env, expect}
 use Rattle.pure_parser.specs.Stmts as parser
 use Rattle.pure_parser.specs.Stmts.{Place, AnItem, AStmt, StmtCalls, is_item, is_inside, bound}
-use Rattle.pure_parser.proofs.Friendly.{Spot, AtFront, Inside, Friendly, first_of, friendly_omits}
-use Rattle.pure_parser.proofs.Fitting.{FitsAll, all_none, all_append, all_mark, all_word, all_name, all_same, lexeme_of_kind, zero_lexeme}
-use Rattle.pure_parser.proofs.Tests.{false_true, mark_known, word_known, name_known}
+use Rattle.pure_parser.proofs.Friendly.{AtFront, Inside, friendly_omits}
+use Rattle.pure_parser.proofs.Fitting.{FitsAll, all_none, all_append, all_mark, all_word, lexeme_of_kind}
+use Rattle.pure_parser.proofs.Tests.{mark_known, word_known}
 use Rattle.pure_parser.proofs.Sound.{Sound, Mended, Behind, sound_bind, sound_ret, sound_bad, sound_at, sound_peek, sound_done, sound_some, sound_map, sound_inside, sound_loop, sound_made}
 use Rattle.pure_parser.proofs.Sound as plain
 use Rattle.pure_parser.proofs.SoundNext.{SoundNext, Follows, stands, friendly, next_look, NextAt, Past, Joined, Plain, past_bind, past_at, next_bind, next_made, next_ret, next_bad, next_peek, next_at, at_ret, at_step, at_when, next_inside, next_map, next_loop, plain_of, next_of}
 use Rattle.pure_parser.proofs.SoundNext as next
-use Rattle.pure_parser.proofs.SoundParts.{IsExpr, SoundEnv, SoundCalls, in_both, IsMark, IsName, expect_sound, name_sound, mark_some}
-use Rattle.pure_parser.proofs.SoundLists.{expr_sound}
-use Rattle.pure_parser.proofs.StmtFitting.{FitsNext, none_next, all_next, then_all, then_next, next_all, close_all, same_next}
+use Rattle.pure_parser.proofs.SoundParts.{SoundEnv, in_both, IsMark, IsName, expect_sound, name_sound}
+use Rattle.pure_parser.proofs.StmtFitting.{FitsNext, none_next, all_next, then_next, close_all}
 
 -- a word that must stand here
 
@@ -60,10 +54,10 @@ pub semi_sound : (e : Ending) (d : ℕ) → SoundNext Inside (IsSemi e d) (parse
 unfolding parser.semi_of
 semi_sound e d = next_look
     (λ t. at_when (is_mark mark.SEMICOLON t.kind)
-        (λ h. at_step t (next_ret {a = true} (λ n. all_next (all_mark mark.SEMICOLON d t (mark_known mark.SEMICOLON t.kind h)) n)))
-        (λ _. at_when (may_omit e t)
-            (λ h. at_ret {a = false} t (gap_here e d t h) (λ n f. gap_here e d n (friendly_omits e n f)))
-            (λ _. next_at t (next_bad (semi_some e d)))))
+    (λ h. at_step t (next_ret {a = true} (λ n. all_next (all_mark mark.SEMICOLON d t (mark_known mark.SEMICOLON t.kind h)) n)))
+    (λ _. at_when (may_omit e t)
+    (λ h. at_ret {a = false} t (gap_here e d t h) (λ n f. gap_here e d n (friendly_omits e n f)))
+    (λ _. next_at t (next_bad (semi_some e d)))))
     (record { front = []; split = refl; is = λ n f. gap_end e d n f })
 
 module _ (m : Bodies) where
@@ -96,8 +90,8 @@ module _ (m : Bodies) where
     unfolding parser.stmt_turn
     stmt_turn_sound inside = next_peek
         (λ t. at_when (parser.ends_items t.kind)
-            (λ h. at_ret {a = Stop tt} t refl (λ n f. refl))
-            (λ _. next_at t (next_made Again (s.at (AnItem inside)) (λ w a n q. q))))
+        (λ h. at_ret {a = Stop tt} t refl (λ n f. refl))
+        (λ _. next_at t (next_made Again (s.at (AnItem inside)) (λ w a n q. q))))
         (next_ret {a = Stop tt} (λ n. refl))
 
     pub stmts_sound : (inside : Bool) → SoundNext AtFront (AreStmts d inside) (parser.stmts_from stmt inside)
@@ -168,21 +162,23 @@ module _ (m : Bodies) (d : ℕ) where
     has = tt;
     proper = (q.proper, r.proper);
     in_if = in_both w (maybe_free (maybe_expr_of x.value)) (binds_free (binds_of y.items)) q.in_if r.in_if;
-    fits = all_append q.fits r.fits }
+    fits = all_append q.fits r.fits;
+  }
 
   more_go : (w : Bool) (u v : List Lexeme) (x : Bind) (y : Many Bind (Unit {0})) → BindTurn w u (Again x) → MoreBinds w v y → MoreBinds w (u ++ v) (begun x y)
   more_go w u v x y q r = record {
     proper = (q.0, r.proper);
     in_if = in_both w (maybe_free (maybe_expr_of x.value)) (binds_free (binds_of y.items)) q.1 r.in_if;
-    fits = all_append q.2 r.fits }
+    fits = all_append q.2 r.fits;
+  }
 
   module _ (v : Env) (s : SoundEnv m d v) where
     value_sound : (w : Bool) → Sound Inside (IsValue w) (parser.value_of v w)
     unfolding parser.value_of
     value_sound w = sound_peek
         (λ t. plain.at_when (is_mark mark.ASSIGN t.kind)
-            (λ h. plain.at_step t (sound_made Some (sound_inside (s.calls.assign w)) (λ u e q. record { proper = (q.rank_le, q.proper); in_if = q.in_if; fits = all_append (all_mark mark.ASSIGN d t (mark_known mark.ASSIGN t.kind h)) q.fits })))
-            (λ _. sound_at t (sound_ret {a = None} (record { proper = tt; in_if = in_true w; fits = all_none }))))
+        (λ h. plain.at_step t (sound_made Some (sound_inside (s.calls.assign w)) (λ u e q. record { proper = (q.rank_le, q.proper); in_if = q.in_if; fits = all_append (all_mark mark.ASSIGN d t (mark_known mark.ASSIGN t.kind h)) q.fits })))
+        (λ _. sound_at t (sound_ret {a = None} (record { proper = tt; in_if = in_true w; fits = all_none }))))
         (sound_ret {a = None} (record { proper = tt; in_if = in_true w; fits = all_none }))
 
     -- behind the name
@@ -198,8 +194,8 @@ module _ (m : Bodies) (d : ℕ) where
     unfolding parser.bind_turn
     bind_turn_sound w = sound_peek
         (λ t. plain.at_when (is_mark mark.COMMA t.kind)
-            (λ h. plain.at_step t (sound_made Again (bind_sound w) (λ u x q. (q.proper, q.in_if, all_append (all_mark mark.COMMA d t (mark_known mark.COMMA t.kind h)) q.fits))))
-            (λ _. sound_at t (sound_ret {a = Stop tt} refl)))
+        (λ h. plain.at_step t (sound_made Again (bind_sound w) (λ u x q. (q.proper, q.in_if, all_append (all_mark mark.COMMA d t (mark_known mark.COMMA t.kind h)) q.fits))))
+        (λ _. sound_at t (sound_ret {a = Stop tt} refl)))
         (sound_ret {a = Stop tt} refl)
 
     more_binds_sound : (w : Bool) → Sound Inside (MoreBinds w) (loop (parser.bind_turn v w))

@@ -1,38 +1,35 @@
 -- Statements that hold no list of clauses and no `for` head: what is read fits its places, and faults can be mended.
-use Rattle.std.proofs.Common.{◌≡◌, ℕ, zero, suc, ◌+◌, ◌≤◌, List, [], ◌∷◌, ◌++◌, refl, sym, ap, ◌∙◌, subst, arith, append_assoc, append-nil, Bool, true, false, ◌&&◌, ◌||◌, not, Option, Some, None}
+use Rattle.std.proofs.Common.{◌≡◌, ℕ, suc, List, [], ◌∷◌, ◌++◌, refl, ap, ◌∙◌, subst, append_assoc, Bool, true, false, ◌&&◌, ◌||◌, not, Option, Some, None}
 use Rattle.script_grammar.specs.declared.token.Kind.{Kind}
 use Rattle.script_grammar.specs.declared.token.Kind.TheVariants as kind
 use Rattle.script_grammar.specs.declared.token.mark.TheConstants as mark
 use Rattle.script_grammar.specs.declared.token.word.TheConstants as word
-use Rattle.script_grammar.specs.declared.token.FuncForm.TheVariants as form
-use Rattle.script_grammar.specs.declared.token.Decl.{Decl}
 use Rattle.script_grammar.specs.Lexeme.{Lexeme}
-use Rattle.script_grammar.specs.Kinds.{is_mark, is_word, is_name, is_end, decl_word, is_var}
+use Rattle.script_grammar.specs.Kinds.{is_mark, is_word, is_name, is_end}
 use Rattle.script_grammar.specs.Tree.{Named, Expr, Stmt, Stmts, MaybeStmt, Function}
 use Rattle.script_grammar.specs.Tree as tree
-use Rattle.script_grammar.specs.TreeLists.{Bind, maybe_expr_of, maybe_stmt_of, binds_of, stmts_of}
-use Rattle.script_grammar.specs.Pieces.{Bodies, Piece, At, slot, Ending, BareBinding, Keyword, DoWhile, begins_with, mark_piece, word_piece, name_piece, semi_piece, glue, placed}
-use Rattle.script_grammar.specs.Endings.{ending, return_ending, binds_ending}
-use Rattle.script_grammar.specs.Print.{print, print_stmt, print_stmts, print_else, print_label, print_maybe, print_catch_param, print_declared}
-use Rattle.script_grammar.specs.Proper.{rank, Proper, ProperOption, ProperStmt, ProperStmts, ProperElse, ElseIsNearest, ProperBinds, HasBinds, is_statement, takes_else, begins_brace, begins_function}
-use Rattle.pure_parser.specs.Parser.{Recorded, Reply, Read, Bad, Deep, Parser, head_of, after, ret, bad, bind, peek, step, when, Turn, Again, Stop, loop, Many, stopped, begun, led}
-use Rattle.pure_parser.specs.Exprs.{Env, AnAssign, expect, expr_of, name_of, named}
+use Rattle.script_grammar.specs.TreeLists.{maybe_expr_of, maybe_stmt_of}
+use Rattle.script_grammar.specs.Pieces.{Bodies, Piece, Keyword, DoWhile, begins_with, mark_piece, glue}
+use Rattle.script_grammar.specs.Endings.{ending, return_ending}
+use Rattle.script_grammar.specs.Print.{print, print_else, print_label, print_maybe}
+use Rattle.script_grammar.specs.Proper.{Proper, ProperOption, ProperElse, ElseIsNearest, takes_else}
+use Rattle.pure_parser.specs.Parser.{Reply, Read, Bad, Deep}
+use Rattle.pure_parser.specs.Exprs.{Env, expr_of, named}
 use Rattle.pure_parser.specs.Stmts as parser
 use Rattle.pure_parser.specs.Stmts.{Place, AnItem, AStmt, StmtCalls, Block, is_item, is_inside}
-use Rattle.pure_parser.proofs.Friendly.{Spot, AtFront, Inside, Friendly, Starter, first_of, friendly_omits}
-use Rattle.pure_parser.proofs.Fitting.{FitsAll, all_none, all_append, all_mark, all_word, all_name, all_placed, all_same, fits_glued_name, lexeme_of_kind, zero_lexeme, zero_starts}
-use Rattle.pure_parser.proofs.Tests.{false_true, true_false, and_left, and_right, not_true, neither_left, neither_right, mark_known, word_known, name_known}
+use Rattle.pure_parser.proofs.Friendly.{AtFront, Inside, Friendly}
+use Rattle.pure_parser.proofs.Fitting.{FitsAll, all_none, all_append, all_mark, all_word, all_placed, fits_glued_name, lexeme_of_kind, zero_lexeme, zero_starts}
+use Rattle.pure_parser.proofs.Tests.{false_true, and_left, and_right, not_true, neither_left, word_known, name_known}
 use Rattle.pure_parser.proofs.Sound.{Sound, SoundAt, Mended, Behind, Begun, BeginsAt, here, started, sound_bind, sound_ret, sound_bad, sound_at, sound_peek, sound_done, sound_some, sound_map, sound_inside, sound_loop, sound_made, sound_first, at_map, outcome_noted}
 use Rattle.pure_parser.proofs.Sound as plain
 use Rattle.pure_parser.proofs.SoundNext.{SoundNext, NextAt, Past, Joined, Plain, past_bind, past_at, next_bind, next_made, next_ret, next_bad, next_peek, next_look, next_at, at_ret, at_step, at_when, next_when, next_inside, next_map, next_loop, plain_of, next_of}
 use Rattle.pure_parser.proofs.SoundNext as next
-use Rattle.pure_parser.proofs.SoundParts.{IsExpr, SoundEnv, SoundCalls, IsMark, IsName, expect_sound, name_sound, mark_some}
+use Rattle.pure_parser.proofs.SoundParts.{IsExpr, SoundEnv, IsName, expect_sound}
 use Rattle.pure_parser.proofs.SoundLists.{expr_sound}
-use Rattle.pure_parser.proofs.SoundFunctions.{IsFunctionOf, function_sound}
-use Rattle.pure_parser.proofs.StmtFitting.{FitsNext, none_next, all_next, then_all, then_next, next_all, close_all, same_next, same_pieces, glue_all}
-use Rattle.pure_parser.proofs.StmtNext.{front_bind, past_assoc}
-use Rattle.pure_parser.proofs.Begins.{begins_same, begins_not}
-use Rattle.pure_parser.proofs.SoundStmtLists.{IsStmt, SoundStmts, AreStmts, IsBlock, IsWord, expect_word_sound, IsSemi, semi_sound, stmts_sound, braced_from_sound, braced_sound, AreBinds, binds_from_sound}
+use Rattle.pure_parser.proofs.StmtFitting.{FitsNext, none_next, all_next, then_all, then_next, next_all, same_pieces, glue_all}
+use Rattle.pure_parser.proofs.StmtNext.{front_bind}
+use Rattle.pure_parser.proofs.Begins.{begins_not}
+use Rattle.pure_parser.proofs.SoundStmtLists.{IsStmt, SoundStmts, IsWord, semi_sound, braced_from_sound}
 
 -- behind what stands between two lexemes
 pub around_then : (x y : Piece) (ps : List Piece) {b : List Piece} {u v : List Lexeme} {n : Lexeme} → FitsAll (x ∷ (ps ++ y ∷ [])) u → FitsNext b v n → FitsNext (x ∷ (ps ++ (y ∷ b))) (u ++ v) n
@@ -52,7 +49,8 @@ zero_stmt m d p = record {
   end = zero_lexeme ∷ lexeme_of_kind (kind.Mark mark.SEMICOLON) ∷ [];
   of = tree.Value (tree.Number 0 0) true;
   starts = λ n f. zero_starts.friendly;
-  is = λ n f. record { proper = (refl, refl, tt); stands = λ _. refl; fits = record { is = (record { kind = refl; content = refl; starts = (refl, tt); ends = tt; line = λ l. absurd (false_true l) }, (record { kind = refl; content = tt; starts = tt; ends = tt; line = λ l. absurd (false_true l) }, tt)) } } }
+  is = λ n f. record { proper = (refl, refl, tt); stands = λ _. refl; fits = record { is = (record { kind = refl; content = refl; starts = (refl, tt); ends = tt; line = λ l. absurd (false_true l) }, (record { kind = refl; content = tt; starts = tt; ends = tt; line = λ l. absurd (false_true l) }, tt)) } };
+}
 
 -- an expression that begins with neither `{` nor `function`
 
@@ -91,7 +89,8 @@ module _ (m : Bodies) (d : ℕ) where
     end = record { kind = kind.Word i; text = []; number = 0; role = zero_lexeme.role; start = 0; end = 0; after_line = true } ∷ [];
     of = tt;
     starts = λ n f. h;
-    is = λ n f. all_word i d (record { kind = kind.Word i; text = []; number = 0; role = zero_lexeme.role; start = 0; end = 0; after_line = true }) refl }
+    is = λ n f. all_word i d (record { kind = kind.Word i; text = []; number = 0; role = zero_lexeme.role; start = 0; end = 0; after_line = true }) refl;
+  }
 
   word_next : (i : ℕ) → next.Mended AtFront (Plain (IsWord i d)) → SoundNext AtFront (Plain (IsWord i d)) (parser.expect_word i)
   unfolding parser.expect_word
@@ -102,8 +101,8 @@ module _ (m : Bodies) (d : ℕ) where
     unfolding parser.else_of
     else_sound x h = next_peek
         (λ t. at_when (is_word word.ELSE t.kind)
-            (λ e. at_step t (next_made Some (next_inside (s.stmts.at (AStmt (is_inside p)))) (λ w y n r. record { proper = (r.stands refl, r.proper); nearest = h; fits = then_all (all_word word.ELSE d t (word_known word.ELSE t.kind e)) r.fits })))
-            (λ _. at_ret {a = None} t (no_else (is_inside p) x t) (λ n f. no_else (is_inside p) x n)))
+        (λ e. at_step t (next_made Some (next_inside (s.stmts.at (AStmt (is_inside p)))) (λ w y n r. record { proper = (r.stands refl, r.proper); nearest = h; fits = then_all (all_word word.ELSE d t (word_known word.ELSE t.kind e)) r.fits })))
+        (λ _. at_ret {a = None} t (no_else (is_inside p) x t) (λ n f. no_else (is_inside p) x n)))
         (next_ret {a = None} (λ n. no_else (is_inside p) x n))
 
     else_behind_sound : (x : Stmt) → SoundNext AtFront (IsElse (is_inside p) x) (parser.else_behind b (is_inside p) x)
@@ -114,14 +113,16 @@ module _ (m : Bodies) (d : ℕ) where
     if_sound t k = past_bind {E = IsParens} (parens_sound b.exprs s.env) (λ u e q. next_bind (next_inside (s.stmts.at (AStmt (is_inside p)))) (λ w x. next_made (λ o. tree.If e x (maybe_stmt_of o)) (else_behind_sound x) (λ v o n h r. record {
       proper = (q.proper, r.stands refl, r.proper, h.nearest, h.proper);
       stands = λ _. refl;
-      fits = then_all (all_word word.IF d t k) (parens_then e q (then_next w v r.fits h.fits)) })))
+      fits = then_all (all_word word.IF d t k) (parens_then e q (then_next w v r.fits h.fits));
+    })))
 
     pub while_sound : (t : Lexeme) → t.kind ≡ kind.Word word.WHILE → SoundNext Inside (Past (t ∷ []) (IsStmt m d p)) (parser.while_of b (is_inside p))
     unfolding parser.while_of
     while_sound t k = past_bind {E = IsParens} (parens_sound b.exprs s.env) (λ u e q. next_made (tree.While e) (next_inside (s.stmts.at (AStmt (is_inside p)))) (λ w x n r. record {
       proper = (q.proper, r.stands refl, r.proper);
       stands = λ _. refl;
-      fits = then_all (all_word word.WHILE d t k) (parens_then e q r.fits) }))
+      fits = then_all (all_word word.WHILE d t k) (parens_then e q r.fits);
+    }))
 
     no_word : (i : ℕ) (a : Unit {0}) → IsWord i d [] a → ⊥
     no_word i a h = h.before zero_lexeme
@@ -131,7 +132,8 @@ module _ (m : Bodies) (d : ℕ) where
     do_sound t k = next_bind (next_inside (s.stmts.at (AStmt (is_inside p)))) (λ w x. front_bind (IsWord word.WHILE d) (Joined (IsStmt m (suc d) (AStmt (is_inside p))) w x (Past (t ∷ []) (IsStmt m d p))) (no_word word.WHILE) _ (λ a _ qa. past_bind {E = IsParens} (parens_sound b.exprs s.env) (λ u e q. next_made (λ y. tree.Do x e y) (semi_sound DoWhile d) (λ v y n h r. record {
       proper = (r.stands refl, r.proper, q.proper);
       stands = λ _. refl;
-      fits = then_all (all_word word.DO d t k) (then_next w (a ++ (u ++ v)) r.fits (then_all qa (parens_then e q h))) }))) (parser.expect_word word.WHILE) (word_next word.WHILE (word_front word.WHILE (record { omits = refl }))))
+      fits = then_all (all_word word.DO d t k) (then_next w (a ++ (u ++ v)) r.fits (then_all qa (parens_then e q h)));
+    }))) (parser.expect_word word.WHILE) (word_next word.WHILE (word_front word.WHILE (record { omits = refl }))))
 
     pub block_sound : (t : Lexeme) → t.kind ≡ kind.Mark mark.OPEN_BRACE → SoundNext Inside (Past (t ∷ []) (IsStmt m d p)) (parser.block_stmt b (is_inside p))
     unfolding parser.block_stmt
@@ -150,8 +152,8 @@ module _ (m : Bodies) (d : ℕ) where
     unfolding parser.label_name
     label_sound = sound_peek
         (λ t. plain.at_when (is_name t.kind && not t.after_line)
-            (λ h. plain.at_step t (sound_ret {a = Some (named t)} (record { before = λ n. fits_glued_name d t n (name_known t.kind (and_left (is_name t.kind) (not t.after_line) h)) (not_true t.after_line (and_right (is_name t.kind) (not t.after_line) h)) })))
-            (λ _. sound_at t (sound_ret {a = None} all_none)))
+        (λ h. plain.at_step t (sound_ret {a = Some (named t)} (record { before = λ n. fits_glued_name d t n (name_known t.kind (and_left (is_name t.kind) (not t.after_line) h)) (not_true t.after_line (and_right (is_name t.kind) (not t.after_line) h)) })))
+        (λ _. sound_at t (sound_ret {a = None} all_none)))
         (sound_ret {a = None} all_none)
 
     pub continue_sound : (t : Lexeme) → t.kind ≡ kind.Word word.CONTINUE → SoundNext Inside (Past (t ∷ []) (IsStmt m d p)) (parser.continue_of t.start)
@@ -235,8 +237,8 @@ module _ (m : Bodies) (d : ℕ) where
     unfolding parser.returned_of
     returned_sound = sound_peek
         (λ t. plain.at_when (parser.ends_return t)
-            (λ _. sound_at t (sound_ret {a = None} (record { proper = tt; fits = all_none })))
-            (λ h. plain.at_bind {E = IsThrown} (thrown_at t (neither_line t h)) (λ u e q. sound_done IsReturned u (Some e) (record { proper = q.proper; fits = q.fits })) (λ u e q. plain.some_done IsReturned u (Some e) (record { proper = q.proper; fits = q.fits }))))
+        (λ _. sound_at t (sound_ret {a = None} (record { proper = tt; fits = all_none })))
+        (λ h. plain.at_bind {E = IsThrown} (thrown_at t (neither_line t h)) (λ u e q. sound_done IsReturned u (Some e) (record { proper = q.proper; fits = q.fits })) (λ u e q. plain.some_done IsReturned u (Some e) (record { proper = q.proper; fits = q.fits }))))
         (sound_ret {a = None} (record { proper = tt; fits = all_none }))
       where
         neither_line : (t : Lexeme) → parser.ends_return t ≡ false → t.after_line ≡ false

@@ -1,43 +1,34 @@
 -- `switch` and `try`: what is read fits its places, and faults can be mended.
-use Rattle.std.proofs.Common.{◌≡◌, ℕ, zero, suc, ◌+◌, ◌≤◌, List, [], ◌∷◌, ◌++◌, refl, sym, ap, ◌∙◌, subst, arith, append_assoc, append-nil, Bool, true, false, ◌&&◌, ◌||◌, not, Option, Some, None}
-use Rattle.script_grammar.specs.declared.token.Kind.{Kind}
+use Rattle.std.proofs.Common.{◌≡◌, ℕ, suc, ◌≤◌, List, [], ◌∷◌, ◌++◌, refl, sym, ap, ◌∙◌, subst, arith, append_assoc, Bool, true, Option, Some, None}
 use Rattle.script_grammar.specs.declared.token.Kind.TheVariants as kind
 use Rattle.script_grammar.specs.declared.token.mark.TheConstants as mark
 use Rattle.script_grammar.specs.declared.token.word.TheConstants as word
-use Rattle.script_grammar.specs.declared.token.FuncForm.TheVariants as form
-use Rattle.script_grammar.specs.declared.token.Decl.{Decl}
 use Rattle.script_grammar.specs.Lexeme.{Lexeme}
-use Rattle.script_grammar.specs.Kinds.{is_mark, is_word, is_name, is_end, decl_word, is_var}
+use Rattle.script_grammar.specs.Kinds.{is_mark, is_word}
 use Rattle.script_grammar.specs.Tree.{Named, Expr, Stmt, Stmts, MaybeStmt, Function}
 use Rattle.script_grammar.specs.Tree as tree
-use Rattle.script_grammar.specs.TreeLists.{Bind, maybe_expr_of, maybe_stmt_of, binds_of, stmts_of}
-use Rattle.script_grammar.specs.Pieces.{Bodies, Piece, At, slot, Ending, BareBinding, Keyword, DoWhile, begins_with, mark_piece, word_piece, name_piece, semi_piece, glue, placed}
-use Rattle.script_grammar.specs.Endings.{ending, return_ending, binds_ending}
-use Rattle.script_grammar.specs.Print.{print, print_stmt, print_stmts, print_else, print_label, print_maybe, print_catch_param, print_declared}
-use Rattle.script_grammar.specs.Proper.{rank, Proper, ProperOption, ProperStmt, ProperStmts, ProperElse, ElseIsNearest, ProperBinds, HasBinds, is_statement, takes_else, begins_brace, begins_function}
-use Rattle.pure_parser.specs.Parser.{Recorded, Reply, Read, Bad, Deep, Parser, head_of, after, ret, bad, bind, peek, step, when, Turn, Again, Stop, loop, Many, stopped, begun, led}
-use Rattle.pure_parser.specs.Exprs.{Env, AnAssign, expect, expr_of, name_of, named}
+use Rattle.script_grammar.specs.TreeLists.{maybe_expr_of, stmts_of}
+use Rattle.script_grammar.specs.Pieces.{Bodies, Piece, mark_piece, name_piece}
+use Rattle.script_grammar.specs.Print.{print_stmts, print_catch_param}
+use Rattle.script_grammar.specs.Proper.{ProperOption, ProperStmts}
+use Rattle.pure_parser.specs.Parser.{Turn, Again, Stop, Many, stopped, begun}
 use Rattle.pure_parser.specs.Stmts as parser
 use Rattle.pure_parser.specs.Stmts.{Place, AnItem, AStmt, StmtCalls, Block, is_item, is_inside}
-use Rattle.pure_parser.proofs.Friendly.{Spot, AtFront, Inside, Friendly, Starter, first_of, friendly_omits}
-use Rattle.pure_parser.proofs.Fitting.{FitsAll, all_none, all_append, all_mark, all_word, all_name, all_placed, all_same, first_append, fits_glued_name, lexeme_of_kind, zero_lexeme, zero_starts}
-use Rattle.pure_parser.proofs.Tests.{false_true, true_false, and_left, and_right, not_true, neither_left, neither_right, mark_known, word_known, name_known}
+use Rattle.pure_parser.proofs.Friendly.{AtFront, Inside, first_of}
+use Rattle.pure_parser.proofs.Fitting.{FitsAll, all_none, all_append, all_mark, all_word, first_append}
+use Rattle.pure_parser.proofs.Tests.{mark_known, word_known}
 use Rattle.pure_parser.proofs.Sound.{Sound, SoundAt, Mended, Behind, Begun, BeginsAt, here, started, sound_bind, sound_ret, sound_bad, sound_at, sound_peek, sound_done, sound_some, sound_map, sound_inside, sound_loop, sound_made, sound_first, at_map, outcome_noted}
 use Rattle.pure_parser.proofs.Sound as plain
-use Rattle.pure_parser.proofs.SoundNext.{SoundNext, NextAt, Past, Joined, Plain, past_bind, past_at, next_bind, next_made, next_ret, next_bad, next_peek, next_look, next_at, at_ret, at_step, at_when, next_when, next_inside, next_map, next_loop, plain_of, next_of}
-use Rattle.pure_parser.proofs.SoundNext as next
-use Rattle.pure_parser.proofs.SoundParts.{IsExpr, SoundEnv, SoundCalls, IsMark, IsName, expect_sound, name_sound, mark_some}
+use Rattle.pure_parser.proofs.SoundNext.{SoundNext, Past, past_bind, next_bind, next_made, next_ret, next_peek, at_ret, at_step, at_when, next_inside, next_loop, next_of}
+use Rattle.pure_parser.proofs.SoundParts.{IsExpr, IsMark, expect_sound, name_sound}
 use Rattle.pure_parser.proofs.SoundLists.{expr_sound}
-use Rattle.pure_parser.proofs.SoundFunctions.{IsFunctionOf, function_sound}
-use Rattle.pure_parser.proofs.StmtFitting.{FitsNext, none_next, all_next, then_all, then_next, next_all, close_all, same_next, same_pieces, glue_all}
-use Rattle.pure_parser.proofs.StmtNext.{front_bind, past_assoc}
-use Rattle.pure_parser.proofs.Begins.{begins_same, begins_not}
-use Rattle.pure_parser.proofs.SoundStmtLists.{IsStmt, SoundStmts, AreStmts, IsBlock, IsWord, expect_word_sound, IsSemi, semi_sound, stmts_sound, braced_sound, AreBinds, binds_from_sound}
+use Rattle.pure_parser.proofs.StmtFitting.{FitsNext, none_next, all_next, then_all, then_next, close_all, same_pieces}
+use Rattle.pure_parser.proofs.SoundStmtLists.{IsStmt, IsBlock, IsWord, expect_word_sound, stmts_sound, braced_sound}
 use Rattle.script_grammar.specs.Tree.{Clauses, no_clauses, more_clauses}
 use Rattle.script_grammar.specs.TreeLists.{Clause, clauses_of}
 use Rattle.script_grammar.specs.Print.{print_clauses, print_test}
 use Rattle.script_grammar.specs.Proper.{ProperClauses, defaults}
-use Rattle.pure_parser.proofs.SoundStmts.{SoundBlock, IsParens, parens_sound, parens_then, around_then, around_all}
+use Rattle.pure_parser.proofs.SoundStmts.{SoundBlock, IsParens, parens_sound, parens_then, around_then}
 use Rattle.pure_parser.proofs.SoundStmtLists.{close_sound}
 
 module _ (m : Bodies) (d : ℕ) (i : Bool) where
@@ -159,7 +150,8 @@ module _ (m : Bodies) (d : ℕ) (i : Bool) where
     split = ap (λ y. w ++ y) r.split ∙ sym (append_assoc w r.front r.back);
     cases = case_before w r.front a x.items 0 (first_of r.back n) q.0 (subst (λ y. IsClause w a y) (ap (λ y. first_of y n) r.split ∙ first_append r.front r.back n) q.1) r.cases;
     test = r.test;
-    default = r.default }
+    default = r.default;
+  }
 
   abbrev More : Option Clause → List Lexeme → List Clause → Lexeme → Type 0
   More None w cs n = (w ≡ []) × (cs ≡ [])
@@ -189,18 +181,18 @@ module _ (m : Bodies) (d : ℕ) (i : Bool) where
     unfolding parser.case_turn
     case_turn_sound = next_peek
         (λ t. at_when (is_word word.CASE t.kind)
-            (λ e. at_step t (next_made Again (case_sound t (word_known word.CASE t.kind e)) (λ w c n q. q)))
-            (λ _. at_ret {a = Stop tt} t refl (λ n f. refl)))
+        (λ e. at_step t (next_made Again (case_sound t (word_known word.CASE t.kind e)) (λ w c n q. q)))
+        (λ _. at_ret {a = Stop tt} t refl (λ n f. refl)))
         (next_ret {a = Stop tt} (λ n. refl))
 
     clause_turn_sound : SoundNext AtFront ClauseTurn (parser.clause_turn b i)
     unfolding parser.clause_turn
     clause_turn_sound = next_peek
         (λ t. at_when (is_word word.CASE t.kind)
-            (λ e. at_step t (next_made Again (case_sound t (word_known word.CASE t.kind e)) (λ w c n q. q)))
-            (λ _. at_when (is_word word.DEFAULT t.kind)
-                (λ e. at_step t (next_made (λ c. Stop (Some c)) (default_sound t (word_known word.DEFAULT t.kind e)) (λ w c n q. q)))
-                (λ _. at_ret {a = Stop None} t refl (λ n f. refl))))
+        (λ e. at_step t (next_made Again (case_sound t (word_known word.CASE t.kind e)) (λ w c n q. q)))
+        (λ _. at_when (is_word word.DEFAULT t.kind)
+        (λ e. at_step t (next_made (λ c. Stop (Some c)) (default_sound t (word_known word.DEFAULT t.kind e)) (λ w c n q. q)))
+        (λ _. at_ret {a = Stop None} t refl (λ n f. refl))))
         (next_ret {a = Stop None} (λ n. refl))
 
     more_sound : (o : Option Clause) → SoundNext AtFront (More o) (parser.more_clauses b i o)
@@ -239,7 +231,8 @@ module _ (m : Bodies) (d : ℕ) (i : Bool) where
         next_made (λ _. tree.Switch e (clauses_of cs)) (close_sound m d b.stmt s.stmts) (λ v _ n h r. record {
           proper = (q.proper, at_most_count w cs (first_of v n) r, subst (λ x. ProperClauses m x (clauses_of cs)) (sym pi) (at_most_proper w cs (first_of v n) r));
           stands = λ _. refl;
-          fits = then_all (all_word word.SWITCH d t k) (parens_then m d e q (all_next (all_append qa (close_all w v n (at_most_fits w cs (first_of v n) r) h)) n)) }))))
+          fits = then_all (all_word word.SWITCH d t k) (parens_then m d e q (all_next (all_append qa (close_all w v n (at_most_fits w cs (first_of v n) r) h)) n));
+        }))))
 
 -- `try`
 
@@ -255,8 +248,8 @@ module _ (m : Bodies) (d : ℕ) (b : Block) (s : SoundBlock m d b) (p : Place) w
   unfolding parser.catch_param
   catch_sound = sound_peek
       (λ t. plain.at_when (is_mark mark.OPEN_PAREN t.kind)
-          (λ e. plain.at_step t (sound_made Some catch_name_sound (λ u n q. all_append (all_mark mark.OPEN_PAREN d t (mark_known mark.OPEN_PAREN t.kind e)) q)))
-          (λ _. sound_at t (sound_ret {a = None} all_none)))
+      (λ e. plain.at_step t (sound_made Some catch_name_sound (λ u n q. all_append (all_mark mark.OPEN_PAREN d t (mark_known mark.OPEN_PAREN t.kind e)) q)))
+      (λ _. sound_at t (sound_ret {a = None} all_none)))
       (sound_ret {a = None} all_none)
 
   pub try_sound : (t : Lexeme) → t.kind ≡ kind.Word word.TRY → SoundNext Inside (Past (t ∷ []) (IsStmt m d p)) (parser.try_of b (is_inside p))
@@ -268,4 +261,5 @@ module _ (m : Bodies) (d : ℕ) (b : Block) (s : SoundBlock m d b) (p : Place) w
       next_made (λ y. tree.Try x o y) (next_of (braced_sound m d b.stmt s.stmts (is_inside p))) (λ w y n r. record {
         proper = (q.proper, r.proper);
         stands = λ _. refl;
-        fits = then_all (all_word word.TRY d t k) (around_then (mark_piece mark.OPEN_BRACE d) (mark_piece mark.CLOSE_BRACE d) (print_stmts m d x) q.fits (then_all qa (then_all qc (all_next r.fits n)))) }))))
+        fits = then_all (all_word word.TRY d t k) (around_then (mark_piece mark.OPEN_BRACE d) (mark_piece mark.CLOSE_BRACE d) (print_stmts m d x) q.fits (then_all qa (then_all qc (all_next r.fits n))));
+      }))))

@@ -1,17 +1,16 @@
 -- What is read with the end of its last lexeme: the laws of the combinators hold of it too.
-use Rattle.std.proofs.Common.{◌≡◌, ℕ, zero, suc, ◌+◌, ◌-◌, ◌≤◌, List, [], ◌∷◌, ◌++◌, length, take, refl, sym, ap, ◌∙◌, subst, arith, length-append, append_assoc, cond, nat_lt, Bool, true, false}
+use Rattle.std.proofs.Common.{◌≡◌, ℕ, ◌-◌, ◌≤◌, List, [], ◌∷◌, ◌++◌, length, take, refl, sym, ap, ◌∙◌, subst, arith, length-append, cond, nat_lt, Bool, true, false}
 use Rattle.std.proofs.Math.Seq.{take-append_seam}
 use Rattle.std.proofs.lemmas.List.{take-append-le}
 use Rattle.script_grammar.specs.Lexeme.{Lexeme}
-use Rattle.pure_parser.specs.Parser.{Recorded, Reply, Read, Bad, Deep, Parser, after}
+use Rattle.pure_parser.specs.Parser.{Reply, Read, Bad, Deep, Parser}
 use Rattle.pure_parser.specs.Exprs.{Spanned, spanned, spanned_reply, last_end}
-use Rattle.pure_parser.proofs.Friendly.{Spot, AtFront, Inside}
+use Rattle.pure_parser.proofs.Friendly.{Spot}
 use Rattle.pure_parser.proofs.Fitting.{EndsBy, ends_by}
 use Rattle.pure_parser.proofs.Local.{Local, Same, out, kept, left, grown, grown_records}
 use Rattle.pure_parser.proofs.Sound.{Leads, LeadsAt, Outcome}
 use Rattle.pure_parser.proofs.Stands.{Marked, lexemes}
 use Rattle.pure_parser.proofs.Complete.{Parses, bare, cut}
-use Rattle.pure_parser.proofs.Agrees.{Agrees, MeetsAt, Meets, Verdict, fine, bad_at, deep_at, records, judged}
 
 -- the lexemes before the last ones
 taken : (w us : List Lexeme) → take (length (w ++ us) - length us) (w ++ us) ≡ w
@@ -58,7 +57,8 @@ spanned_same ts q r s h (kept e) = kept (ap (λ x. spanned_reply (ts ++ q) x) e 
 pub local_spanned : {A : Type 0} {f : Parser A} → Local f → Local (spanned f)
 local_spanned {f = f} l = record {
   shorter = λ ts. omega (arith, l.shorter ts, ap length (spanned_left ts (f ts)));
-  same = λ ts q. spanned_same ts q (f ts) (f (ts ++ q)) (l.shorter ts) (l.same ts q) }
+  same = λ ts q. spanned_same ts q (f ts) (f (ts ++ q)) (l.shorter ts) (l.same ts q);
+}
 
 -- completeness
 
@@ -76,8 +76,10 @@ spanned_cut ts limit [] rest r = refl
 spanned_cut ts limit (x ∷ w) rest r = spanned_cond ts (nat_lt limit x.depth) (x.lexeme ∷ (lexemes w ++ rest)) (cut limit w rest r) ∙ ap (λ y. cond (nat_lt limit x.depth) (Deep [] (x.lexeme ∷ (lexemes w ++ rest))) y) (spanned_cut ts limit w rest r)
 
 pub parses_spanned : {A : Type 0} (limit : ℕ) {f : Parser A} {w : List Marked} {rest : List Lexeme} {a : A} → Parses limit f w rest a → Parses limit (spanned f) w rest (record { value = a; end = last_end 0 (lexemes w) })
-parses_spanned limit {f = f} {w = w} {rest = rest} {a = a} p = record { by =
-    spanned_bare (lexemes w ++ rest) (f (lexemes w ++ rest))
-    ∙ ap (λ x. spanned_reply (lexemes w ++ rest) x) p.by
-    ∙ spanned_cut (lexemes w ++ rest) limit w rest (Read a [] rest)
-    ∙ ap (λ e. cut limit w rest (Read (record { value = a; end = e }) [] rest)) (taken_end (lexemes w ++ rest) (lexemes w) rest refl) }
+parses_spanned limit {f = f} {w = w} {rest = rest} {a = a} p = record {
+  by =
+      spanned_bare (lexemes w ++ rest) (f (lexemes w ++ rest))
+      ∙ ap (λ x. spanned_reply (lexemes w ++ rest) x) p.by
+      ∙ spanned_cut (lexemes w ++ rest) limit w rest (Read a [] rest)
+      ∙ ap (λ e. cut limit w rest (Read (record { value = a; end = e }) [] rest)) (taken_end (lexemes w ++ rest) (lexemes w) rest refl);
+}

@@ -1,10 +1,8 @@
 -- Lexemes with their depths, at the places of a tree.
-use Rattle.std.proofs.Common.{◌≡◌, ℕ, zero, suc, ◌<◌, List, [], ◌∷◌, ◌++◌, length, replicate, refl, sym, ap, ◌∙◌, subst, append_assoc, Bool, true, false}
+use Rattle.std.proofs.Common.{◌≡◌, ℕ, List, [], ◌∷◌, ◌++◌, length, replicate, refl, sym, ap, ◌∙◌, subst, append_assoc, true}
 use Rattle.script_grammar.specs.Lexeme.{Lexeme}
-use Rattle.script_grammar.specs.Pieces.{Piece, At, Gap, Pass, Slot, Ending, Is, Fits, IsBalanced, may_omit, depths}
-use Rattle.pure_parser.specs.Parser.{head_of}
+use Rattle.script_grammar.specs.Pieces.{Piece, At, Gap, Pass, Is, Fits, IsBalanced, may_omit, depths}
 use Rattle.pure_parser.proofs.Friendly.{first_of}
-use Rattle.pure_parser.proofs.Fitting.{first_append}
 
 -- a lexeme, and how deep it is
 pub record Marked : Type 0 where
@@ -109,7 +107,8 @@ fits_standing (Pass ∷ ps) ts n h =
       marked = shallow_marks h.0 ++ r.marked;
       lexemes_are = lexemes_append (shallow_marks h.0) r.marked ∙ ap (λ x. x ++ lexemes r.marked) (shallow_lexemes h.0) ∙ ap (λ x. h.0 ++ x) r.lexemes_are ∙ sym h.2;
       depths_are = marks_append (shallow_marks h.0) r.marked ∙ ap (λ x. x ++ marks r.marked) (shallow_depths h.0) ∙ ap (λ x. replicate (length h.0) 0 ++ x) r.depths_are;
-      stands = (shallow_marks h.0, r.marked, refl, subst IsBalanced (sym (shallow_lexemes h.0)) h.3, are_shallow h.0, r.stands) }
+      stands = (shallow_marks h.0, r.marked, refl, subst IsBalanced (sym (shallow_lexemes h.0)) h.3, are_shallow h.0, r.stands);
+    }
 
 -- and those that stand there fit
 

@@ -1,5 +1,5 @@
 -- Lexemes that stand at places before a lexeme that follows them, as a record, so that the places are known from it.
-use Rattle.std.proofs.Common.{◌≡◌, ℕ, List, [], ◌∷◌, ◌++◌, refl, sym, ap, ◌∙◌, subst, append_assoc, append-nil, Bool, true, false}
+use Rattle.std.proofs.Common.{◌≡◌, List, [], ◌∷◌, ◌++◌, subst, false}
 use Rattle.script_grammar.specs.Lexeme.{Lexeme}
 use Rattle.script_grammar.specs.Pieces.{Piece, At, Slot, Fits, glue}
 use Rattle.pure_parser.proofs.Friendly.{first_of, Friendly}

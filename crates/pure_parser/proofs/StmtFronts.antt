@@ -1,5 +1,5 @@
 -- How a statement is told from its first lexemes: which parser of the chain reads it.
-use Rattle.std.proofs.Common.{◌≡◌, ℕ, zero, suc, List, [], ◌∷◌, ◌++◌, length, ◌<◌, refl, sym, ap, ◌∙◌, subst, arith, Bool, true, false, not, ◌&&◌, ◌||◌, Option, Some, None}
+use Rattle.std.proofs.Common.{◌≡◌, ℕ, suc, List, [], ◌∷◌, refl, ap, Bool, true, false, not, ◌||◌}
 use Rattle.script_grammar.specs.declared.token.Kind.{Kind}
 use Rattle.script_grammar.specs.declared.token.Kind.TheVariants as kind
 use Rattle.script_grammar.specs.declared.token.mark.TheConstants as mark
@@ -7,17 +7,17 @@ use Rattle.script_grammar.specs.declared.token.word.TheConstants as word
 use Rattle.script_grammar.specs.declared.token.Decl.{Decl}
 use Rattle.script_grammar.specs.declared.token.Decl.TheVariants as decl
 use Rattle.script_grammar.specs.Lexeme.{Lexeme}
-use Rattle.script_grammar.specs.Kinds.{is_mark, is_word, is_name, decl_word, is_end}
+use Rattle.script_grammar.specs.Kinds.{is_mark, is_word, is_name, decl_word}
 use Rattle.script_grammar.specs.Tree.{Stmt, Binds, Function, function}
 use Rattle.script_grammar.specs.Tree as tree
 use Rattle.script_grammar.specs.Pieces.{Bodies, Piece, At, Gap, Pass, Wanted, Exactly, AnyWord}
 use Rattle.script_grammar.specs.Print.{print, print_stmt}
-use Rattle.script_grammar.specs.Proper.{Proper, ProperStmt}
-use Rattle.pure_parser.specs.Parser.{Parser, Reply, Read, head_of, ret, bad, step, when}
+use Rattle.script_grammar.specs.Proper.{ProperStmt}
+use Rattle.pure_parser.specs.Parser.{Parser, head_of, ret, step, when}
 use Rattle.pure_parser.specs.Exprs.{begins_assign, begins_word, begins_mark}
 use Rattle.pure_parser.specs.Stmts as parser
 use Rattle.pure_parser.specs.Stmts.{Place, AnItem, AStmt, Block, is_item, is_inside, ends_items}
-use Rattle.pure_parser.proofs.Tests.{false_true, true_false, or_cases}
+use Rattle.pure_parser.proofs.Tests.{false_true, true_false}
 use Rattle.pure_parser.proofs.Completes.{of_kind, at_kind}
 use Rattle.pure_parser.proofs.ExprFronts.{OfKind, word_elim, mark_elim, Opens, opens_append, expr_opens}
 

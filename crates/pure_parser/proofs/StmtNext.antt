@@ -1,11 +1,11 @@
 -- More laws on what is read in front of a lexeme: a part that is a whole lexeme at the front, and lexemes in two parts.
-use Rattle.std.proofs.Common.{◌≡◌, ℕ, List, [], ◌∷◌, ◌++◌, refl, sym, ap, ◌∙◌, subst, append_assoc, append-nil, Bool, true, false}
+use Rattle.std.proofs.Common.{◌≡◌, List, [], ◌∷◌, ◌++◌, refl, sym, ap, ◌∙◌, subst, append_assoc}
 use Rattle.script_grammar.specs.Lexeme.{Lexeme}
-use Rattle.pure_parser.specs.Parser.{Recorded, Reply, Read, Bad, Deep, Parser, head_of, after, ret, bind, peek, put_before, noted}
-use Rattle.pure_parser.proofs.Friendly.{Spot, AtFront, Inside, Friendly, first_of, end_friendly}
+use Rattle.pure_parser.specs.Parser.{Recorded, Reply, Read, Bad, Deep, Parser, head_of, after, bind, noted}
+use Rattle.pure_parser.proofs.Friendly.{Spot, AtFront, Inside, Friendly, end_friendly}
 use Rattle.pure_parser.specs.Parser.{end_lexeme}
 use Rattle.pure_parser.proofs.Sound as plain
-use Rattle.pure_parser.proofs.SoundNext.{SoundNext, NextAt, Outcome, Took, Ended, Sunk, Starts, Past, Plain, Follows, stands, friendly, next_map}
+use Rattle.pure_parser.proofs.SoundNext.{SoundNext, Outcome, Starts, Past, Plain, stands, friendly, next_map}
 
 -- what was read in two parts
 pub past_assoc : {A : Type 0} {p : Spot} {f : Parser A} (R : List Lexeme → A → Lexeme → Type 0) (u v : List Lexeme) → SoundNext p (Past (u ++ v) R) f → SoundNext p (Past v (Past u R)) f
@@ -27,7 +27,8 @@ module _ {A B : Type 0} (E : List Lexeme → A → Type 0) (R : List Lexeme → 
     end = o.end;
     of = o.of;
     starts = tt;
-    is = λ n f. subst (λ x. R x o.of n) (sym (append_assoc (t ∷ w) o.front o.end)) (o.is n f) }
+    is = λ n f. subst (λ x. R x o.of n) (sym (append_assoc (t ∷ w) o.front o.end)) (o.is n f);
+  }
   behind (t ∷ w) ts us h e (Deep rs vs) o = record {
     front = (t ∷ w) ++ o.front;
     split = e ∙ ap (λ x. (t ∷ w) ++ x) o.split ∙ sym (append_assoc (t ∷ w) o.front vs);
@@ -36,7 +37,8 @@ module _ {A B : Type 0} (E : List Lexeme → A → Type 0) (R : List Lexeme → 
     first = o.first;
     end = o.end;
     of = o.of;
-    is = λ n f. subst (λ x. R x o.of n) (sym (append_assoc (t ∷ w) o.front (o.token ∷ o.end))) (o.is n f) }
+    is = λ n f. subst (λ x. R x o.of n) (sym (append_assoc (t ∷ w) o.front (o.token ∷ o.end))) (o.is n f);
+  }
 
   record Rest (w : List Lexeme) : Type 0 where
     end : List Lexeme

@@ -1,6 +1,5 @@
 -- Which lexemes go on with no expression, and what an unwritten semicolon says of the lexeme behind it.
-use Rattle.std.proofs.Common.{◌≡◌, ℕ, List, [], ◌∷◌, refl, sym, ap, ◌∙◌, subst, Bool, true, false, not, ◌&&◌, ◌||◌, if◌then◌else◌}
-use Rattle.script_grammar.specs.declared.token.Kind.{Kind}
+use Rattle.std.proofs.Common.{◌≡◌, refl, ap, Bool, true, false, not, ◌&&◌, ◌||◌, if◌then◌else◌}
 use Rattle.script_grammar.specs.declared.token.Kind.TheVariants as kind
 use Rattle.script_grammar.specs.declared.token.mark.TheConstants as mark
 use Rattle.script_grammar.specs.declared.token.word.TheConstants as word
@@ -8,10 +7,10 @@ use Rattle.script_grammar.specs.Lexeme.{Lexeme}
 use Rattle.script_grammar.specs.Kinds.{is_mark, is_word, is_end, is_whole, is_head, is_binary, is_update, is_assign_mark, is_arrow_form}
 use Rattle.script_grammar.specs.Tree.{Expr, Exprs, no_exprs, more_exprs, Operands, no_operands, more_operands, Function, function, Body}
 use Rattle.script_grammar.specs.Tree as tree
-use Rattle.script_grammar.specs.Pieces.{Ending, BracedArrow, Postfix, Operand, BareBinding, Keyword, DoWhile, may_omit, continues, continues_postfix, is_do_while}
+use Rattle.script_grammar.specs.Pieces.{Ending, BracedArrow, Postfix, Operand, BareBinding, Keyword, DoWhile, may_omit, continues, is_do_while}
 use Rattle.script_grammar.specs.Endings.{ending, last_ending, operands_ending, function_ending, body_ending}
-use Rattle.pure_parser.specs.Follow.{is_operator, goes_on, continues_assign, continues_expr}
-use Rattle.pure_parser.proofs.Tests.{false_true, true_false, mark_known, end_known, or_cases, neither_left, neither_right, not_true, and_left, and_right}
+use Rattle.pure_parser.specs.Follow.{continues_assign, continues_expr}
+use Rattle.pure_parser.proofs.Tests.{false_true, true_false, mark_known, end_known, or_cases, neither_right, not_true, and_left, and_right}
 use Rattle.pure_parser.proofs.Completes.{of_kind, at_kind}
 
 -- marks that go on with nothing
@@ -179,10 +178,10 @@ mutual
 pub omit_cases : {C : Type 0} (e : Ending) (t : Lexeme) → may_omit e t ≡ true → (is_mark mark.CLOSE_BRACE t.kind ≡ true → C) → (is_end t.kind ≡ true → C) → (is_do_while e ≡ true → C) → (t.after_line ≡ true → continues e t.kind ≡ false → C) → C
 omit_cases e t h brace ends loops line =
     or_cases (is_mark mark.CLOSE_BRACE t.kind || is_end t.kind || is_do_while e) (t.after_line && not (continues e t.kind)) (and_right (not (is_mark mark.SEMICOLON t.kind)) _ h)
-        (λ k. or_cases (is_mark mark.CLOSE_BRACE t.kind || is_end t.kind) (is_do_while e) k
-            (λ k. or_cases (is_mark mark.CLOSE_BRACE t.kind) (is_end t.kind) k brace ends)
-            loops)
-        (λ k. line (and_left t.after_line (not (continues e t.kind)) k) (not_true (continues e t.kind) (and_right t.after_line (not (continues e t.kind)) k)))
+    (λ k. or_cases (is_mark mark.CLOSE_BRACE t.kind || is_end t.kind) (is_do_while e) k
+    (λ k. or_cases (is_mark mark.CLOSE_BRACE t.kind) (is_end t.kind) k brace ends)
+    loops)
+    (λ k. line (and_left t.after_line (not (continues e t.kind)) k) (not_true (continues e t.kind) (and_right t.after_line (not (continues e t.kind)) k)))
 
 operand_line : (line paren bracket dot comma question binary whole head assign update arrow i : Bool) → line ≡ true → (paren || bracket || dot || (comma || question || binary) || whole || head || assign) ≡ false → (comma || (dot || bracket || paren || (binary && (true || i)) || question || assign || (update && not line) || (arrow && not line))) ≡ false
 operand_line true paren bracket dot comma question binary whole head assign update arrow i l h = operand_stops paren bracket dot comma question binary whole head assign update arrow i h

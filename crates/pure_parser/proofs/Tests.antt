@@ -1,9 +1,9 @@
 -- What tests of lexemes say.
-use Rattle.std.proofs.Common.{◌≡◌, ℕ, ◌||◌, ◌&&◌, not, Bool, true, false, refl, sym, ap, ◌∙◌, nat_eq, ◌⊎◌, inl, inr}
+use Rattle.std.proofs.Common.{◌≡◌, ℕ, ◌||◌, ◌&&◌, not, Bool, true, false, refl, ap, ◌⊎◌, inl, inr}
 use Rattle.std.proofs.lemmas.Bool.{eqb-true, eq-eqb}
 use Rattle.script_grammar.specs.declared.token.Kind.{Kind}
 use Rattle.script_grammar.specs.declared.token.Kind.TheVariants as kind
-use Rattle.script_grammar.specs.Kinds.{is_mark, is_word, is_name, is_number, is_str, is_whole, is_head, is_middle, is_tail, is_end, is_any_word}
+use Rattle.script_grammar.specs.Kinds.{is_mark, is_word, is_name, is_number, is_str, is_whole, is_head, is_middle, is_tail, is_end}
 
 pub false_true : false ≡ true → ⊥
 false_true e = cc

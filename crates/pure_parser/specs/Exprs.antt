@@ -3,21 +3,21 @@
 --
 -- Every function takes an `Env`: the calls that count for the depth, with one room less, and how a function's braced body
 -- is read. So the only recursion is `parts`, on the room that is left for depth.
-use Rattle.std.specs.Prelude.{ℕ, zero, suc, List, [], ◌∷◌, ◌++◌, Bool, true, false, if◌then◌else◌, nat_le, nat_eq, not, ◌&&◌, ◌||◌, Option, Some, None, is_none, is_some, length, take, ◌-◌}
+use Rattle.std.specs.Prelude.{ℕ, zero, suc, List, [], ◌∷◌, ◌++◌, Bool, true, false, if◌then◌else◌, nat_le, nat_eq, not, ◌&&◌, ◌||◌, Option, Some, None, is_none, length, take, ◌-◌}
 use Rattle.script_grammar.specs.declared.token.Kind.{Kind}
 use Rattle.script_grammar.specs.declared.token.Kind.TheVariants as kind
 use Rattle.script_grammar.specs.declared.token.mark.TheConstants as mark
 use Rattle.script_grammar.specs.declared.token.word.TheConstants as word
 use Rattle.script_grammar.specs.declared.token.FuncForm.{FuncForm}
 use Rattle.script_grammar.specs.declared.token.FuncForm.TheVariants as form
-use Rattle.script_grammar.specs.Lexeme.{Lexeme, get_role, set_role}
-use Rattle.script_grammar.specs.Kinds.{is_mark, is_word, is_name, is_number, is_str, is_whole, is_head, is_middle, is_tail, is_any_word, is_get, is_set, is_assign_mark, kind_level, is_prefix, is_update}
+use Rattle.script_grammar.specs.Lexeme.{Lexeme}
+use Rattle.script_grammar.specs.Kinds.{is_mark, is_word, is_name, is_number, is_str, is_head, is_middle, is_tail, is_any_word, is_get, is_set, is_assign_mark, kind_level, is_prefix, is_update}
 use Rattle.script_grammar.specs.Pieces.{Opener, paren, brace, open_behind}
 use Rattle.script_grammar.specs.Proper.{rank, left_rank, update_rank}
 use Rattle.script_grammar.specs.Tree.{Named, Expr, Tail, Key, Prop, Function, function, Body}
 use Rattle.script_grammar.specs.Tree as tree
 use Rattle.script_grammar.specs.TreeLists.{Args, Operand, Part, Param, exprs_of, maybe_args_of, parts_of, items_of, operands_of, tails_of, props_of, params_of}
-use Rattle.pure_parser.specs.Parser.{Recorded, Reply, Read, Bad, Deep, Parser, head_of, rest_of, after, ret, bad, deep, bind, peek, step, when, note, no_room, Turn, Again, Stop, Many, stopped, begun, loop, led}
+use Rattle.pure_parser.specs.Parser.{Reply, Read, Bad, Deep, Parser, head_of, rest_of, ret, bad, bind, peek, step, when, note, no_room, Turn, Again, Stop, Many, stopped, loop, led}
 
 -- What a call that counts for the depth reads: an AssignmentExpression, with or without the operator `in`; a prefix operator
 -- and its operand; `new` and what belongs to it; a parameter in an arrow's parentheses; a rest parameter there.

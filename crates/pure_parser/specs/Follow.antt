@@ -1,6 +1,6 @@
 -- Which lexemes end what was read: none of them goes on with an expression of this ending. This is this project's own
 -- choice of words; the sets are those of the grammar (ECMA-262, 12th edition, clauses 13.2 to 13.16).
-use Rattle.std.specs.Prelude.{ℕ, Bool, true, false, not, ◌&&◌, ◌||◌}
+use Rattle.std.specs.Prelude.{Bool, false, not, ◌&&◌, ◌||◌}
 use Rattle.script_grammar.specs.declared.token.Kind.{Kind}
 use Rattle.script_grammar.specs.declared.token.mark.TheConstants as mark
 use Rattle.script_grammar.specs.declared.token.word.TheConstants as word

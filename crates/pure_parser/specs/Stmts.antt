@@ -20,7 +20,7 @@ use Rattle.script_grammar.specs.Tree.{Named, Expr, Init, Each, Stmt, Stmts, Func
 use Rattle.script_grammar.specs.Tree as tree
 use Rattle.script_grammar.specs.TreeLists.{Bind, Clause, Param, maybe_expr_of, maybe_stmt_of, binds_of, stmts_of, clauses_of}
 use Rattle.pure_parser.specs.Parser.{Parser, ret, bad, bind, peek, step, when, no_room, Turn, Again, Stop, Many, stopped, loop, led}
-use Rattle.pure_parser.specs.Exprs.{Call, AnAssign, AParam, ARest, Calls, Env, BodyParser, BodyRead, Head, ParamsEnd, Plain, Trailing, Spanned, begins_assign, expect, name_of, named, peek_two, expr_of, maybe_name, function_of, function_case, head_case, params_led, rest_stop, again, bare_head, arrow_mark, is_simple, spanned, short_body, calls, no_calls, call_case}
+use Rattle.pure_parser.specs.Exprs.{AnAssign, AParam, ARest, Calls, Env, BodyParser, BodyRead, Head, ParamsEnd, Plain, Trailing, begins_assign, expect, name_of, named, peek_two, expr_of, function_of, function_case, head_case, params_led, rest_stop, again, bare_head, arrow_mark, is_simple, spanned, short_body, no_calls, call_case}
 
 -- What a call for a statement reads: an item of a list of statements, or a statement that stands alone, as a loop's body;
 -- the flag says whether a `return` may stand there.

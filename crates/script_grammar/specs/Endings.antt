@@ -28,7 +28,7 @@ abbrev mutual
   operands_ending e (more_operands op is_word value rest) = operands_ending (ending value) rest
 
   pub function_ending : Function → Ending
-  function_ending (function form start end name params comma bare body) = if is_arrow_form form then body_ending body else Operand
+  function_ending (function form start end name _ comma bare body) = if is_arrow_form form then body_ending body else Operand
 
   pub body_ending : Body → Ending
   body_ending (BracedBody items) = BracedArrow

@@ -2,12 +2,12 @@
 use Rattle.std.proofs.Common.{◌≡◌, ℕ, ◌+◌, ◌≤◌, ◌<◌, List, [], ◌∷◌, ◌++◌, length, take, drop, refl, sym, ◌∙◌, ap, subst, true, map, append_assoc, append-nil, arith, length-append, take-append-drop, inl, inr}
 use Rattle.std.proofs.lemmas.Bool.{cases_order}
 use Rattle.std.proofs.Math.Seq.{take-length, take-append_seam}
-use Rattle.std.proofs.lemmas.List.{length-take-le}
+use Rattle.std.proofs.lemmas.List.{length-map, length-take-le}
 use Rattle.std.specs.Char.{len_utf8}
 use Rattle.std.specs.Str.{IsUtf8, IsValidUpTo, chars, all_scalars, encode_utf8_all}
 use Rattle.std.specs.Str.Lossy.{utf8_valid_len}
 use Rattle.std.specs.Char.{encode_utf8}
-use Rattle.std.proofs.lemmas.Str.{chars_past_char, IsUtf8-past_char, length-encode, len_utf8_bounds, chars-nil, encodes-chars, scalars-chars, utf8_valid_len-IsUtf8, utf8_valid_len-IsValidUpTo}
+use Rattle.std.proofs.lemmas.Str.{length-le-encodes, chars_past_char, IsUtf8-past_char, length-encode, len_utf8_bounds, chars-nil, encodes-chars, scalars-chars, utf8_valid_len-IsUtf8, utf8_valid_len-IsValidUpTo}
 use Rattle.unit_text.specs.declared.Point.{Point}
 use Rattle.unit_text.specs.Points.{points_from, codes_of, code_of, points, LieEndToEnd, SpellLongestFront}
 
@@ -128,3 +128,11 @@ points_spell bs text made same u is =
 -- they lie end to end
 pub points_lie : (cs : List ℕ) (made : List Point) → made ≡ points_from 0 cs → LieEndToEnd 0 made
 points_lie cs made is = subst (λ (ps : List Point). LieEndToEnd 0 ps) (sym is) (points_from_end_to_end 0 cs)
+
+-- there are no more of them than bytes
+pub points_few : (bs text : List ℕ) (made : List Point) → text ≡ bs → IsUtf8 bs → made ≡ points_from 0 (chars text) → length made ≤ length bs
+points_few bs text made same u is =
+    let codes : map code_of made ≡ chars bs = ap (map code_of) is ∙ codes_of-points_from 0 (chars text) ∙ ap chars same in
+    let count : length made ≡ length (chars bs) = sym (length-map made code_of) ∙ ap length codes in
+    let spelled : length (encode_utf8_all (chars bs)) ≡ length bs = ap length (encodes-chars bs u) in
+    omega (arith, count, spelled, length-le-encodes (chars bs))

@@ -62,6 +62,7 @@ pub fn decode(alloc: Global, bytes: &[u8]) -> Result<Vec<Point>, DecodeFault>
     ensures utf8 { OnOk result (IsUtf8 bytes.now) }
     ensures spelled { IfOk result (λ ps. encode_utf8_all (map code_of ps.items) ≡ bytes.now) }
     ensures end_to_end { IfOk result (λ ps. LieEndToEnd 0 ps.items) }
+    ensures few { IfOk result (λ ps. length ps.items ≤ length bytes.now) }
     ensures fault { IfErr result (IsFaultOf bytes.now) }
     ensures longest { SpellLongestFront bytes.now (codes_of bytes.now) }
 {
@@ -100,13 +101,22 @@ fn points_of(alloc: Global, text: &str) -> Result<Vec<Point>, AllocError>
 /// The UTF-16 units of a code point, in the first places, and how many they are: 1 or 2
 /// (ECMA-262, 12th edition, clause 11.1.1).
 pub fn units_of(code: char) -> ([u16; 2], u8)
-    ensures { take result.1 result.0 ≡ code_units code }
+    ensures value { take result.1 result.0 ≡ code_units code }
+    ensures count { result.1 ≤ 2 }
 {
-    let number = code as u32;
-    if number <= 0xFFFF {
-        return ([number as u16, 0], 1);
+    units_of_value(code as u32)
+}
+
+/// The same, of a number of at most 10FFFF, which may be that of a surrogate.
+pub fn units_of_value(code: u32) -> ([u16; 2], u8)
+    requires { code ≤ 0x10_FFFF }
+    ensures value { take result.1 result.0 ≡ code_units code }
+    ensures count { result.1 ≤ 2 }
+{
+    if code <= 0xFFFF {
+        return ([code as u16, 0], 1);
     }
-    let offset = number - 0x1_0000;
+    let offset = code - 0x1_0000;
     let high = offset / 0x400 + 0xD800;
     let low = offset % 0x400 + 0xDC00;
     ([high as u16, low as u16], 2)

@@ -1,4 +1,4 @@
-use Rattle.unit_text.proofs.Decoding.{points-utf8, points_spell, points_lie, spell_longest_utf8, spell_longest_fault}
+use Rattle.unit_text.proofs.Decoding.{points-utf8, points_spell, points_few, points_lie, spell_longest_utf8, spell_longest_fault}
 use Rattle.unit_text.proofs.decode.Goals as goal
 
 pub returns-in_err-points_of-in-Ok-clause-longest : goal.returns-in_err-points_of-in-Ok-clause-longest
@@ -23,3 +23,7 @@ returns-in_ok-points_of-in-Ok-clause-longest c = spell_longest_utf8 c.args.bytes
 
 pub returns-in-Err-clause-longest : goal.returns-in-Err-clause-longest
 returns-in-Err-clause-longest c = spell_longest_fault c.args.bytes.now _ c.in-Err.ensures.cases.1
+
+pub returns-in_ok-points_of-in-Ok-clause-few : goal.returns-in_ok-points_of-in-Ok-clause-few
+returns-in_ok-points_of-in-Ok-clause-few c =
+    points_few c.args.bytes.now _ _ c.in-Ok.ensures.cases.0 c.in-Ok.ensures.cases.1 c.in_ok-points_of-in-Ok.ensures

@@ -1,4 +1,4 @@
-use Rattle.std.proofs.Common.{◌≡◌, ◌<◌, ◌≤◌, ◌+◌, [], ◌∷◌, length, rules, refl, ap, sym, ◌∙◌, arith, length-append}
+use Rattle.std.proofs.Common.{◌<◌, ◌≤◌, [], ◌∷◌, length, rules, refl, ap, arith, length-append}
 use Rattle.helper_tasks.proofs.Crewing.{hire_share, hire_hired, hire_rest, hire_done, hire_all}
 use Rattle.helper_tasks.proofs.crew.hire.Goals as goal
 

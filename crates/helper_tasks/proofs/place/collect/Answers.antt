@@ -1,4 +1,4 @@
-use Rattle.std.proofs.Common.{◌≡◌, ◌<◌, length, rules, refl, ap, sym, ◌∙◌, subst}
+use Rattle.std.proofs.Common.{◌≡◌, ◌<◌, length, ap, sym, ◌∙◌, subst}
 use Rattle.helper_tasks.specs.Count.{Each}
 use Rattle.helper_tasks.specs.Crew.{placed}
 use Rattle.helper_tasks.proofs.Placing.{collect_slots, collect_tasks, collect_shares}

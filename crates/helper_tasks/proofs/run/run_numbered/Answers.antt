@@ -1,4 +1,3 @@
-use Rattle.std.proofs.Common.{◌≡◌, ◌<◌, length, map, refl, ap, sym, ◌∙◌, arith}
 use Rattle.helper_tasks.proofs.Placing.{tasks_below, slots_filled}
 use Rattle.helper_tasks.proofs.Finishing.{order_within, all_start, all_done, done_ready, made_given, run_once, run_looking, run_lists, answer_outs, answer_count, answer_shares, answer_lists}
 use Rattle.helper_tasks.proofs.run.run_numbered.Goals as goal

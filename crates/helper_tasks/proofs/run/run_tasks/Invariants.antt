@@ -1,4 +1,3 @@
-use Rattle.std.proofs.Common.{length}
 use Rattle.helper_tasks.proofs.run.run_tasks.Given as goal
 
 -- the rule's bound is the number of tasks

@@ -1,4 +1,4 @@
-use Rattle.std.proofs.Common.{◌≡◌, [], length, rules, refl, ap, sym, ◌∙◌}
+use Rattle.std.proofs.Common.{refl, ap, sym, ◌∙◌}
 use Rattle.helper_tasks.specs.Hands.{places}
 use Rattle.helper_tasks.proofs.Counts.{no_items}
 use Rattle.helper_tasks.proofs.Settling.{from, back_step, look_here, from_end}

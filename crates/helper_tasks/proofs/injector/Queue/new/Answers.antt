@@ -1,4 +1,3 @@
-use Rattle.std.proofs.Common.{rules}
 use Rattle.helper_tasks.proofs.Steps.{begins}
 use Rattle.helper_tasks.proofs.injector.Queue.new.Goals as goal
 

@@ -1,8 +1,8 @@
-use Rattle.std.proofs.Common.{◌≡◌, ℕ, ◌+◌, ◌++◌, List, [], length, map, rules, refl, ap, sym, ◌∙◌, subst, arith, length-append, ◌∷◌}
+use Rattle.std.proofs.Common.{◌++◌, [], length, map, ap, sym, ◌∙◌, subst, arith, length-append, ◌∷◌}
 use Rattle.std.proofs.lemmas.List.{append-nil}
-use Rattle.helper_tasks.specs.Count.{times, total}
+use Rattle.helper_tasks.specs.Count.{total}
 use Rattle.helper_tasks.specs.Desks.{Lists}
-use Rattle.helper_tasks.specs.Crew.{Paired, desk_of, fetched, popped, left_by, ran_at}
+use Rattle.helper_tasks.specs.Crew.{Paired, desk_of, fetched, popped, left_by}
 use Rattle.helper_tasks.proofs.Counts.{no_items}
 use Rattle.helper_tasks.proofs.Settling.{dismiss_paired, dismiss_fits, dismiss_ran, dismiss_fetched, dismiss_parts, dismiss_pushed, dismiss_order, dismiss_some}
 use Rattle.helper_tasks.proofs.workplace.Workplace.dismiss.Goals as goal

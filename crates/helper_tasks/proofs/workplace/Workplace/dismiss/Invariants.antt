@@ -16,6 +16,6 @@ invariant-loop-helper g l =
     × Each (InOrder (g.J.Job.fits l.self.job.now) (g.J.Job.gives l.self.job.now)) l.desks.items
     × ((starts : List (List ℕ)) → Paired (Lists g.J.Job.ran) starts (map desk_of l.fn.helpers.items) → Paired (Lists g.J.Job.ran) starts (l.desks.items ++ map desk_of l.helper-iterator.rest.items))
     × ((x : ℕ) → total (ran_at x) l.desks.items + total (popped x) l.fn.helpers.items + total (left_by x) l.helper-iterator.rest.items
-        ≡ total (left_by x) l.fn.helpers.items + total (popped x) l.helper-iterator.rest.items)
+    ≡ total (left_by x) l.fn.helpers.items + total (popped x) l.helper-iterator.rest.items)
     × (0 < l.all.dealt.parts)
     × (length l.desks.items + length l.helper-iterator.rest.items ≡ length l.fn.helpers.items)

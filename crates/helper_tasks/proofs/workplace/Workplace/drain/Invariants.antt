@@ -1,4 +1,3 @@
-use Rattle.std.proofs.Common.{◌≡◌}
 use Rattle.helper_tasks.specs.Crew.{Drained}
 use Rattle.helper_tasks.proofs.workplace.Workplace.drain.Given as goal
 

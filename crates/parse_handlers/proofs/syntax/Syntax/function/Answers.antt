@@ -1,4 +1,4 @@
-use Rattle.std.proofs.Common.{◌≡◌, ◌∙◌, ◌++◌, ◌∷◌, [], ap}
+use Rattle.std.proofs.Common.{◌∙◌, ◌++◌, ◌∷◌, [], ap}
 use Rattle.std.specs.List.{flat_map}
 use Rattle.parse_handlers.specs.FoundOf.{found_of, founds_before}
 use Rattle.parse_handlers.specs.Held.{held_param, held_body}

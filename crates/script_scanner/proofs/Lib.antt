@@ -1,0 +1,11 @@
+-- Lemmas of the scanner.
+pub mod BlankLemmas
+pub mod Lists
+pub mod MarkLemmas
+pub mod NumberLemmas
+pub mod PartLemmas
+pub mod PieceLemmas
+pub mod OrderLemmas
+pub mod Rows
+pub mod ScanLemmas
+pub mod WordLemmas

@@ -1,0 +1,83 @@
+-- Lists seen through a function of their items, and from a place on.
+use Rattle.std.proofs.Common.{◌≡◌, ℕ, ◌+◌, ◌<◌, ◌≤◌, zero, suc, List, [], ◌∷◌, ◌++◌, map, length, take, drop, Bool, true, false, cond, refl, sym, ◌∙◌, ap, subst, arith, add-one, add-zero, add-suc, add_comm, ◌≢◌, inl, inr}
+use Rattle.std.specs.Prelude.{◌||◌, ◌&&◌, ◌==◌, fold, filter, find, Option, Some, None, IfSome}
+use Rattle.std.proofs.lemmas.Bool.{cases_Bool, eqb-true}
+use Rattle.std.specs.List.{prefix_len, list_any, list_all, AllByRecursion}
+
+module _ {A B : Type 0} where
+  -- the longest front whose items pass a test
+  pub prefix_len_map : (p : B → Bool) (f : A → B) (xs : List A) → prefix_len p (map f xs) ≡ prefix_len (λ x. p (f x)) xs
+  prefix_len_map p f [] = refl
+  prefix_len_map p f (x ∷ xs) = ap (λ n. cond (p (f x)) (1 + n) 0) (prefix_len_map p f xs)
+
+  -- whether some item passes
+  pub list_any_map : (p : B → Bool) (f : A → B) (xs : List A) → list_any p (map f xs) ≡ list_any (λ x. p (f x)) xs
+  list_any_map p f [] = refl
+  list_any_map p f (x ∷ xs) = ap (λ b. p (f x) || b) (list_any_map p f xs)
+
+  -- a fold
+  pub fold_map : {C : Type 0} (g : C → B → C) (f : A → B) (c : C) (xs : List A) → fold g c (map f xs) ≡ fold (λ r x. g r (f x)) c xs
+  fold_map g f c [] = refl
+  fold_map g f c (x ∷ xs) = fold_map g f (g c (f x)) xs
+
+  -- a front and a rest
+  pub map_take : (f : A → B) (n : ℕ) (xs : List A) → map f (take n xs) ≡ take n (map f xs)
+  map_take f zero xs = refl
+  map_take f (suc n) [] = refl
+  map_take f (suc n) (x ∷ xs) = ap (λ ys. f x ∷ ys) (map_take f n xs)
+
+  pub map_drop : (f : A → B) (n : ℕ) (xs : List A) → map f (drop n xs) ≡ drop n (map f xs)
+  map_drop f zero xs = refl
+  map_drop f (suc n) [] = refl
+  map_drop f (suc n) (x ∷ xs) = map_drop f n xs
+
+-- numbers that differ fail the test
+pub not_equal : (a b : ℕ) → a ≢ b → (a == b) ≡ false
+not_equal a b ne = elim (cases_Bool (a == b)) as (λ _. (a == b) ≡ false) [ inl y ↦ absurd (ne (eqb-true a b y)) | inr n ↦ n ]
+
+pub and_left : (a b : Bool) → a && b ≡ true → a ≡ true
+and_left true b e = refl
+and_left false b e = e
+
+pub and_right : (a b : Bool) → a && b ≡ true → b ≡ true
+and_right true b e = e
+and_right false b e = cc
+
+module _ {X : Type 0} where
+  -- a rest of a rest
+  pub drop_drop : (n m : ℕ) (xs : List X) → drop (n + m) xs ≡ drop m (drop n xs)
+  drop_drop zero m xs = ap (λ k. drop k xs) (let e : zero + m ≡ m = omega arith in e)
+  drop_drop (suc n) zero xs = ap (λ k. drop k xs) (add-zero (suc n))
+  drop_drop (suc n) (suc m) [] = ap (λ k. drop k []) (let e : suc n + suc m ≡ suc (suc n + m) = omega arith in e)
+  drop_drop (suc n) (suc m) (x ∷ xs) = ap (λ k. drop k (x ∷ xs)) (let e : suc n + suc m ≡ suc (n + suc m) = omega arith in e) ∙ drop_drop n (suc m) xs
+
+  -- the item at a place, and the rest behind it
+  pub place_in : (xs : List X) (i : ℕ) → i < length xs → (x : X) × (rest : List X) × (drop i xs ≡ x ∷ rest) × (drop (i + 1) xs ≡ rest)
+  place_in [] i h = absurd (omega (arith, h))
+  place_in (x ∷ xs) zero h = (x, xs, refl, refl)
+  place_in (x ∷ xs) (suc i) h = let (y, rest, here, next) = place_in xs i (omega (arith, h)) in
+      (y, rest, here, ap (λ k. drop k (x ∷ xs)) (let e : suc i + 1 ≡ suc (i + 1) = omega arith in e) ∙ next)
+
+  -- what passes one test is sought among what passes another, where nothing else passes the one
+  pub find_filter : (p q ok : X → Bool) (xs : List X) → list_all ok xs ≡ true → ((x : X) → ok x ≡ true → q x ≡ false → p x ≡ false) → find p xs ≡ find p (filter q xs)
+  find_filter p q ok [] all only = refl
+  find_filter p q ok (x ∷ xs) all only =
+      let here : ok x ≡ true = and_left (ok x) (list_all ok xs) all in
+      let rest : find p xs ≡ find p (filter q xs) = find_filter p q ok xs (and_right (ok x) (list_all ok xs) all) only in
+      elim (cases_Bool (q x)) as (λ _. find p (x ∷ xs) ≡ find p (filter q (x ∷ xs))) [
+        | inl y ↦ ap (λ (o : Option X). cond (p x) (Some x) o) rest ∙ ap (λ (b : Bool). find p (cond b (x ∷ filter q xs) (filter q xs))) (sym y)
+        | inr n ↦ ap (λ (b : Bool). cond b (Some x) (find p xs)) (only x here n) ∙ rest ∙ ap (λ (b : Bool). find p (cond b (x ∷ filter q xs) (filter q xs))) (sym n)
+      ]
+
+  -- nothing passes a test
+  pub filter_none : (q : X → Bool) (xs : List X) → AllByRecursion (λ x. q x ≡ false) xs → filter q xs ≡ []
+  filter_none q [] all = refl
+  filter_none q (x ∷ xs) all = ap (λ (b : Bool). cond b (x ∷ filter q xs) (filter q xs)) all.0 ∙ filter_none q xs all.1
+
+  -- what is found passes the test, and what all items pass
+  pub find_satisfies : (p ok : X → Bool) (xs : List X) → list_all ok xs ≡ true → IfSome (find p xs) (λ x. (p x ≡ true) × (ok x ≡ true))
+  find_satisfies p ok [] all = tt
+  find_satisfies p ok (x ∷ xs) all = elim (cases_Bool (p x)) as (λ _. IfSome (find p (x ∷ xs)) (λ y. (p y ≡ true) × (ok y ≡ true))) [
+    | inl y ↦ subst (λ (b : Bool). IfSome (cond b (Some x) (find p xs)) (λ z. (p z ≡ true) × (ok z ≡ true))) (sym y) (y, and_left (ok x) (list_all ok xs) all)
+    | inr n ↦ subst (λ (b : Bool). IfSome (cond b (Some x) (find p xs)) (λ z. (p z ≡ true) × (ok z ≡ true))) (sym n) (find_satisfies p ok xs (and_right (ok x) (list_all ok xs) all))
+  ]

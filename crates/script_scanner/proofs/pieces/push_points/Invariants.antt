@@ -1,0 +1,8 @@
+use Rattle.std.proofs.Common.{◌≡◌, ◌++◌, drop, map}
+use Rattle.unit_text.specs.Points.{code_of}
+use Rattle.unit_text.specs.Units.{text_units}
+use Rattle.script_scanner.proofs.pieces.push_points.Given as goal
+
+-- the units of the points so far, and those of the rest, are those of the points
+abbrev pub invariant-loop-point : goal.invariant-loop-point
+invariant-loop-point l = l.units.items ++ text_units (map code_of (drop l.point-index l.points)) ≡ l.initial.units.items ++ text_units (map code_of l.points)

@@ -1,0 +1,137 @@
+//! Strings and template parts.
+ghost use Rattle.std.specs.Prelude.{◌≡◌, ◌≤◌, ◌<◌, ◌+◌, ◌++◌, length, map, IfOk, IfSome, OnOk, take};
+ghost use Rattle.unit_text.specs.Points.{code_of};
+ghost use Rattle.unit_text.specs.Units.{code_units};
+ghost use Rattle.script_scanner.specs.Parts.{string_step, template_step, step_at, body_of};
+ghost use Rattle.script_scanner.specs.Fits.{StepFits};
+ghost use Rattle.script_scanner.specs.Reads.{ReadsBody};
+
+use crate::blanks::{begins, line_end_length};
+use crate::escapes::{Step, escape_step};
+use crate::points::behind;
+use std::alloc::AllocError;
+use unit_text::{Point, units_of_value};
+
+/// How a string or a template part ends.
+#[derive(Clone, Copy, Debug, PartialEq, Eq)]
+pub enum Ending {
+    /// At this quote.
+    Quote(char),
+    /// At a backquote or a `${`.
+    Template,
+}
+
+/// What was read of a string or a template part: its units are in a buffer.
+#[derive(Clone, Copy, Debug, PartialEq, Eq)]
+pub struct Extent {
+    /// How many code points stand before its end.
+    pub inner: usize,
+    /// How many code points its end takes.
+    pub closing: usize,
+}
+
+/// What the code points at the front of a string's rest do.
+fn string_step(quote: char, rest: &[Point]) -> Step
+    ensures value { result ≡ string_step quote (map code_of rest.now) }
+    ensures fits { StepFits (length rest.now) result }
+{
+    match rest.split_first() {
+        None => Step::Break,
+        Some((first, others)) => {
+            let code = first.code;
+            if code == quote {
+                Step::Close { length: 1 }
+            } else if code == '\\' {
+                escape_step(others)
+            } else if (code == '\n') | (code == '\r') {
+                Step::Break
+            } else {
+                Step::Add {
+                    code: code as u32,
+                    length: 1,
+                }
+            }
+        }
+    }
+}
+
+/// What the code points at the front of a template part's rest do.
+fn template_step(rest: &[Point]) -> Step
+    ensures value { result ≡ template_step (map code_of rest.now) }
+    ensures fits { StepFits (length rest.now) result }
+{
+    match rest.split_first() {
+        None => Step::Break,
+        Some((first, others)) => {
+            let code = first.code;
+            if code == '`' {
+                Step::Close { length: 1 }
+            } else if code == '$' && begins(others, b"{") {
+                Step::Close { length: 2 }
+            } else if code == '\\' {
+                escape_step(others)
+            } else if code == '\r' {
+                Step::Add {
+                    code: 0xA,
+                    length: line_end_length(rest),
+                }
+            } else {
+                Step::Add {
+                    code: code as u32,
+                    length: 1,
+                }
+            }
+        }
+    }
+}
+
+/// The steps of a string or of a template part.
+fn step_at(ending: Ending, rest: &[Point]) -> Step
+    ensures value { result ≡ step_at ending (map code_of rest.now) }
+    ensures fits { StepFits (length rest.now) result }
+{
+    match ending {
+        Ending::Quote(quote) => string_step(quote, rest),
+        Ending::Template => template_step(rest),
+    }
+}
+
+/// Appends the units of a code point or a lone surrogate.
+pub fn push_code(units: &mut Vec<u16>, code: u32) -> Result<(), AllocError>
+    requires { code ≤ 0x10_FFFF }
+    ensures { OnOk result (units.new.items ≡ units.old.items ++ code_units code) }
+{
+    let (pair, count) = units_of_value(code);
+    units.extend_from_slice(&pair[..usize::from(count)])?;
+    Ok(())
+}
+
+/// Reads a string or a template part behind what begins it, and leaves its units in the buffer.
+pub fn read_body(
+    ending: Ending,
+    rest: &[Point],
+    units: &mut Vec<u16>,
+) -> Result<Option<Extent>, AllocError>
+    ensures value { IfOk result (λ extent. ReadsBody (body_of ending (map code_of rest.now)) extent units.new.items) }
+    ensures within { IfOk result (λ o. IfSome o (λ extent. extent.inner + extent.closing ≤ length rest.now)) }
+{
+    units.clear();
+    let mut at = 0;
+    while at < rest.len() {
+        match step_at(ending, behind(rest, at)) {
+            Step::Add { code, length } => {
+                push_code(units, code)?;
+                at += length;
+            }
+            Step::Skip { length } => at += length,
+            Step::Close { length } => {
+                return Ok(Some(Extent {
+                    inner: at,
+                    closing: length,
+                }));
+            }
+            Step::Break => return Ok(None),
+        }
+    }
+    Ok(None)
+}

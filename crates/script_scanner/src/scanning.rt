@@ -1,0 +1,318 @@
+//! The tokens of a text, one after the other.
+ghost use Rattle.std.specs.Prelude.{◌≡◌, ◌≤◌, ◌<◌, ◌+◌, ◌-◌, ◌^◌, ◌++◌, ℕ, suc, List, [], true, false, nat_lt, length, map, drop, IfOk, OnOk, OnErr, Some, ◌∷◌};
+ghost use Rattle.unit_text.specs.Points.{code_of, LieEndToEnd};
+ghost use Rattle.std.specs.List.Sorted.{IsPartitionPoint, IsNonDecreasingBy};
+ghost use Rattle.script_scanner.specs.Order.{AreInOrder};
+ghost use Rattle.script_scanner.specs.Braces.{in_substitution};
+ghost use Rattle.script_scanner.specs.Tokens.{braces_after, last_token, place, tokens, tokens_within, without_first_line, part};
+ghost use Rattle.script_scanner.specs.Stands.{StandFor, StandsFor, GainsOnly, Keeps};
+ghost use Rattle.script_scanner.specs.Advances.{Advances, TakesValue, TakesToken, EndsWith};
+
+use crate::blanks::{blank_at, first_line_length};
+use crate::braces::Brace;
+use crate::pieces::{Content, Found, token_at};
+use crate::points::{behind, front};
+use parser_atoms::Atoms;
+use script_grammar::token::{Kind, Token, mark};
+use std::alloc::{AllocError, Global};
+use unit_text::Point;
+
+/// The offset at which points begin, of a part of a text that ends at `to`.
+fn place(to: u32, rest: &[Point]) -> u32
+    ensures { result ≡ place to rest.now }
+{
+    match rest.split_first() {
+        None => to,
+        Some((first, _)) => first.start,
+    }
+}
+
+/// Whether the innermost open brace is that of a `${`.
+fn in_substitution(braces: &[Brace]) -> bool
+    ensures { result ≡ in_substitution braces.now }
+{
+    match braces.last() {
+        None => false,
+        Some(Brace::Block) => false,
+        Some(Brace::Substitution) => true,
+    }
+}
+
+/// Opens and closes what a token opens and closes.
+fn update_braces(braces: &mut Vec<Brace>, kind: Kind) -> Result<(), AllocError>
+    ensures { OnOk result (braces.new.items ≡ braces_after braces.old.items kind) }
+{
+    match kind {
+        Kind::Mark(index) => {
+            if index == mark::OPEN_BRACE {
+                braces.push(Brace::Block)?;
+            } else if index == mark::CLOSE_BRACE {
+                braces.pop();
+            }
+            Ok(())
+        }
+        Kind::TemplateHead => {
+            braces.push(Brace::Substitution)?;
+            Ok(())
+        }
+        Kind::TemplateMiddle => {
+            braces.pop();
+            braces.push(Brace::Substitution)?;
+            Ok(())
+        }
+        Kind::TemplateTail => {
+            braces.pop();
+            Ok(())
+        }
+        Kind::Name
+        | Kind::Number
+        | Kind::Str
+        | Kind::TemplateWhole
+        | Kind::Word(_)
+        | Kind::Bad
+        | Kind::End => Ok(()),
+    }
+}
+
+/// The number by which a token has its text or its value: a text is interned.
+fn value_of(
+    alloc: Global,
+    content: Content,
+    units: &[u16],
+    atoms: &mut Atoms,
+) -> Result<u64, AllocError>
+    requires { length atoms.old < 2 ^ 32 - 1 }
+    ensures value { IfOk result (TakesValue content units.now atoms.old atoms.new) }
+    ensures err { OnErr result (atoms.new ≡ atoms.old) }
+{
+    match content {
+        Content::Units => {
+            let atom = atoms.intern(alloc, units)?;
+            Ok(u64::from(atom))
+        }
+        Content::Number(value) => Ok(value),
+        Content::Nothing => Ok(0),
+    }
+}
+
+/// The last token.
+fn last_token(rest: &[Point], to: u32, after_line: bool) -> Token
+    ensures { (texts : List (List ℕ)) → StandsFor texts result (last_token to after_line rest.now) }
+{
+    match rest.split_first() {
+        None => Token {
+            kind: Kind::End,
+            value: 0,
+            start: to,
+            end: to,
+            after_line,
+        },
+        Some((first, _)) => Token {
+            kind: Kind::Bad,
+            value: 0,
+            start: first.start,
+            end: first.start,
+            after_line,
+        },
+    }
+}
+
+/// A scan: the tokens so far and what the next one depends on.
+#[derive(Drop)]
+struct Scanner {
+    tokens: Vec<Token>,
+    braces: Vec<Brace>,
+    /// Whether a line end stands behind the last token.
+    after_line: bool,
+    /// The units of the token that was read last.
+    units: Vec<u16>,
+}
+
+impl Scanner {
+    fn new(alloc: Global) -> Scanner
+        ensures tokens { result.tokens.items ≡ [] }
+        ensures braces { result.braces.items ≡ [] }
+        ensures after_line { result.after_line ≡ false }
+    {
+        Scanner {
+            tokens: Vec::new(alloc),
+            braces: Vec::new(alloc),
+            after_line: false,
+            units: Vec::new(alloc),
+        }
+    }
+
+    /// Takes the token that was found, whose units are in the buffer; answers how many code points it takes.
+    fn take(
+        &mut self,
+        alloc: Global,
+        found: Found,
+        rest: &[Point],
+        to: u32,
+        atoms: &mut Atoms,
+    ) -> Result<usize, AllocError>
+        requires few { length atoms.old < 2 ^ 32 - 1 }
+        requires within { found.length ≤ length rest.now }
+        ensures taken { IfOk result (λ taken. taken ≡ found.length) }
+        ensures value { OnOk result (TakesToken to rest.now found self.old self.new atoms.old atoms.new) }
+        ensures keeps { Keeps atoms.old atoms.new }
+    {
+        let value = value_of(alloc, found.content, self.units.as_slice(), atoms)?;
+        self.tokens.push(Token {
+            kind: found.kind,
+            value,
+            start: place(to, rest),
+            end: place(to, behind(rest, found.length)),
+            after_line: self.after_line,
+        })?;
+        update_braces(&mut self.braces, found.kind)?;
+        self.after_line = false;
+        Ok(found.length)
+    }
+
+    /// Takes the last token.
+    fn finish(&mut self, rest: &[Point], to: u32) -> Result<usize, AllocError>
+        ensures taken { IfOk result (λ taken. taken ≡ 0) }
+        ensures value { OnOk result (EndsWith (last_token to self.old.after_line rest.now) self.old.tokens.items self.new.tokens.items) }
+    {
+        self.tokens.push(last_token(rest, to, self.after_line))?;
+        Ok(0)
+    }
+
+    /// Skips a blank or takes a token at the front; answers how many code points that is, and 0 after the last token.
+    fn step(
+        &mut self,
+        alloc: Global,
+        rest: &[Point],
+        to: u32,
+        atoms: &mut Atoms,
+    ) -> Result<usize, AllocError>
+        requires { length atoms.old < 2 ^ 32 - 1 }
+        ensures value { IfOk result (Advances to rest.now self.old self.new atoms.old atoms.new) }
+        ensures within { IfOk result (λ taken. taken ≤ length rest.now) }
+        ensures keeps { Keeps atoms.old atoms.new }
+    {
+        match blank_at(rest) {
+            Some(blank) => {
+                self.after_line = self.after_line | blank.breaks;
+                Ok(blank.length)
+            }
+            None => match token_at(
+                rest,
+                in_substitution(self.braces.as_slice()),
+                &mut self.units,
+            )? {
+                Some(found) => {
+                    let taken = self.take(alloc, found, rest, to, atoms)?;
+                    Ok(taken)
+                }
+                None => {
+                    let taken = self.finish(rest, to)?;
+                    Ok(taken)
+                }
+            },
+        }
+    }
+
+    /// Takes all tokens of a text.
+    fn run(
+        &mut self,
+        alloc: Global,
+        text: &[Point],
+        to: u32,
+        atoms: &mut Atoms,
+    ) -> Result<(), AllocError>
+        requires few { length text.now + length atoms.old < 2 ^ 32 - 1 }
+        requires tokens { self.old.tokens.items ≡ [] }
+        requires braces { self.old.braces.items ≡ [] }
+        requires after_line { self.old.after_line ≡ false }
+        ensures stand { OnOk result (StandFor atoms.new self.new.tokens.items (tokens_within (suc (length text.now)) to [] false text.now)) }
+        ensures gains { OnOk result (GainsOnly atoms.old atoms.new (tokens_within (suc (length text.now)) to [] false text.now)) }
+        ensures keeps { Keeps atoms.old atoms.new }
+    {
+        let mut at = 0;
+        let mut taken = self.step(alloc, text, to, atoms)?;
+        while taken != 0 {
+            at += taken;
+            taken = self.step(alloc, behind(text, at), to, atoms)?;
+        }
+        Ok(())
+    }
+}
+
+/// The tokens of a text that ends at `to`.
+fn scan_text(
+    alloc: Global,
+    text: &[Point],
+    to: u32,
+    atoms: &mut Atoms,
+) -> Result<Vec<Token>, AllocError>
+    requires { length text.now + length atoms.old < 2 ^ 32 - 1 }
+    ensures stand { IfOk result (λ made. StandFor atoms.new made.items (tokens_within (suc (length text.now)) to [] false text.now)) }
+    ensures gains { OnOk result (GainsOnly atoms.old atoms.new (tokens_within (suc (length text.now)) to [] false text.now)) }
+    ensures keeps { Keeps atoms.old atoms.new }
+{
+    let mut scanner = Scanner::new(alloc);
+    scanner.run(alloc, text, to, atoms)?;
+    let Scanner {
+        tokens,
+        braces: _,
+        after_line: _,
+        units: _,
+    } = scanner;
+    Ok(tokens)
+}
+
+/// How many points at the front begin before an offset.
+fn count_before(points: &[Point], offset: u32) -> usize
+    requires { IsNonDecreasingBy (λ point. point.start) points.now }
+    ensures parted { IsPartitionPoint (λ point. nat_lt point.start offset ≡ true) (λ point. nat_lt point.start offset ≡ false) points.now result }
+    ensures within { result ≤ length points.now }
+{
+    points.partition_point(|point| point.start < offset)
+}
+
+/// The points that begin from one offset on and before another.
+fn part(points: &[Point], from: u32, to: u32) -> &[Point]
+    requires { AreInOrder points.now }
+    ensures value { result.now ≡ part from to points.now }
+    ensures within { length result.now ≤ length points.now }
+{
+    let others = behind(points, count_before(points, from));
+    front(others, count_before(others, to))
+}
+
+/// How many points at the front of a part from this offset on are its first line, where that is passed over.
+fn passed_over(from: u32, text: &[Point]) -> usize
+    ensures value { drop result text.now ≡ without_first_line from text.now }
+    ensures within { result ≤ length text.now }
+{
+    if from == 0 {
+        first_line_length(text)
+    } else {
+        0
+    }
+}
+
+/// The tokens of the part of a text between two offsets, read beginning with no open brace; the last is End or Bad.
+///
+/// The texts of names, words, strings and template parts are interned in `atoms`. Time is linear in the points of the
+/// part; memory is 32 bytes a token, a byte an open brace, the units of the longest text and what new texts take.
+/// After an error `atoms` may have more texts.
+pub fn scan(
+    alloc: Global,
+    points: &[Point],
+    from: u32,
+    to: u32,
+    atoms: &mut Atoms,
+) -> Result<Vec<Token>, AllocError>
+    requires in_order { AreInOrder points.now }
+    requires few { length points.now + length atoms.old < 2 ^ 32 - 1 }
+    ensures tokens { IfOk result (λ made. StandFor atoms.new made.items (tokens points.now from to)) }
+    ensures gains { OnOk result (GainsOnly atoms.old atoms.new (tokens points.now from to)) }
+    ensures keeps { Keeps atoms.old atoms.new }
+{
+    let text = part(points, from, to);
+    let made = scan_text(alloc, behind(text, passed_over(from, text)), to, atoms)?;
+    Ok(made)
+}

@@ -1,11 +1,11 @@
 -- Single instructions by what stands behind their opcode.
-use Rattle.std.proofs.Common.{◌≡◌, ℕ, ◌+◌, ◌^◌, ◌<◌, Bool, true, false, List, [], ◌∷◌, ◌++◌, slice_index_or, refl, sym, ◌∙◌, ap, subst, true≢false, lit<}
+use Rattle.std.proofs.Common.{◌≡◌, ℕ, ◌^◌, ◌<◌, true, false, List, [], ◌∷◌, ◌++◌, slice_index_or, refl, sym, ◌∙◌, ap, subst, true≢false, lit<}
 use Rattle.bytecode_buf.specs.declared.opcode.Op.{Op}
 use Rattle.bytecode_buf.specs.declared.opcode.Shape.{Shape}
 use Rattle.bytecode_buf.specs.declared.opcode.Shape.TheVariants as shape
 use Rattle.bytecode_buf.specs.Width.{shape_of, first_of, second_of, first_width, second_width, is_jump, is_jump_shape}
 use Rattle.bytecode_buf.specs.Layout.{Numbered, Fits, laid}
-use Rattle.bytecode_buf.specs.Command.{Command, Operand, Nothing, Number, Text, Aliased, operand_of, command_of, plain, counted, named, aliased}
+use Rattle.bytecode_buf.specs.Command.{Command, Operand, Nothing, Number, Text, Aliased, operand_of, plain, counted, named, aliased}
 use Rattle.bytecode_buf.specs.Pieces.{Whole, Code, one}
 use Rattle.bytecode_buf.specs.Emits.{Emits}
 use Rattle.bytecode_buf.proofs.AppendLemmas.{emits_one, emits_none, emits_both}

@@ -1,22 +1,27 @@
 -- The code of expressions: one equation for each of their forms. What an expression does is ECMA-262's, 12th edition,
 -- clause 13; the instructions are this project's own choice. Parentheses are looked through everywhere.
-use Rattle.std.specs.Prelude.{ℕ, ◌+◌, Bool, true, false, nat_eq, nat_le, nat_lt, bytes_eq, codes, if◌then◌else◌, List, [], ◌∷◌, ◌++◌, map, count_by, Option, Some, None}
+use Rattle.std.specs.Prelude.{ℕ, ◌+◌, Bool, true, false, nat_eq, nat_lt, bytes_eq, codes, if◌then◌else◌, List, [], ◌∷◌, ◌++◌, count_by}
 use Rattle.script_grammar.specs.declared.token.mark.TheConstants as mark
 use Rattle.script_grammar.specs.declared.token.word.TheConstants as word
-use Rattle.script_grammar.specs.Tree.{Named, Expr, This, Name, Null, True, False, Number, Str, Template, Array, Object, Func, Paren, Chain, New, Unary, Update, Binary, Cond, Assign, Comma, Exprs, no_exprs, more_exprs, MaybeExpr, no_expr, some_expr, MaybeArgs, no_args, some_args, Parts, no_parts, more_parts, Items, no_items, more_items, Operands, no_operands, more_operands, Tail, Dot, Index, Call, Tails, no_tails, more_tails, Key, WordKey, StrKey, NumberKey, ComputedKey, Prop, Short, Pair, Method, Get, Set, Props, no_props, more_props, Function, function}
+use Rattle.script_grammar.specs.Tree.{Expr, This, Name, Null, True, False, Number, Str, Template, Array, Object, Func, Paren, Chain, New, Unary, Update, Binary, Cond, Assign, Comma, Exprs, no_exprs, more_exprs, MaybeExpr, no_expr, some_expr, MaybeArgs, no_args, some_args, Parts, no_parts, more_parts, Items, no_items, more_items, Operands, no_operands, more_operands, Tail, Dot, Index, Call, Tails, no_tails, more_tails, Key, WordKey, StrKey, NumberKey, ComputedKey, Prop, Short, Pair, Method, Get, Set, Props, no_props, more_props, Function, function}
 use Rattle.stencil_data.specs.declared.scopes.Place.{Place}
 use Rattle.stencil_data.specs.declared.scopes.Place.TheVariants as place
 use Rattle.stencil_data.specs.LinkView.{LinkView}
 use Rattle.stencil_data.specs.Resolve.{resolve}
 use Rattle.scope_analysis.specs.Uses.{this_text}
-use Rattle.bytecode_buf.specs.declared.opcode.Op.{Op}
 use Rattle.bytecode_buf.specs.declared.opcode.Op.TheVariants as op
 use Rattle.bytecode_buf.specs.declared.waits.Aim.TheVariants as aim
 use Rattle.bytecode_buf.specs.Command.{Command, plain, counted, named}
-use Rattle.bytecode_buf.specs.Pieces.{Piece, Whole, Waiting, Code, one, here}
+use Rattle.bytecode_buf.specs.Pieces.{Waiting, Code, one, here}
+use Rattle.emit_exprs.specs.declared.uses.Use.{Use}
+use Rattle.emit_exprs.specs.declared.uses.Use.TheVariants.{Plainly, Called, Reached, Deleted}
 use Rattle.emit_exprs.specs.Names.{read, write, base}
 use Rattle.emit_exprs.specs.Whole.{whole, just}
-use Rattle.emit_exprs.specs.Operators.{binary_op, assign_op, prefix_op, update_op, Joining, FromLeft, FromRight, Shortcut, joining, number_op}
+use Rattle.emit_exprs.specs.Operators.{binary_op, assign_op, prefix_op, update_op, joining, number_form}
+use Rattle.emit_exprs.specs.declared.operators.Joining.{Joining}
+use Rattle.emit_exprs.specs.declared.operators.Joining.TheVariants.{FromLeft, FromRight, Shortcut}
+use Rattle.emit_exprs.specs.declared.operators.NumberForm.{NumberForm}
+use Rattle.emit_exprs.specs.declared.operators.NumberForm.TheVariants as form
 
 -- where an expression stands: the scopes around it, and where the functions directly in its function start, by rising start
 pub record Scene : Type 0 where
@@ -34,13 +39,17 @@ writing scene name = whole (write name (resolve scene.chain name))
 abbrev pub basing : Scene → List ℕ → Code
 basing scene name = whole (base name (resolve scene.chain name))
 
-abbrev pub number_command : Op → ℕ → Command
-number_command op.Zero n = plain op.Zero
-number_command op.One n = plain op.One
-number_command opcode n = counted opcode n
+abbrev pub number_by : NumberForm → ℕ → Code
+number_by form.Zero n = just op.Zero
+number_by form.One n = just op.One
+number_by form.Byte n = one (counted op.Int8 n)
+number_by form.Short n = one (counted op.Uint16 n)
+number_by form.Triple n = one (counted op.Uint24 n)
+number_by form.Long n = one (counted op.Int32 n)
+number_by form.Wide n = one (counted op.Double n)
 
 abbrev pub number_code : ℕ → Code
-number_code n = one (number_command (number_op n) n)
+number_code n = number_by (number_form n) n
 
 -- `this` of the script, or of the function around
 abbrev pub this_at : Place → List Command
@@ -50,25 +59,21 @@ this_at (place.Frame slot kind) = read this_text (place.Frame slot kind)
 this_at (place.Env hops slot kind) = read this_text (place.Env hops slot kind)
 this_at place.Callee = read this_text place.Callee
 
--- the place of a function among those directly in its function
+abbrev pub this_code : Scene → Code
+this_code scene = whole (this_at (resolve scene.chain this_text))
+
+-- the place of a function among those directly in its function, by its start
+abbrev pub lambda_at : Scene → ℕ → Code
+lambda_at scene start = one (counted op.Lambda (count_by (λ s. nat_lt s start) scene.starts))
+
 abbrev pub lambda_code : Scene → Function → Code
-lambda_code scene (function _ start _ _ _ _ _ _) = one (counted op.Lambda (count_by (λ s. nat_lt s start) scene.starts))
+lambda_code scene (function _ start _ _ _ _ _ _) = lambda_at scene start
 
 abbrev pub text_behind : List ℕ → Code
 text_behind [] = []
 text_behind (unit ∷ units) = whole (named op.String (unit ∷ units) ∷ plain op.Add ∷ [])
 
 -- ---- what is done with a value, or with the place that it came from
-
-pub data Use : Type 0 where
-  -- the value is wanted
-  Plainly : Use
-  -- it is called: the value, and below it the one that it is called on
-  Called : Use
-  -- the place is wanted, to read and write it
-  Reached : Use
-  -- the place is deleted
-  Deleted : Use
 
 -- behind a value that is no property
 abbrev pub used_value : Use → Code
@@ -84,12 +89,18 @@ used_dot Called name = whole (plain op.Dup ∷ named op.GetProp name ∷ plain o
 used_dot Reached name = []
 used_dot Deleted name = one (named op.StrictDelProp name)
 
--- behind an object, at the property of a computed key
-abbrev pub used_index : Use → Code → Code
-used_index Plainly key = key ++ just op.GetElem
-used_index Called key = just op.Dup ++ key ++ whole (plain op.GetElem ∷ plain op.Swap ∷ [])
-used_index Reached key = key
-used_index Deleted key = key ++ just op.StrictDelElem
+-- behind an object, before the key of one of its properties and behind it
+abbrev pub before_index : Use → Code
+before_index Plainly = []
+before_index Called = just op.Dup
+before_index Reached = []
+before_index Deleted = []
+
+abbrev pub behind_index : Use → Code
+behind_index Plainly = just op.GetElem
+behind_index Called = whole (plain op.GetElem ∷ plain op.Swap ∷ [])
+behind_index Reached = []
+behind_index Deleted = just op.StrictDelElem
 
 -- a name: its place is reached by what stands below a write
 abbrev pub used_name : Use → Scene → List ℕ → Code
@@ -161,10 +172,12 @@ updating scene true sign target = loading scene target ++ whole (plain op.ToNume
 updating scene false sign target =
     loading scene target ++ whole (plain op.ToNumeric ∷ plain op.Dup ∷ []) ++ keeping (reach_size scene target) ++ just (update_op sign) ++ storing scene target ++ just op.Pop
 
--- `=` and assignments with an operator, on a place that was reached
-abbrev pub assigning : Scene → ℕ → Target → Code → Code
-assigning scene sign target value =
-    if nat_eq sign mark.ASSIGN then value ++ storing scene target else (loading scene target ++ value ++ just (assign_op sign) ++ storing scene target)
+-- `=` and assignments with an operator, on a place that was reached: before the value, and behind it
+abbrev pub before_value : Scene → ℕ → Target → Code
+before_value scene sign target = if nat_eq sign mark.ASSIGN then [] else loading scene target
+
+abbrev pub behind_value : Scene → ℕ → Target → Code
+behind_value scene sign target = (if nat_eq sign mark.ASSIGN then [] else just (assign_op sign)) ++ storing scene target
 
 abbrev pub is_name : Expr → Bool
 is_name (Name name) = true
@@ -269,7 +282,7 @@ pairing key computed value = if is_proto key then value ++ just op.MutateProto e
 
 abbrev mutual
   pub code_of : Scene → Use → Expr → Code
-  code_of scene wanted (This at) = whole (this_at (resolve scene.chain this_text)) ++ used_value wanted
+  code_of scene wanted (This at) = this_code scene ++ used_value wanted
   code_of scene wanted (Name name) = used_name wanted scene name.text
   code_of scene wanted (Null at) = just op.Null ++ used_value wanted
   code_of scene wanted (True at) = just op.True ++ used_value wanted
@@ -292,7 +305,7 @@ abbrev mutual
   code_of scene wanted (Cond test then_value else_value) =
       here aim.After (here aim.Otherwise (code_of scene Plainly test ++ (Waiting op.JumpIfFalse aim.Otherwise ∷ code_of scene Plainly then_value) ++ (Waiting op.Goto aim.After ∷ [])) ++ code_of scene Plainly else_value)
       ++ used_value wanted
-  code_of scene wanted (Assign sign target value) = code_of scene Reached target ++ assigning scene sign (target_of target) (code_of scene Plainly value) ++ used_value wanted
+  code_of scene wanted (Assign sign target value) = code_of scene Reached target ++ before_value scene sign (target_of target) ++ code_of scene Plainly value ++ behind_value scene sign (target_of target) ++ used_value wanted
   code_of scene wanted (Comma items) = comma_code scene items ++ used_value wanted
 
   -- arguments, one after the other
@@ -334,7 +347,7 @@ abbrev mutual
 
   pub tail_code : Scene → Use → Tail → Code
   tail_code scene wanted (Dot name) = used_dot wanted name
-  tail_code scene wanted (Index key) = used_index wanted (code_of scene Plainly key)
+  tail_code scene wanted (Index key) = before_index wanted ++ code_of scene Plainly key ++ behind_index wanted
   tail_code scene wanted (Call items comma) = exprs_code scene items ++ one (counted op.Call (args_size items)) ++ used_value wanted
 
   pub key_code : Scene → Key → Code

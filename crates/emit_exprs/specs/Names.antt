@@ -1,14 +1,13 @@
 -- The code that reads, writes and prepares a name, by its place; at a write the value is on top of the stack. The checks
 -- are those of bindings that are not initialized yet (ECMA-262, 12th edition, clause 9.1.1.1.6, GetBindingValue, and
 -- 9.1.1.1.5, SetMutableBinding); the opcodes are this project's own choice.
-use Rattle.std.specs.Prelude.{ℕ, List, [], ◌∷◌, ◌++◌, map}
+use Rattle.std.specs.Prelude.{ℕ, List, [], ◌∷◌, ◌++◌}
 use Rattle.stencil_data.specs.declared.scopes.BindKind.{BindKind}
 use Rattle.stencil_data.specs.declared.scopes.BindKind.TheVariants as bind
 use Rattle.stencil_data.specs.declared.scopes.Place.{Place}
 use Rattle.stencil_data.specs.declared.scopes.Place.TheVariants as place
 use Rattle.emit_exprs.specs.declared.names.Access.{Access}
 use Rattle.emit_exprs.specs.declared.names.Access.TheVariants as access
-use Rattle.bytecode_buf.specs.declared.opcode.Op.{Op}
 use Rattle.bytecode_buf.specs.declared.opcode.Op.TheVariants as op
 use Rattle.bytecode_buf.specs.Command.{Command, plain, counted, named, aliased}
 

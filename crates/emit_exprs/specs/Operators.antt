@@ -1,73 +1,60 @@
 -- Which opcode an operator is. What the operators do is ECMA-262's, 12th edition, clauses 13.4 to 13.15; the opcodes are
 -- this project's own choice.
-use Rattle.std.specs.Prelude.{ℕ, Bool, true, false, nat_eq, nat_le, if◌then◌else◌, List, [], ◌∷◌}
+use Rattle.std.specs.Prelude.{ℕ, Bool, true, false, nat_eq, nat_le, if◌then◌else◌, ◌<◌, ◌^◌, List, find, Option, Some, None}
+use Rattle.emit_exprs.specs.declared.operators.Meaning.{Meaning}
+use Rattle.emit_exprs.specs.declared.operators.TheConstants.{WORD_OPS, BINARY_OPS, ASSIGN_OPS, PREFIX_OPS}
+use Rattle.emit_exprs.specs.declared.operators.Joining.{Joining}
+use Rattle.emit_exprs.specs.declared.operators.Joining.TheVariants.{FromLeft, FromRight, Shortcut}
+use Rattle.emit_exprs.specs.declared.operators.NumberForm.{NumberForm}
+use Rattle.emit_exprs.specs.declared.operators.NumberForm.TheVariants as form
 use Rattle.script_grammar.specs.declared.token.mark.TheConstants as mark
-use Rattle.script_grammar.specs.declared.token.word.TheConstants as word
 use Rattle.bytecode_buf.specs.declared.opcode.Op.{Op}
 use Rattle.bytecode_buf.specs.declared.opcode.Op.TheVariants as op
 
--- an operator and its opcode
-pub record Meaning : Type 0 where
-  pub sign : ℕ
-  pub op : Op
+-- the opcode of a sign in a table, or another where the table does not have it
+abbrev pub op_or : Op → Option Meaning → Op
+op_or other None = other
+op_or other (Some m) = m.op
 
-abbrev pub means : ℕ → Op → Meaning
-means sign op = record { sign = sign; op = op }
-
--- the opcode of a sign, or another where the list does not have it
 abbrev pub op_of : List Meaning → Op → ℕ → Op
-op_of [] other sign = other
-op_of (m ∷ ms) other sign = if nat_eq sign m.sign then m.op else op_of ms other sign
-
-abbrev pub binary_marks : List Meaning
-binary_marks =
-    means mark.LESS op.Lt ∷ means mark.GREATER op.Gt ∷ means mark.LESS_EQUAL op.Le ∷ means mark.GREATER_EQUAL op.Ge
-    ∷ means mark.EQUAL op.Eq ∷ means mark.NOT_EQUAL op.Ne ∷ means mark.STRICT_EQUAL op.StrictEq ∷ means mark.STRICT_NOT_EQUAL op.StrictNe
-    ∷ means mark.PLUS op.Add ∷ means mark.MINUS op.Sub ∷ means mark.TIMES op.Mul ∷ means mark.DIVIDE op.Div
-    ∷ means mark.REMAINDER op.Mod ∷ means mark.LEFT_SHIFT op.Lsh ∷ means mark.RIGHT_SHIFT op.Rsh ∷ means mark.UNSIGNED_RIGHT_SHIFT op.Ursh
-    ∷ means mark.BIT_AND op.BitAnd ∷ means mark.BIT_OR op.BitOr ∷ means mark.BIT_XOR op.BitXor ∷ []
+op_of table other sign = op_or other (find (λ m. nat_eq m.sign sign) table)
 
 -- the words `in` and `instanceof`, and the marks; `**` is the one that is left
 abbrev pub binary_op : Bool → ℕ → Op
-binary_op true sign = op_of (means word.IN op.In ∷ []) op.Instanceof sign
-binary_op false sign = op_of binary_marks op.Pow sign
+binary_op true sign = op_of WORD_OPS op.Instanceof sign
+binary_op false sign = op_of BINARY_OPS op.Pow sign
 
 -- the marks of assignments with an operator; `**=` is the one that is left
-abbrev pub assign_marks : List Meaning
-assign_marks =
-    means mark.PLUS_ASSIGN op.Add ∷ means mark.MINUS_ASSIGN op.Sub ∷ means mark.TIMES_ASSIGN op.Mul ∷ means mark.DIVIDE_ASSIGN op.Div
-    ∷ means mark.REMAINDER_ASSIGN op.Mod ∷ means mark.LEFT_SHIFT_ASSIGN op.Lsh ∷ means mark.RIGHT_SHIFT_ASSIGN op.Rsh
-    ∷ means mark.UNSIGNED_RIGHT_SHIFT_ASSIGN op.Ursh ∷ means mark.BIT_AND_ASSIGN op.BitAnd ∷ means mark.BIT_OR_ASSIGN op.BitOr
-    ∷ means mark.BIT_XOR_ASSIGN op.BitXor ∷ []
-
 abbrev pub assign_op : ℕ → Op
-assign_op sign = op_of assign_marks op.Pow sign
+assign_op sign = op_of ASSIGN_OPS op.Pow sign
 
 -- the prefix operators on a value: `void` is the word, and `~` the mark, that is left
 abbrev pub prefix_op : Bool → ℕ → Op
 prefix_op true sign = op.Void
-prefix_op false sign = op_of (means mark.PLUS op.Pos ∷ means mark.MINUS op.Neg ∷ means mark.NOT op.Not ∷ []) op.BitNot sign
+prefix_op false sign = op_of PREFIX_OPS op.BitNot sign
 
 abbrev pub update_op : ℕ → Op
 update_op sign = if nat_eq sign mark.INCREMENT then op.Inc else op.Dec
 
 -- how the operands of a binary list are put together
-pub data Joining : Type 0 where
-  -- one operator after the other, from the left
-  FromLeft : Joining
-  -- all operands first: `**`
-  FromRight : Joining
-  -- the next operand only if the value so far does not decide: `&&`, `||` and `??`
-  Shortcut : Op → Joining
-
 abbrev pub joining : Bool → ℕ → Joining
 joining true sign = FromLeft
 joining false sign =
     if nat_eq sign mark.POWER then FromRight else
     (if nat_eq sign mark.AND then Shortcut op.And else (if nat_eq sign mark.OR then Shortcut op.Or else (if nat_eq sign mark.COALESCE then Shortcut op.Coalesce else FromLeft)))
 
--- the shortest number
-abbrev pub number_op : ℕ → Op
-number_op n =
-    if nat_eq n 0 then op.Zero else (if nat_eq n 1 then op.One else (if nat_le n 127 then op.Int8 else
-    (if nat_le n 65535 then op.Uint16 else (if nat_le n 16777215 then op.Uint24 else (if nat_le n 2147483647 then op.Int32 else op.Double)))))
+-- the shortest form of a number
+abbrev pub number_form : ℕ → NumberForm
+number_form n =
+    if nat_eq n 0 then form.Zero else (if nat_eq n 1 then form.One else (if nat_le n 127 then form.Byte else
+    (if nat_le n 65535 then form.Short else (if nat_le n 16777215 then form.Triple else (if nat_le n 2147483647 then form.Long else form.Wide)))))
+
+-- the number fits its form
+abbrev pub FormFits : NumberForm → ℕ → Type 0
+FormFits form.Zero n = Unit {0}
+FormFits form.One n = Unit {0}
+FormFits form.Byte n = n < 2 ^ 8
+FormFits form.Short n = n < 2 ^ 16
+FormFits form.Triple n = n < 2 ^ 24
+FormFits form.Long n = n < 2 ^ 32
+FormFits form.Wide n = Unit {0}

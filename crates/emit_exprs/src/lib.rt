@@ -10,11 +10,20 @@
 #![tactic(auto)]
 
 mod emit;
+mod literals;
 mod names;
+mod operators;
+mod scenes;
+mod site;
 mod steps;
+mod targets;
+mod uses;
 
 pub use emit::{Emit, base, init, read, write};
 pub use names::Access;
+pub use operators::{Joining, Meaning, NumberForm};
+pub use site::Site;
+pub use uses::Use;
 
 #[cfg(test)]
 mod tests;

@@ -24,7 +24,7 @@ pub enum Access {
     Constant,
 }
 
-fn access_of_kind(kind: BindKind) -> Access
+pub fn access_of_kind(kind: BindKind) -> Access
     ensures { result ≡ code.access_of kind }
 {
     match kind {
@@ -69,7 +69,7 @@ fn check_env(out: &mut CodeBuf, access: Access, hops: u32, slot: u32) -> Result<
     }
 }
 
-fn read_frame(out: &mut CodeBuf, slot: u32, access: Access) -> Result<(), AllocError>
+pub fn read_frame(out: &mut CodeBuf, slot: u32, access: Access) -> Result<(), AllocError>
     requires { slot < 2 ^ 24 }
     ensures { OnOk result ((texts : List (List ℕ)) → Emits texts out.old out.new (whole (code.read_frame slot access))) }
 {
@@ -78,7 +78,7 @@ fn read_frame(out: &mut CodeBuf, slot: u32, access: Access) -> Result<(), AllocE
     Ok(())
 }
 
-fn read_env(out: &mut CodeBuf, hops: u32, slot: u32, access: Access) -> Result<(), AllocError>
+pub fn read_env(out: &mut CodeBuf, hops: u32, slot: u32, access: Access) -> Result<(), AllocError>
     requires hops { hops < 2 ^ 16 }
     requires slot { slot < 2 ^ 24 }
     ensures { OnOk result ((texts : List (List ℕ)) → Emits texts out.old out.new (whole (code.read_env hops slot access))) }

@@ -21,7 +21,8 @@ use Rattle.bytecode_buf.specs.declared.waits.Aim.TheVariants as aim
 use Rattle.bytecode_buf.specs.Command.{Command, plain, counted, named}
 use Rattle.bytecode_buf.specs.Pieces.{Piece, Whole, Waiting, Trying, Code, one, size, here, turning}
 use Rattle.emit_exprs.specs.Names.{read, write, base, init}
-use Rattle.emit_exprs.specs.Exprs.{Scene, reading, writing, basing, lambda_code, expr_code, maybe_expr_code, code_of, Reached, target_of, Target, ToName, ToProp, ToElem, NoTarget}
+use Rattle.emit_exprs.specs.declared.uses.Use.TheVariants.{Reached}
+use Rattle.emit_exprs.specs.Exprs.{Scene, reading, writing, basing, lambda_code, expr_code, maybe_expr_code, code_of, target_of, Target, ToName, ToProp, ToElem, NoTarget}
 use Rattle.emit_exprs.specs.Whole.{whole, just}
 use Rattle.emit_stmts.specs.Frames.{Frame, Loop, KeysLoop, Switching, Labelled, Entered, scope_at, has_env, chain_of, kept_values, leave_scope, exits, Goal, Out, Again, leaving}
 

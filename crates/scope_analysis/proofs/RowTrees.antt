@@ -1,10 +1,9 @@
 -- Trees of small scripts, written out, on which definitions are computed.
-use Rattle.std.specs.Prelude.{ℕ, List, Bool, true, false, codes, Option, Some, None}
+use Rattle.std.specs.Prelude.{ℕ, List, true, false, codes, Some, None}
 use Rattle.script_grammar.specs.declared.token.FuncForm.TheVariants as form
 use Rattle.script_grammar.specs.declared.token.Decl.TheVariants as decl
 use Rattle.script_grammar.specs.declared.token.mark.TheConstants as mark
-use Rattle.script_grammar.specs.declared.token.word.TheConstants as word
-use Rattle.script_grammar.specs.Tree.{Named, Expr, This, Name, Null, True, False, Number, Str, Template, Array, Object, Func, Paren, Chain, New, Unary, Update, Binary, Cond, Assign, Comma, Exprs, no_exprs, more_exprs, MaybeExpr, no_expr, some_expr, MaybeArgs, no_args, some_args, Parts, no_parts, more_parts, Items, no_items, more_items, Operands, no_operands, more_operands, Tail, Dot, Index, Call, Tails, no_tails, more_tails, Key, WordKey, StrKey, NumberKey, ComputedKey, Prop, Short, Pair, Method, Get, Set, Props, no_props, more_props, Function, function, Params, no_params, more_params, Body, BracedBody, ShortBody, Binds, no_binds, more_binds, Init, NoInit, ValueInit, BindsInit, Each, TargetEach, BindEach, Clauses, no_clauses, more_clauses, Stmt, Stmts, no_stmts, more_stmts, MaybeStmt, no_stmt, some_stmt, Block, Empty, Debugger, Binding, Value, If, Do, While, For, ForIn, Continue, Break, Return, Throw, Switch, Label, Try, Declared}
+use Rattle.script_grammar.specs.Tree.{Named, Expr, This, Name, Number, Str, Template, Array, Object, Func, Paren, Chain, New, Update, Binary, Assign, no_exprs, more_exprs, no_expr, some_expr, some_args, no_parts, more_parts, no_items, more_items, Operands, no_operands, more_operands, Dot, Index, Call, Tails, no_tails, more_tails, WordKey, Pair, Get, no_props, more_props, Function, function, no_params, more_params, BracedBody, ShortBody, no_binds, more_binds, BindsInit, BindEach, no_clauses, more_clauses, Stmt, Stmts, no_stmts, more_stmts, Block, Binding, Value, For, ForIn, Continue, Return, Switch, Label, Try, Declared}
 
 abbrev pub at : List ℕ → ℕ → Named
 at text offset = record { text = text; at = offset }

@@ -1,10 +1,9 @@
 -- A walk along a chain.
-use Rattle.std.proofs.Common.{◌≡◌, ℕ, ◌+◌, ◌^◌, ◌<◌, ◌≤◌, Bool, true, false, bytes_eq, find, if◌then◌else◌, List, [], ◌∷◌, length, Option, Some, None, refl, sym, ◌∙◌, ap, subst, arith}
+use Rattle.std.proofs.Common.{◌≡◌, ℕ, ◌+◌, ◌^◌, ◌<◌, ◌≤◌, Bool, true, false, bytes_eq, if◌then◌else◌, List, [], ◌∷◌, length, Option, Some, None, refl, sym, ◌∙◌, ap, subst, arith}
 use Rattle.stencil_data.specs.declared.chains.LinkName.{LinkName}
 use Rattle.stencil_data.specs.declared.scopes.BindKind.{BindKind}
 use Rattle.stencil_data.specs.declared.scopes.Slot.{Slot}
 use Rattle.stencil_data.specs.declared.scopes.Slot.TheVariants as slot
-use Rattle.stencil_data.specs.declared.scopes.Place.{Place}
 use Rattle.stencil_data.specs.declared.scopes.Place.TheVariants as place
 use Rattle.stencil_data.specs.LinkView.{LinkView}
 use Rattle.stencil_data.specs.Fits.{ChainFits, LinksFit, NamesFit, SlotFits, PlaceFits}

@@ -2,7 +2,7 @@
 -- those of ECMA-262, 12th edition (clauses 10.2.11 FunctionDeclarationInstantiation, 14.2.2 blocks, 14.7.4 and 14.7.5 for
 -- heads, 14.12 switch, 14.15 catch, 15.2.5 named function expressions, 16.1.7 scripts); that a scope without a binding
 -- is left out, the kinds, the order of bindings and the slots are this project's own choice.
-use Rattle.std.specs.Prelude.{ℕ, ◌+◌, Bool, true, false, if◌then◌else◌, List, [], ◌∷◌, ◌++◌, map, Option, Some, None}
+use Rattle.std.specs.Prelude.{ℕ, ◌+◌, Bool, if◌then◌else◌, List, [], ◌∷◌, ◌++◌, map, Option, Some, None}
 use Rattle.script_grammar.specs.declared.token.FuncForm.{FuncForm}
 use Rattle.script_grammar.specs.Kinds.{is_arrow_form}
 use Rattle.script_grammar.specs.Tree.{Named, MaybeExpr, Function, function, Params, Body, BracedBody, ShortBody, Init, Each, Clauses, no_clauses, more_clauses, Stmt, Stmts, no_stmts, more_stmts, MaybeStmt, no_stmt, some_stmt, Expr, Block, Empty, Debugger, Binding, Value, If, Do, While, For, ForIn, Continue, Break, Return, Throw, Switch, Label, Try, Declared}

@@ -1,4 +1,3 @@
-use Rattle.std.proofs.Common.{◌∙◌, subst}
 use Rattle.bytecode_buf.proofs.AppendLemmas.{emits_both}
 use Rattle.emit_exprs.proofs.names.read_frame.Goals as goal
 

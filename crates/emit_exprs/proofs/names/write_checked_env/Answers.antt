@@ -1,8 +1,7 @@
-use Rattle.std.proofs.Common.{[], slice_index_or}
 use Rattle.bytecode_buf.specs.declared.opcode.Op.TheVariants as op
-use Rattle.bytecode_buf.specs.Command.{counted, named, aliased}
+use Rattle.bytecode_buf.specs.Command.{aliased}
 use Rattle.emit_exprs.specs.declared.names.Access.TheVariants as access
-use Rattle.emit_exprs.specs.Names.{read_frame, read_env}
+use Rattle.emit_exprs.specs.Names.{read_env}
 use Rattle.emit_exprs.proofs.Singles.{emits_after_check}
 use Rattle.emit_exprs.proofs.names.write_checked_env.Goals as goal
 

@@ -1,0 +1,9 @@
+use Rattle.std.proofs.Common.{subst}
+use Rattle.stencil_data.specs.declared.scopes.Place.{Place}
+use Rattle.emit_exprs.specs.Names.{write}
+use Rattle.emit_exprs.specs.Sites.{EmitsAt, text_in}
+use Rattle.emit_exprs.specs.Whole.{whole}
+use Rattle.emit_exprs.proofs.scenes.writing.Goals as goal
+
+pub returns : goal.returns
+returns c = subst (λ (p : Place). EmitsAt c.args.site.now c.args.out.now c.write_at.new.out (whole (write (text_in c.args.site.now c.args.atom) p))) c.find_place-place.ensures.is (c.in_ok-write_at.ensures c.args.site.now.texts.now)

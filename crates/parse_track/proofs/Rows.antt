@@ -20,7 +20,7 @@ one s = more_stmts s no_stmts
 clash : Stmts
 clash = one (Declared (function form.Function 10 32 (Some (named (codes "f") 9)) no_params false false
     (BracedBody (more_stmts (Binding decl.Let (more_binds (named (codes "x") 18) no_expr no_binds) true)
-      (one (Block (one (Binding decl.Var (more_binds (named (codes "x") 27) no_expr no_binds) false))))))))
+    (one (Block (one (Binding decl.Var (more_binds (named (codes "x") 27) no_expr no_binds) false))))))))
 
 var_clash : early_error clash ≡ at_rule 27 2
 unfolding clash one named at_rule
@@ -50,7 +50,7 @@ bare_const = refl
 arrows : Stmts
 arrows = one (Declared (function form.Function 10 37 (Some (named (codes "f") 9)) (more_params (named (codes "x") 11) no_expr false no_params) false false
     (BracedBody (one (Return (some_expr (Func 22 (function form.Arrow 22 35 None no_params false false
-      (ShortBody (Func 28 (function form.Arrow 28 35 None no_params false false (ShortBody (Name (named (codes "x") 34))))))))) false)))))
+    (ShortBody (Func 28 (function form.Arrow 28 35 None no_params false false (ShortBody (Name (named (codes "x") 34))))))))) false)))))
 
 arrows_close : closed_names arrows ≡ record { func = Some 10; scope = 0; name = codes "x" } ∷ []
 unfolding arrows one named

@@ -221,7 +221,7 @@ abbrev mutual
   -- a parameter of a catch clause is in a region around its block
   tells_stmt top (tree.Try body (Some name) handler) t =
       tells_region told.Block (tells_stmts false body nothing)
-        (tells_region told.Catch (tells_name how.Catch name (tells_region told.Block (tells_stmts false handler nothing) nothing)) t)
+      (tells_region told.Catch (tells_name how.Catch name (tells_region told.Block (tells_stmts false handler nothing) nothing)) t)
   tells_stmt top (tree.Declared f) t = declares_function top (function_name f) (tells_function f t)
 
   pub tells_stmts : Bool → Stmts → Told Text → Told Text

@@ -1,8 +1,8 @@
 -- A function's script and a script's own: scopes, code, try notes, the functions in it and the chain at each. What calling
 -- a function does first is ECMA-262's, 12th edition, clause 10.2.11 (FunctionDeclarationInstantiation); the instructions
 -- are this project's own choice.
-use Rattle.std.specs.Prelude.{ℕ, ◌+◌, Bool, true, false, if◌then◌else◌, List, [], ◌∷◌, ◌++◌, map, Option, Some, None}
-use Rattle.script_grammar.specs.Tree.{Named, Expr, MaybeExpr, no_expr, some_expr, Function, function, Params, no_params, more_params, Body, BracedBody, ShortBody, Stmt, Stmts, no_stmts, more_stmts, Declared}
+use Rattle.std.specs.Prelude.{ℕ, ◌+◌, Bool, true, false, if◌then◌else◌, List, [], ◌∷◌, ◌++◌, map, Option, None}
+use Rattle.script_grammar.specs.Tree.{Named, MaybeExpr, no_expr, some_expr, Function, function, Params, no_params, more_params, Body, BracedBody, ShortBody, Stmt, Stmts, no_stmts, more_stmts, Declared}
 use Rattle.stencil_data.specs.declared.chains.LinkName.{LinkName}
 use Rattle.stencil_data.specs.declared.functions.Extent.{Extent}
 use Rattle.stencil_data.specs.declared.functions.FuncKind.{FuncKind}
@@ -11,7 +11,7 @@ use Rattle.stencil_data.specs.declared.scopes.BindKind.{BindKind}
 use Rattle.stencil_data.specs.declared.scopes.BindKind.TheVariants as bind
 use Rattle.stencil_data.specs.LinkView.{LinkView}
 use Rattle.stencil_data.specs.Named.{NamedScope, NamedFunction}
-use Rattle.stencil_data.specs.Resolve.{resolve, resolve_beyond, environments_of}
+use Rattle.stencil_data.specs.Resolve.{resolve_beyond, environments_of}
 use Rattle.scope_analysis.specs.Declared.{Text, has_text, Declaration, function_name, top_lexical_names, param_names, has_initializer}
 use Rattle.scope_analysis.specs.Scopes.{scope_count, callee_names, body_var_names, function_scopes, script_scopes}
 use Rattle.scope_analysis.specs.Functions.{Inner, inner_function, inner_script}
@@ -19,11 +19,11 @@ use Rattle.bytecode_buf.specs.declared.opcode.Op.TheVariants as op
 use Rattle.bytecode_buf.specs.declared.waits.Aim.TheVariants as aim
 use Rattle.bytecode_buf.specs.Command.{Command, plain, counted}
 use Rattle.bytecode_buf.specs.Pieces.{Waiting, Code, one, here, settled, notes}
-use Rattle.emit_exprs.specs.Names.{read, write}
+use Rattle.emit_exprs.specs.Names.{read}
 use Rattle.emit_exprs.specs.Exprs.{Scene, reading, writing, expr_code}
 use Rattle.emit_exprs.specs.Whole.{whole, just}
-use Rattle.emit_stmts.specs.Frames.{Frame, scope_at, global_link, chain_link}
-use Rattle.emit_stmts.specs.Stmts.{Setting, scene_at, push_env, in_scope, assigning_function, stmts_code}
+use Rattle.emit_stmts.specs.Frames.{scope_at, global_link, chain_link}
+use Rattle.emit_stmts.specs.Stmts.{Setting, push_env, in_scope, assigning_function, stmts_code}
 
 -- ---- before the body
 

@@ -3,7 +3,7 @@
 use Rattle.std.specs.Prelude.{ℕ, ◌+◌, Bool, true, false, if◌then◌else◌, List, [], ◌∷◌, ◌++◌, map, length, Option, Some, None, option_map}
 use Rattle.script_grammar.specs.declared.token.Decl.{Decl}
 use Rattle.script_grammar.specs.declared.token.Decl.TheVariants as decl
-use Rattle.script_grammar.specs.Tree.{Named, Expr, MaybeExpr, no_expr, some_expr, Function, Binds, no_binds, more_binds, Init, NoInit, ValueInit, BindsInit, Each, TargetEach, BindEach, Clauses, no_clauses, more_clauses, Stmt, Stmts, no_stmts, more_stmts, MaybeStmt, no_stmt, some_stmt, Block, Empty, Debugger, Binding, Value, If, Do, While, For, ForIn, Continue, Break, Return, Throw, Switch, Label, Try, Declared}
+use Rattle.script_grammar.specs.Tree.{Named, Expr, MaybeExpr, no_expr, some_expr, Function, Binds, no_binds, more_binds, Init, NoInit, ValueInit, BindsInit, Each, TargetEach, BindEach, Clauses, no_clauses, more_clauses, Stmt, Stmts, no_stmts, more_stmts, no_stmt, some_stmt, Block, Empty, Debugger, Binding, Value, If, Do, While, For, ForIn, Continue, Break, Return, Throw, Switch, Label, Try, Declared}
 use Rattle.stencil_data.specs.declared.chains.LinkName.{LinkName}
 use Rattle.stencil_data.specs.declared.scopes.BindKind.{BindKind}
 use Rattle.stencil_data.specs.declared.scopes.BindKind.TheVariants as bind
@@ -19,12 +19,12 @@ use Rattle.bytecode_buf.specs.declared.opcode.Op.TheVariants as op
 use Rattle.bytecode_buf.specs.declared.waits.Aim.{Aim}
 use Rattle.bytecode_buf.specs.declared.waits.Aim.TheVariants as aim
 use Rattle.bytecode_buf.specs.Command.{Command, plain, counted, named}
-use Rattle.bytecode_buf.specs.Pieces.{Piece, Whole, Waiting, Trying, Code, one, size, here, turning}
-use Rattle.emit_exprs.specs.Names.{read, write, base, init}
+use Rattle.bytecode_buf.specs.Pieces.{Waiting, Trying, Code, one, size, here, turning}
+use Rattle.emit_exprs.specs.Names.{base, init}
 use Rattle.emit_exprs.specs.declared.uses.Use.TheVariants.{Reached}
-use Rattle.emit_exprs.specs.Exprs.{Scene, reading, writing, basing, lambda_code, expr_code, maybe_expr_code, code_of, target_of, Target, ToName, ToProp, ToElem, NoTarget}
+use Rattle.emit_exprs.specs.Exprs.{Scene, writing, basing, lambda_code, expr_code, code_of, target_of, Target, ToName, ToProp, ToElem, NoTarget}
 use Rattle.emit_exprs.specs.Whole.{whole, just}
-use Rattle.emit_stmts.specs.Frames.{Frame, Loop, KeysLoop, Switching, Labelled, Entered, scope_at, has_env, chain_of, kept_values, leave_scope, exits, Goal, Out, Again, leaving}
+use Rattle.emit_stmts.specs.Frames.{Frame, Loop, KeysLoop, Switching, Labelled, Entered, scope_at, has_env, chain_of, kept_values, leave_scope, exits, Out, Again, leaving}
 
 -- what is the same in a whole body: the scopes around it, its function's scopes, where the functions directly in the
 -- function start, and whether it is a script's

@@ -23,7 +23,7 @@ use Rattle.pure_parser.proofs.Stops.{stop_colon, stop_assign}
 use Rattle.pure_parser.proofs.Completes.{Completes, Leads, Any, at_kind, lead_none, lead_at, lead_any, lead_map, c_ret, c_bind, c_made, c_at, c_look, c_weaken, c_pieces, c_mark}
 use Rattle.pure_parser.proofs.CompleteStmts.{c_value}
 use Rattle.pure_parser.proofs.CompleteParts.{TailStops, UnaryStops, CompleteEnv}
-use Rattle.pure_parser.proofs.CompleteLevels.{refuted, c_when, c_else, lead_append, LevelStops, level_less, op_levels, other_level, op_at, op_is, binary_of, binary_pieces, binary_ending, Levelled, binary_level, levelled, binary_only, above, in_first, in_rest, from_complete, from_leads, ReadsUnary, level_complete}
+use Rattle.pure_parser.proofs.CompleteOperators.{refuted, c_when, c_else, lead_append, LevelStops, level_less, op_levels, other_level, op_at, op_is, binary_of, binary_pieces, binary_ending, Levelled, binary_level, levelled, binary_only, above, in_first, in_rest, from_complete, from_leads, ReadsUnary, level_complete}
 
 -- the endings of operands
 

@@ -57,7 +57,7 @@ pub mod CompleteFunctions
 pub mod CompleteObjects
 pub mod CompleteChains
 pub mod CompleteUnary
-pub mod CompleteLevels
+pub mod CompleteOperators
 pub mod CompleteAssign
 pub mod CompletePrefix
 pub mod CompleteParens

@@ -59,6 +59,7 @@ pub mod CompleteChains
 pub mod CompleteUnary
 pub mod CompleteOperators
 pub mod CompleteAssign
+pub mod CompletePower
 pub mod CompletePrefix
 pub mod CompleteParens
 pub mod CompletePrims

@@ -63,3 +63,5 @@ pub mod CompletePower
 pub mod CompletePrefix
 pub mod CompleteParens
 pub mod CompletePrims
+pub mod CompleteLevels
+pub mod CompleteArrows

@@ -21,7 +21,7 @@ use Rattle.pure_parser.proofs.CompleteLoops.{c_loop, LastLeads}
 use Rattle.pure_parser.proofs.CompleteStmts.{c_value}
 use Rattle.pure_parser.proofs.CompleteBinds.{option_of}
 use Rattle.pure_parser.proofs.CompleteParts.{CompleteEnv, ParamFollow}
-use Rattle.pure_parser.proofs.CompleteParams.{singles, ends_as, single_pieces, end_pieces, flat_params, all_singles, IsSingle, comma_follows, close_follows}
+use Rattle.pure_parser.proofs.CompleteParams.{singles, ends_as, HasOne, single_pieces, end_pieces, flat_params, all_singles, IsSingle, comma_follows, close_follows}
 
 of_maybe : (o : MaybeExpr) → maybe_expr_of (option_of o) ≡ o
 of_maybe no_expr = refl
@@ -145,3 +145,36 @@ module _ (limit : ℕ) (m : Bodies) (d : ℕ) (low : d ≤ limit) (v : Env) (c :
   last_lead e [] = tt
   last_lead e (p ∷ []) = end_leads e
   last_lead e (p ∷ r ∷ xs) = last_lead e (r ∷ xs)
+
+  -- all parameters
+
+  has_one : (n : Named) (o : MaybeExpr) (ps : Params) (comma : Bool) → AreParams (more_params n o false ps) comma → HasOne ps → AreParams ps comma
+  has_one n o no_params comma h k = absurd k
+  has_one n no_expr (more_params n2 v2 r2 ps) comma h k = h
+  has_one n (some_expr e) (more_params n2 v2 r2 ps) comma h k = h
+
+  behind_complete : (ps : Params) (comma : Bool) → (HasOne ps → AreParams ps comma) → ProperParams m ps → Completes limit (print_more_params m (suc d) d ps ++ comma_piece comma d) Closes (loop (parser.arrow_turn v)) (record { items = singles ps; last = ends_as ps comma })
+  behind_complete ps comma h k = c_pieces limit (flat_params limit m d (suc d) ps comma h) (c_loop limit (IsSingle limit m d) (single_pieces limit m d (suc d)) (λ p. Behind) (end_pieces limit m d (suc d) (ends_as ps comma)) Closes (ends_as ps comma) (parser.arrow_turn v) each some link (stop (ends_as ps comma)) (singles ps) (all_singles limit m d ps k) (last_lead (ends_as ps comma) (singles ps)))
+
+  behind_leads : (ps : Params) (comma : Bool) → Leads (print_more_params m (suc d) d ps ++ comma_piece comma d) Closes Behind
+  behind_leads no_params true = lead_at (λ t s. behind_comma t s.kind)
+  behind_leads no_params false = lead_map (λ t g. behind_close t g) lead_none
+  behind_leads (more_params n o rest ps) comma = lead_at (λ t s. behind_comma t s.kind)
+
+  more_none : (rest : List Lexeme) → Closes (head_of rest) → bare (parser.arrow_params v rest) ≡ Read (stopped Plain) [] rest
+  unfolding parser.arrow_params
+  more_none rest h = ap (λ k. bare (when (is_mark mark.CLOSE_PAREN k) (ret (stopped Plain)) (bind (parser.arrow_first v) (parser.params_led (parser.arrow_turn v))) rest)) h
+
+  more_some : (t : Lexeme) (ts : List Lexeme) → is_mark mark.CLOSE_PAREN t.kind ≡ false → parser.arrow_params v (t ∷ ts) ≡ bind (parser.arrow_first v) (parser.params_led (parser.arrow_turn v)) (t ∷ ts)
+  unfolding parser.arrow_params
+  more_some t ts h = ap (λ b. when b (ret (stopped Plain)) (bind (parser.arrow_first v) (parser.params_led (parser.arrow_turn v))) (t ∷ ts)) h
+
+  -- parameters that begin with one that is no rest parameter
+  pub many_complete : (n : Named) (o : MaybeExpr) (ps : Params) (comma : Bool) → AreParams (more_params n o false ps) comma → ProperParams m (more_params n o false ps) → Completes limit (print_params m (suc d) d (more_params n o false ps) ++ comma_piece comma d) Closes (parser.arrow_params v) (record { items = singles (more_params n o false ps); last = ends_as (more_params n o false ps) comma })
+  many_complete n o ps comma h k = c_front limit (bind (parser.arrow_first v) (parser.params_led (parser.arrow_turn v))) (λ x w r q g. more_some x.lexeme (lexemes w ++ r) (ap (is_mark mark.CLOSE_PAREN) q.0.kind)) (name_some n ((print_initializer m (suc d) o ++ print_more_params m (suc d) d ps) ++ comma_piece comma d))
+      (c_pieces limit (sym (append_assoc (param_places n o) (print_more_params m (suc d) d ps) (comma_piece comma d)))
+      (c_bind limit (parser.params_led (parser.arrow_turn v)) (one_complete n o k.0) (behind_leads ps comma) (c_made limit (begun (param n (option_of o))) (behind_complete ps comma (λ x. has_one n o ps comma h x) k.1))))
+
+  -- none
+  pub none_complete : Completes limit [] Closes (parser.arrow_params v) (stopped Plain)
+  none_complete = c_look limit more_none

@@ -8,6 +8,7 @@ pub mod CompleteEach
 pub mod CompleteItems
 pub mod CompleteLoops
 pub mod CompleteParts
+pub mod CompleteShort
 pub mod CompleteSimple
 pub mod CompleteStmts
 pub mod CompleteSwitch

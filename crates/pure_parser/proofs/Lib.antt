@@ -3,6 +3,7 @@ mod DepthRows
 pub mod Agrees
 pub mod Begins
 pub mod Complete
+pub mod CompleteAssign
 pub mod CompleteBinds
 pub mod CompleteEach
 pub mod CompleteItems

@@ -56,7 +56,7 @@ level_kind op true = refl
 level_kind op false = refl
 
 -- the token of an operator of a level is one, where `in` is allowed or it is none
-op_is : (w : Bool) (n op : ℕ) (b : Bool) → op_level op b ≡ n → (w || not (b && nat_eq op word.IN)) ≡ true → is_op w n (op_kind op b) ≡ true
+pub op_is : (w : Bool) (n op : ℕ) (b : Bool) → op_level op b ≡ n → (w || not (b && nat_eq op word.IN)) ≡ true → is_op w n (op_kind op b) ≡ true
 op_is w n op b e i = and_both (nat_eq (kind_level (op_kind op b)) n) (w || not (is_word word.IN (op_kind op b))) (eq-eqb (kind_level (op_kind op b)) n (level_kind op b ∙ e)) (in_same b i)
   where
     in_same : (b : Bool) → (w || not (b && nat_eq op word.IN)) ≡ true → (w || not (is_word word.IN (op_kind op b))) ≡ true
@@ -64,7 +64,7 @@ op_is w n op b e i = and_both (nat_eq (kind_level (op_kind op b)) n) (w || not (
     in_same false i = i
 
 -- and it is none of another level
-op_not : (w : Bool) (n k op : ℕ) (b : Bool) → op_level op b ≡ n → (k ≡ n → ⊥) → is_op w k (op_kind op b) ≡ false
+pub op_not : (w : Bool) (n k op : ℕ) (b : Bool) → op_level op b ≡ n → (k ≡ n → ⊥) → is_op w k (op_kind op b) ≡ false
 op_not w n k op b e h = by (bool_cases (is_op w k (op_kind op b)))
   where
     by : (is_op w k (op_kind op b) ≡ true) ⊎ (is_op w k (op_kind op b) ≡ false) → is_op w k (op_kind op b) ≡ false

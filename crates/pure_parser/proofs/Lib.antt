@@ -3,11 +3,13 @@ mod DepthRows
 pub mod Agrees
 pub mod Begins
 pub mod Complete
+pub mod CompleteAssign
 pub mod CompleteBinds
 pub mod CompleteEach
 pub mod CompleteItems
 pub mod CompleteLoops
 pub mod CompleteParts
+pub mod CompleteShort
 pub mod CompleteSimple
 pub mod CompleteStmts
 pub mod CompleteSwitch
@@ -58,10 +60,10 @@ pub mod CompleteObjects
 pub mod CompleteChains
 pub mod CompleteUnary
 pub mod CompleteOperators
-pub mod CompleteAssign
 pub mod CompletePower
 pub mod CompletePrefix
 pub mod CompleteParens
 pub mod CompletePrims
 pub mod CompleteLevels
 pub mod CompleteArrows
+pub mod CompletePlain

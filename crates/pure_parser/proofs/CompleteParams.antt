@@ -47,7 +47,7 @@ of_maybe : (o : MaybeExpr) → maybe_expr_of (option_of o) ≡ o
 of_maybe no_expr = refl
 of_maybe (some_expr e) = refl
 
-abbrev HasOne : Params → Type 0
+abbrev pub HasOne : Params → Type 0
 HasOne no_params = ⊥
 HasOne (more_params n value rest ps) = Unit {0}
 

@@ -53,7 +53,7 @@ func_op m d at (function form.Getter start end name ps comma bare body) r h = ab
 func_op m d at (function form.Setter start end name ps comma bare body) r h = absurd h.0
 
 -- a left-hand side begins with no unary operator, and ends as an operand
-left_first : (m : Bodies) (d : ℕ) (e : Expr) → rank e ≤ left_rank → Proper m e → Opens no_op (print m d e) × (ending e ≡ Operand)
+pub left_first : (m : Bodies) (d : ℕ) (e : Expr) → rank e ≤ left_rank → Proper m e → Opens no_op (print m d e) × (ending e ≡ Operand)
 left_first m d (tree.This at) r h = (refl, refl)
 left_first m d (tree.Name name) r h = (refl, refl)
 left_first m d (tree.Null at) r h = (refl, refl)

@@ -170,7 +170,8 @@ module _ (limit : ℕ) (m : Bodies) (d : ℕ) (low : d ≤ limit) (v : Env) (c :
       record {
         head = head;
         is = (refl, q.0, q.1, refl);
-        reads = listed_at f start ps comma (print_params m d d ps ++ (comma_piece comma d ++ mark_piece mark.CLOSE_PAREN d ∷ [])) head (λ s. subst (λ y. Completes limit (print_params m d d ps ++ (comma_piece comma d ++ mark_piece mark.CLOSE_PAREN d ∷ [])) Any y (head_case s (record { items = singles ps; last = ends_as ps comma }))) (sym (e s)) (listed_complete s ps comma h k)) }
+        reads = listed_at f start ps comma (print_params m d d ps ++ (comma_piece comma d ++ mark_piece mark.CLOSE_PAREN d ∷ [])) head (λ s. subst (λ y. Completes limit (print_params m d d ps ++ (comma_piece comma d ++ mark_piece mark.CLOSE_PAREN d ∷ [])) Any y (head_case s (record { items = singles ps; last = ends_as ps comma }))) (sym (e s)) (listed_complete s ps comma h k));
+      }
 
   none_head : (start : ℕ) → HeadOf form.Getter start no_params false
   none_head start =

@@ -189,10 +189,10 @@ module _ (limit : ℕ) (m : Bodies) (d : ℕ) (low : d ≤ limit) (v : Env) (c :
   array_complete at no_items false h p = closing at [] None [] (tree.Array at no_items false) refl (loop_complete [] None stop_none [] tt)
   array_complete at (more_items i is) true h p = c_pieces limit (append_assoc (print_items m d (more_items i is)) (mark_piece mark.COMMA d ∷ []) (mark_piece mark.CLOSE_BRACKET d ∷ []))
       (closing at (items_list (more_items i is)) None (print_items m d (more_items i is) ++ mark_piece mark.COMMA d ∷ []) (tree.Array at (more_items i is) true) (ap (λ x. tree.Array at (items_of x) true) (append-nil (items_list (more_items i is))) ∙ ap (λ x. tree.Array at x true) (of_items (more_items i is)))
-          (c_pieces limit (flat_all i is) (loop_complete [] None stop_none (items_list (more_items i is)) (all_items (more_items i is) p))))
+      (c_pieces limit (flat_all i is) (loop_complete [] None stop_none (items_list (more_items i is)) (all_items (more_items i is) p))))
   array_complete at (more_items i is) false h p =
       closing at (front_of i is) (option_of (last_of i is)) (print_items m d (more_items i is)) (tree.Array at (more_items i is) false) (array_with at i is (last_of i is) (last_some i is h) (with_last i is))
-          (c_pieces limit (flat_front i is) (loop_complete (print_maybe m (suc d) (last_of i is)) (option_of (last_of i is)) (some_stop (last_of i is) (last_some i is h) (last_proper i is p)) (front_of i is) (front_items i is p)))
+      (c_pieces limit (flat_front i is) (loop_complete (print_maybe m (suc d) (last_of i is)) (option_of (last_of i is)) (some_stop (last_of i is) (last_some i is h) (last_proper i is p)) (front_of i is) (front_items i is p)))
 
   -- templates, behind the head
 
@@ -288,4 +288,4 @@ module _ (limit : ℕ) (m : Bodies) (d : ℕ) (low : d ≤ limit) (v : Env) (c :
   template_complete at first e w ps h =
       let last : Part = last_part e w ps in
       c_value (ap (tree.Template at first) (parts_all e w ps)) (c_weaken limit (λ t g. tt) (c_made limit (λ n. tree.Template at first (parts_of (n.items ++ n.last ∷ [])))
-          (c_pieces limit (flat_parts e w ps) (c_loop limit IsPart part_pieces (λ x. Any) (print m (suc d) last.value ++ template_piece kind.TemplateTail last.behind d ∷ []) Any last (parser.part_turn v) middle_complete part_some (λ x y kx ky u n k. tt) (tail_complete last.value last.behind (part_proper e w ps h)) (front_parts e w ps) (front_proper e w ps h) (any_parts last.value last.behind (part_proper e w ps h) (front_parts e w ps))))))
+      (c_pieces limit (flat_parts e w ps) (c_loop limit IsPart part_pieces (λ x. Any) (print m (suc d) last.value ++ template_piece kind.TemplateTail last.behind d ∷ []) Any last (parser.part_turn v) middle_complete part_some (λ x y kx ky u n k. tt) (tail_complete last.value last.behind (part_proper e w ps h)) (front_parts e w ps) (front_proper e w ps h) (any_parts last.value last.behind (part_proper e w ps h) (front_parts e w ps))))))

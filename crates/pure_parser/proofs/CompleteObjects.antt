@@ -120,8 +120,8 @@ module _ (limit : ℕ) (m : Bodies) (d : ℕ) (low : d ≤ limit) (v : Env) (c :
   nameless_complete : {F : Lexeme → Type 0} (g : FuncForm) → PlainForm g → (f : Function) → IsNamelessOf g f → ProperFunction m f → Completes limit (print_function m d f) F (parser.function_of v g None) f
   nameless_complete {F = F} g i (function g2 start end name ps comma bare body) h k =
       subst (λ x. ProperFunction m (function x start end name ps comma bare body) → Completes limit (print_function m d (function x start end name ps comma bare body)) F (parser.function_of v g None) (function x start end name ps comma bare body)) (sym h.0)
-          (subst (λ y. ProperFunction m (function g start end y ps comma bare body) → Completes limit (print_function m d (function g start end y ps comma bare body)) F (parser.function_of v g None) (function g start end y ps comma bare body)) (sym h.1)
-              (λ p. function_complete limit m d low v c g None i start end ps comma bare body p)) k
+      (subst (λ y. ProperFunction m (function g start end y ps comma bare body) → Completes limit (print_function m d (function g start end y ps comma bare body)) F (parser.function_of v g None) (function g start end y ps comma bare body)) (sym h.1)
+      (λ p. function_complete limit m d low v c g None i start end ps comma bare body p)) k
 
   method_complete : {F : Lexeme → Type 0} (k : Key) (f : Function) → IsNamelessOf form.Method f → ProperFunction m f → Completes limit (print_function m d f) F (parser.keyed_of v k) (tree.Method k f)
   method_complete k f h p = let q = plain_function form.Method tt f h p in c_front limit (bind (parser.function_of v form.Method None) (λ g. ret (tree.Method k g))) (λ x w rest s g. method_here k x.lexeme (lexemes w ++ rest) (paren_first f q x w (head_of rest) s)) (paren_some f q) (c_made limit (tree.Method k) (nameless_complete form.Method tt f h p))

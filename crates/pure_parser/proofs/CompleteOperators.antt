@@ -222,7 +222,9 @@ binary_level m w n (tree.Binary first no_operands) b r h i = absurd h.0
 binary_level m w n (tree.Binary first (more_operands op is_word value rest)) b r h i =
     let same : op_level op is_word ≡ n = omega (arith, r) in
     record {
-      first = first; rest = more_operands op is_word value rest; same = refl;
+      first = first;
+      rest = more_operands op is_word value rest;
+      same = refl;
       rank_le = subst (λ x. rank first ≤ first_rank x) same h.2;
       proper = h.3;
       in_if = in_first w (free_of_in first) (operands_free (more_operands op is_word value rest)) i;
@@ -271,7 +273,6 @@ module _ (limit : ℕ) (m : Bodies) (d : ℕ) (low : d ≤ limit) (v : Env) wher
   -- the operands of a level above `**`, where the level below is read
   module _ (w : Bool) (n : ℕ) (small : suc n < 12) (low_level : ℕ) (below : low_level < suc n) (lower : Parser Expr)
       (lower_complete : (e : Expr) → Value w (operand_rank (suc n)) e → Completes limit (print m d e) (LevelStops w low_level (ending e)) lower e) where
-
     abbrev Item : Operand → Type 0
     Item o = (op_level o.op o.is_word ≡ suc n) × ((w || not (o.is_word && nat_eq o.op word.IN)) ≡ true) × Value w (operand_rank (suc n)) o.value
 
@@ -432,7 +433,10 @@ module _ (limit : ℕ) (m : Bodies) (d : ℕ) (low : d ≤ limit) (v : Env) wher
 
     last_powers : (op : ℕ) (of_word : Bool) (value : Expr) → op_level op of_word ≡ 0 → rank value ≤ 6 → Proper m value → (b : Bool) → nat_le (rank value) 5 ≡ b → Powers (more_operands op of_word value no_operands) (PowerEnd (ending value))
     last_powers op of_word value l r h true q = record {
-      items = record { op = op; is_word = of_word; value = value } ∷ []; last = None; pieces = []; same = refl;
+      items = record { op = op; is_word = of_word; value = value } ∷ [];
+      last = None;
+      pieces = [];
+      same = refl;
       prints = append-nil (operator_piece op of_word d ∷ (print m d value ++ []));
       known = ((l, leb-true (rank value) 5 q, h), tt);
       stop = c_look limit (λ rest g. power_stops rest g.1);
@@ -442,7 +446,10 @@ module _ (limit : ℕ) (m : Bodies) (d : ℕ) (low : d ≤ limit) (v : Env) wher
     last_powers op of_word value l r h false q =
         let o : Operand = record { op = op; is_word = of_word; value = value } in
         record {
-          items = []; last = Some o; pieces = operand_pieces o; same = refl;
+          items = [];
+          last = Some o;
+          pieces = operand_pieces o;
+          same = refl;
           prints = ap (λ x. operator_piece op of_word d ∷ x) (sym (append-nil (print m d value)));
           known = tt;
           stop = c_weaken limit (λ t g. g.0) (power_item o (Stop (Some o)) l r h (power_last o q));
@@ -465,7 +472,9 @@ module _ (limit : ℕ) (m : Bodies) (d : ℕ) (low : d ≤ limit) (v : Env) wher
         let r = powers (ending value) (more_operands p b y rest) h.3 in
         let o : Operand = record { op = op; is_word = of_word; value = value } in
         record {
-          items = o ∷ r.items; last = r.last; pieces = r.pieces;
+          items = o ∷ r.items;
+          last = r.last;
+          pieces = r.pieces;
           same = with_more o r.items r.last ∙ ap (λ z. o ∷ z) r.same;
           prints = append_assoc (operand_pieces o) (flat operand_pieces r.items) r.pieces ∙ ap (λ z. operand_pieces o ++ z) r.prints;
           known = ((h.0, h.1, h.2), r.known);
@@ -512,4 +521,4 @@ module _ (limit : ℕ) (m : Bodies) (d : ℕ) (low : d ≤ limit) (v : Env) wher
         let same : operand_rank (suc n) ≡ 7 + n = operand_low (suc n) s ∙ omega arith in
         c_weaken limit (λ t g. (level_less w n (suc n) (ending e) t (omega arith) g, g.ops (suc n) (omega arith)))
         (step_complete w n (omega (arith, s)) n (omega arith) (parser.level_of v w n false) (λ x k. level_complete n (omega (arith, s)) w false x (omega (arith, k.0, same)) k.1 k.2) (parser.level_of v w n heads) e l
-            (level_complete n (omega (arith, s)) w heads l.first (omega (arith, l.rank_le, same)) l.proper l.in_if))
+        (level_complete n (omega (arith, s)) w heads l.first (omega (arith, l.rank_le, same)) l.proper l.in_if))

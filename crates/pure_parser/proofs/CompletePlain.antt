@@ -191,12 +191,12 @@ module _ (limit : ℕ) (m : Bodies) (d : ℕ) (low : d ≤ limit) (v : Env) (una
   coalesced w heads e r h i =
       let l = binary_level m w 11 e (binary_only e (omega (arith, r)) (omega (arith, r))) r h i in
       c_value l.same (c_pieces limit (binary_pieces m d l.first l.rest ∙ ap (print m d) l.same) (c_weaken limit (λ t g. subst (λ x. LevelStops w 11 x t) (sym (binary_ending l.first l.rest ∙ ap ending l.same)) g)
-          (c_bind limit (λ x. peek (λ t. when (is_op w parser.coalesce_level t.kind) (parser.operands_from w parser.coalesce_level (parser.level_of v w parser.bit_or_level false) x) (parser.or_from v w x)))
-              (lower w heads l.first l.rank_le l.proper l.in_if)
-              (lead_map (λ t g. g) (behind w (ending l.first) l.rest l.operands))
-              (c_when (λ t. is_op w parser.coalesce_level t.kind) (parser.or_from v w l.first) (with_op w l.first l.rest (ap rank l.same ∙ r) l.rank_le l.operands l.operands_in)
-                  (c_weaken limit (λ t g. (level_less w 8 11 (operands_ending (ending l.first) l.rest) t (omega arith) g, g.ops 11 (omega arith)))
-                  (from_complete limit m d low v w 10 (omega arith) 8 (omega arith) (parser.level_of v w 8 false) (λ x k. lower w false x k.0 k.1 k.2) (ending l.first) l.first l.rest l.operands l.operands_in))))))
+      (c_bind limit (λ x. peek (λ t. when (is_op w parser.coalesce_level t.kind) (parser.operands_from w parser.coalesce_level (parser.level_of v w parser.bit_or_level false) x) (parser.or_from v w x)))
+      (lower w heads l.first l.rank_le l.proper l.in_if)
+      (lead_map (λ t g. g) (behind w (ending l.first) l.rest l.operands))
+      (c_when (λ t. is_op w parser.coalesce_level t.kind) (parser.or_from v w l.first) (with_op w l.first l.rest (ap rank l.same ∙ r) l.rank_le l.operands l.operands_in)
+      (c_weaken limit (λ t g. (level_less w 8 11 (operands_ending (ending l.first) l.rest) t (omega arith) g, g.ops 11 (omega arith)))
+      (from_complete limit m d low v w 10 (omega arith) 8 (omega arith) (parser.level_of v w 8 false) (λ x k. lower w false x k.0 k.1 k.2) (ending l.first) l.first l.rest l.operands l.operands_in))))))
     where
       behind : (w : Bool) (e : Ending) (os : Operands) → ProperOperands m 11 os → Leads (print_operands m d os) (LevelStops w 11 (operands_ending e os)) (LevelStops w 8 e)
       behind w e no_operands h = lead_map (λ t g. level_less w 8 11 e t (omega arith) g) lead_none
@@ -222,16 +222,16 @@ module _ (limit : ℕ) (m : Bodies) (d : ℕ) (low : d ≤ limit) (v : Env) (una
       let ends : (t : Lexeme) → LevelStops w 11 (ending e) t → LevelStops w 11 (operands_ending (ending a.first) a.rest) t = λ t g. subst (λ x. LevelStops w 11 x t) (sym outer) g in
       let tens : Leads (print_operands m d a.rest) (LevelStops w 11 (ending e)) (LevelStops w 9 (operands_ending (ending b.first) b.rest)) = lead_map (λ t g. subst (λ x. LevelStops w 9 x t) (sym inner) g) (lead_from ends (operands_lead w 10 9 11 (ending a.first) a.rest (omega arith) (omega arith) (omega arith) a.operands)) in
       c_value a.same (c_pieces limit (sym (append_assoc (print m d b.first) (print_operands m d b.rest) (print_operands m d a.rest)) ∙ ap (λ x. x ++ print_operands m d a.rest) (binary_pieces m d b.first b.rest ∙ ap (print m d) b.same) ∙ binary_pieces m d a.first a.rest ∙ ap (print m d) a.same)
-          (c_bind limit (λ x. peek (λ t. when (is_op w parser.coalesce_level t.kind) (parser.operands_from w parser.coalesce_level (parser.level_of v w parser.bit_or_level false) x) (parser.or_from v w x)))
-              (lower w heads b.first b.rank_le b.proper b.in_if)
-              (lead_append tens (operands_lead w 9 8 9 (ending b.first) b.rest (omega arith) (omega arith) (omega arith) b.operands))
-              (c_else (λ t. is_op w parser.coalesce_level t.kind) (parser.operands_from w parser.coalesce_level (parser.level_of v w parser.bit_or_level false) b.first)
-                  (lead_append (no_coalesce w 10 a.rest (omega arith) a.operands (λ t g. g.ops 11 (omega arith))) (no_coalesce w 9 b.rest (omega arith) b.operands (λ t g. g)))
-                  (c_bind limit (parser.operands_from w parser.or_level (parser.level_of v w parser.and_level false))
-                      (c_value b.same (from_complete limit m d low v w 8 (omega arith) 8 (omega arith) (parser.level_of v w 8 false) (λ x k. lower w false x k.0 k.1 k.2) (ending b.first) b.first b.rest b.operands b.operands_in))
-                      (lead_map (λ t g. (level_less w 8 9 (operands_ending (ending b.first) b.rest) t (omega arith) g, g.ops 9 (omega arith))) tens)
-                      (c_weaken limit (λ t g. let k = ends t g in (level_less w 9 11 (operands_ending (ending a.first) a.rest) t (omega arith) k, k.ops 10 (omega arith)))
-                      (from_complete limit m d low v w 9 (omega arith) 9 (omega arith) (parser.level_of v w 9 false) (λ x k. level_complete limit m d low v unary 9 (omega arith) w false x k.0 k.1 k.2) (ending a.first) a.first a.rest a.operands a.operands_in))))))
+      (c_bind limit (λ x. peek (λ t. when (is_op w parser.coalesce_level t.kind) (parser.operands_from w parser.coalesce_level (parser.level_of v w parser.bit_or_level false) x) (parser.or_from v w x)))
+      (lower w heads b.first b.rank_le b.proper b.in_if)
+      (lead_append tens (operands_lead w 9 8 9 (ending b.first) b.rest (omega arith) (omega arith) (omega arith) b.operands))
+      (c_else (λ t. is_op w parser.coalesce_level t.kind) (parser.operands_from w parser.coalesce_level (parser.level_of v w parser.bit_or_level false) b.first)
+      (lead_append (no_coalesce w 10 a.rest (omega arith) a.operands (λ t g. g.ops 11 (omega arith))) (no_coalesce w 9 b.rest (omega arith) b.operands (λ t g. g)))
+      (c_bind limit (parser.operands_from w parser.or_level (parser.level_of v w parser.and_level false))
+      (c_value b.same (from_complete limit m d low v w 8 (omega arith) 8 (omega arith) (parser.level_of v w 8 false) (λ x k. lower w false x k.0 k.1 k.2) (ending b.first) b.first b.rest b.operands b.operands_in))
+      (lead_map (λ t g. (level_less w 8 9 (operands_ending (ending b.first) b.rest) t (omega arith) g, g.ops 9 (omega arith))) tens)
+      (c_weaken limit (λ t g. let k = ends t g in (level_less w 9 11 (operands_ending (ending a.first) a.rest) t (omega arith) k, k.ops 10 (omega arith)))
+      (from_complete limit m d low v w 9 (omega arith) 9 (omega arith) (parser.level_of v w 9 false) (λ x k. level_complete limit m d low v unary 9 (omega arith) w false x k.0 k.1 k.2) (ending a.first) a.first a.rest a.operands a.operands_in))))))
     where
       lead_from : {qs : List Piece} {G H F : Lexeme → Type 0} → ((t : Lexeme) → H t → G t) → Leads qs G F → Leads qs H F
       lead_from f l = record { by = λ u n h g. l.by u n h (f n g) }
@@ -339,18 +339,20 @@ module _ (limit : ℕ) (m : Bodies) (d : ℕ) (low : d ≤ limit) (v : Env) (una
     mark_stops : (w : Bool) (e : Ending) (op : ℕ) (t : Lexeme) → is_assign_op op ≡ true → t.kind ≡ kind.Mark op → CondStops w e t
     mark_stops w e op t a h =
         let from : 37 ≤ op = leb-true 37 op (and_left (nat_le 37 op) (nat_le op 49) a) in
-        let upto : op ≤ 49 = leb-true op 49 (and_right (nat_le 37 op) (nat_le op 49) a) in
-        (record {
-          unary = record {
-            tail = λ _. record {
-              dot = ap (is_mark mark.DOT) h ∙ ne_eqb op mark.DOT (λ q. absurd (omega (arith, q, upto)));
-              bracket = ap (is_mark mark.OPEN_BRACKET) h ∙ ne_eqb op mark.OPEN_BRACKET (λ q. absurd (omega (arith, q, from)));
-              paren = ap (is_mark mark.OPEN_PAREN) h ∙ ne_eqb op mark.OPEN_PAREN (λ q. absurd (omega (arith, q, from)));
+        let upto : op ≤ 49 = leb-true op 49 (and_right (nat_le 37 op) (nat_le op 49) a) in (
+          record {
+            unary = record {
+              tail = λ _. record {
+                dot = ap (is_mark mark.DOT) h ∙ ne_eqb op mark.DOT (λ q. absurd (omega (arith, q, upto)));
+                bracket = ap (is_mark mark.OPEN_BRACKET) h ∙ ne_eqb op mark.OPEN_BRACKET (λ q. absurd (omega (arith, q, from)));
+                paren = ap (is_mark mark.OPEN_PAREN) h ∙ ne_eqb op mark.OPEN_PAREN (λ q. absurd (omega (arith, q, from)));
+              };
+              update = λ _. ap (λ k. is_update k && not t.after_line) h ∙ ap (λ b. b && not t.after_line) (no_between mark.INCREMENT mark.DECREMENT op (omega (arith, from)));
             };
-            update = λ _. ap (λ k. is_update k && not t.after_line) h ∙ ap (λ b. b && not t.after_line) (no_between mark.INCREMENT mark.DECREMENT op (omega (arith, from)));
-          };
-          ops = λ k l. other_level w t.kind k 12 (ap kind_level h ∙ no_level_high op (omega (arith, from))) (λ q. absurd (omega (arith, q, l)));
-        }, ap (is_mark mark.QUESTION) h ∙ ne_eqb op mark.QUESTION (λ q. absurd (omega (arith, q, from))))
+            ops = λ k l. other_level w t.kind k 12 (ap kind_level h ∙ no_level_high op (omega (arith, from))) (λ q. absurd (omega (arith, q, l)));
+          },
+          ap (is_mark mark.QUESTION) h ∙ ne_eqb op mark.QUESTION (λ q. absurd (omega (arith, q, from))),
+        )
 
     plain_assign : (w : Bool) (op : ℕ) (target value : Expr) → Proper m (tree.Assign op target value) → InIf w (free_of_in (tree.Assign op target value)) → Completes limit (print m d (tree.Assign op target value)) (λ t. continues_assign w (ending value) t ≡ false) (parser.plain_of v w) (tree.Assign op target value)
     unfolding parser.plain_of
@@ -358,8 +360,8 @@ module _ (limit : ℕ) (m : Bodies) (d : ℕ) (low : d ≤ limit) (v : Env) (una
         let j = in_one w (free_of_in target) (free_of_in value) i in
         c_bind limit (parser.assign_tail v w) (cond_short w true target (omega (arith, h.1)) h.2 j.0) (lead_at (λ t s. mark_stops w (ending target) op t h.0 s.kind))
         (c_at limit (λ t. bind (v.sub (AnAssign w)) (λ x. ret (tree.Assign (mark_of t.kind) target x))) low
-            (λ t ts s. assign_at w target t ts (ap (λ k. is_assign_mark k && nat_le (rank target) 4) s.kind ∙ ap (λ b. b && nat_le (rank target) 4) h.0 ∙ le-leb (rank target) 4 h.1))
-            (λ t s. c_value (ap (λ k. tree.Assign (mark_of k) target value) s.kind) (c_made limit (λ x. tree.Assign (mark_of t.kind) target x) (c.calls.assign w value h.3 h.4 j.1))))
+        (λ t ts s. assign_at w target t ts (ap (λ k. is_assign_mark k && nat_le (rank target) 4) s.kind ∙ ap (λ b. b && nat_le (rank target) 4) h.0 ∙ le-leb (rank target) 4 h.1))
+        (λ t s. c_value (ap (λ k. tree.Assign (mark_of k) target value) s.kind) (c_made limit (λ x. tree.Assign (mark_of t.kind) target x) (c.calls.assign w value h.3 h.4 j.1))))
 
     plain_short : (w : Bool) (e : Expr) → rank e ≤ 18 → Proper m e → InIf w (free_of_in e) → Completes limit (print m d e) (λ t. continues_assign w (ending e) t ≡ false) (parser.plain_of v w) e
     unfolding parser.plain_of

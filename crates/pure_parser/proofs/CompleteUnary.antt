@@ -195,7 +195,7 @@ module _ (limit : ℕ) (m : Bodies) (d : ℕ) (low : d ≤ limit) (v : Env) (c :
   unfolding parser.new_from
   from_complete at h ts callee a r p k e q = when_true (is_chain_head h) (bind (loop (parser.member_turn v)) (λ n. bind (parser.new_args v) (λ x. ret (tree.New at (chain_case h n.items) (maybe_args_of x))))) (ret (tree.New at h (maybe_args_of None))) (print_tails m d ts ++ print_args m d a) (tree.New at callee a) (le-leb (rank h) 1 r)
       (c_value (ap (λ x. tree.New at x (maybe_args_of (args_option a))) e ∙ ap (tree.New at callee) (of_args a))
-          (c_bind limit (λ n. bind (parser.new_args v) (λ x. ret (tree.New at (chain_case h n.items) (maybe_args_of x)))) (members_complete limit m d low v c ts p k) (args_leads at callee a) (c_made limit (λ x. tree.New at (chain_case h (tails_list ts)) (maybe_args_of x)) (new_args_complete at callee a q))))
+      (c_bind limit (λ n. bind (parser.new_args v) (λ x. ret (tree.New at (chain_case h n.items) (maybe_args_of x)))) (members_complete limit m d low v c ts p k) (args_leads at callee a) (c_made limit (λ x. tree.New at (chain_case h (tails_list ts)) (maybe_args_of x)) (new_args_complete at callee a q))))
 
   callee_low : (a : MaybeArgs) (n : ℕ) → n ≤ callee_rank a → n ≤ left_rank
   callee_low no_args n h = omega (arith, h)
@@ -276,7 +276,8 @@ module _ (limit : ℕ) (m : Bodies) (d : ℕ) (low : d ≤ limit) (v : Env) (c :
   mark_stops op h t k = record {
     dot = ap (is_mark mark.DOT) k ∙ update_is (λ x. is_mark mark.DOT (kind.Mark x) ≡ false) refl refl op h;
     bracket = ap (is_mark mark.OPEN_BRACKET) k ∙ update_is (λ x. is_mark mark.OPEN_BRACKET (kind.Mark x) ≡ false) refl refl op h;
-    paren = ap (is_mark mark.OPEN_PAREN) k ∙ update_is (λ x. is_mark mark.OPEN_PAREN (kind.Mark x) ≡ false) refl refl op h }
+    paren = ap (is_mark mark.OPEN_PAREN) k ∙ update_is (λ x. is_mark mark.OPEN_PAREN (kind.Mark x) ≡ false) refl refl op h;
+  }
 
   postfix_at : (heads : Bool) (at op : ℕ) (e : Expr) → is_update_op op ≡ true → rank e ≤ left_rank → Proper m e → Completes limit (print m d e ++ glued_mark op d ∷ []) Any (bind (parser.left_of v heads) (parser.postfix_of at)) (tree.Update at op false e)
   postfix_at heads at op e k r h = c_bind limit (parser.postfix_of at) (left_complete heads e r h) (lead_at (λ t s. mark_stops op k t s.kind)) (c_at limit (λ t. ret (tree.Update at op false e)) low (λ t ts s. postfix_here at op e t ts k s.kind (s.line refl)) (λ t s. c_ret limit (tree.Update at op false e)))

@@ -59,7 +59,6 @@ eats_front {R = R} {S = S} {f = f} s = record { each = λ ts. ate_front R S ts (
 
 module _ (v : Env) (l : LocalEnv v) (m : Bodies) (d : ℕ) (s : SoundEnv m d v)
     (pair : (q : List Lexeme) (t u : Lexeme) (us : List Lexeme) → is_param_form t u ≡ true → Pair q (v.sub (AnAssign true) (t ∷ u ∷ us)) (v.sub AParam (t ∷ u ∷ (us ++ q)))) where
-
   open_lexeme : Lexeme → Lexeme
   open_lexeme t = of_kind (kind.Mark mark.OPEN_PAREN) t
 
@@ -92,8 +91,8 @@ module _ (v : Env) (l : LocalEnv v) (m : Bodies) (d : ℕ) (s : SoundEnv m d v)
     unfolding Exprs.plain_of Exprs.cond_of Exprs.short_circuit
     plain_race =
         race_left q (Exprs.cond_of v w true (open_lexeme t ∷ us)) arrowed (Exprs.assign_tail v w) (assign_tail_local v l w)
-            (race_left q (Exprs.short_circuit v w true (open_lexeme t ∷ us)) arrowed (Exprs.cond_tail v w) (cond_tail_local v l w)
-                (race_left q (Exprs.level_of v w 8 true (open_lexeme t ∷ us)) arrowed _ (short_behind_local v l w) (level_race 8 (omega arith))))
+        (race_left q (Exprs.short_circuit v w true (open_lexeme t ∷ us)) arrowed (Exprs.cond_tail v w) (cond_tail_local v l w)
+        (race_left q (Exprs.level_of v w 8 true (open_lexeme t ∷ us)) arrowed _ (short_behind_local v l w) (level_race 8 (omega arith))))
 
   race_at : (q us : List Lexeme) (t : Lexeme) (w : Bool) → is_mark mark.OPEN_PAREN t.kind ≡ true → RunsOut (paren ∷ []) us → Race q (Exprs.plain_of v w (t ∷ us)) (Exprs.arrow_of v w (t ∷ (us ++ q)))
   unfolding arrowed open_lexeme
@@ -144,14 +143,14 @@ module _ (v : Env) (l : LocalEnv v) (m : Bodies) (d : ℕ) (s : SoundEnv m d v)
   open_same : (w : Bool) (t : Lexeme) (us q : List Lexeme) → is_name t.kind ≡ false → is_mark mark.OPEN_PAREN t.kind ≡ true → RunsOut (paren ∷ []) us → (c : Bool) → Exprs.is_arrow_head (t ∷ (us ++ q)) ≡ c → Same q (when (Exprs.is_arrow_head (t ∷ us)) (Exprs.arrow_of v w) (Exprs.plain_of v w) (t ∷ us)) (when c (Exprs.arrow_of v w) (Exprs.plain_of v w) (t ∷ (us ++ q)))
   open_same w t us q n e r true k =
       subst (λ b. Same q (when b (Exprs.arrow_of v w) (Exprs.plain_of v w) (t ∷ us)) (Exprs.arrow_of v w (t ∷ (us ++ q)))) (sym (head_other t us n ∙ ap (λ b. is_mark mark.OPEN_PAREN t.kind && b) (runs_false paren [] us r) ∙ none (is_mark mark.OPEN_PAREN t.kind)))
-          (race_same q (Exprs.plain_of v w (t ∷ us)) (Exprs.arrow_of v w (t ∷ (us ++ q))) (race_at q us t w e r))
+      (race_same q (Exprs.plain_of v w (t ∷ us)) (Exprs.arrow_of v w (t ∷ (us ++ q))) (race_at q us t w e r))
     where
       none : (b : Bool) → (b && false) ≡ false
       none true = refl
       none false = refl
   open_same w t us q n e r false k =
       subst (λ b. Same q (when b (Exprs.arrow_of v w) (Exprs.plain_of v w) (t ∷ us)) (Exprs.plain_of v w (t ∷ (us ++ q)))) (sym (head_other t us n ∙ ap (λ b. is_mark mark.OPEN_PAREN t.kind && b) (runs_false paren [] us r) ∙ none (is_mark mark.OPEN_PAREN t.kind)))
-          ((plain_local v l w).same (t ∷ us) q)
+      ((plain_local v l w).same (t ∷ us) q)
     where
       none : (b : Bool) → (b && false) ≡ false
       none true = refl
@@ -161,8 +160,9 @@ module _ (v : Env) (l : LocalEnv v) (m : Bodies) (d : ℕ) (s : SoundEnv m d v)
   unfolding Exprs.assign_of
   other_same w t us q n false o = same_branch w (t ∷ us) q (Exprs.is_arrow_head (t ∷ us)) (Exprs.is_arrow_head (t ∷ (us ++ q))) (head_other t (us ++ q) n ∙ ap (λ b. b && arrow_behind (paren ∷ []) (us ++ q)) o ∙ sym (head_other t us n ∙ ap (λ b. b && arrow_behind (paren ∷ []) us) o))
   other_same w t us q n true o = elim (behind_local paren [] us q) [
-      inl e ↦ same_branch w (t ∷ us) q (Exprs.is_arrow_head (t ∷ us)) (Exprs.is_arrow_head (t ∷ (us ++ q))) (head_other t (us ++ q) n ∙ ap (λ b. is_mark mark.OPEN_PAREN t.kind && b) e ∙ sym (head_other t us n))
-    | inr r ↦ open_same w t us q n o r (Exprs.is_arrow_head (t ∷ (us ++ q))) refl ]
+    | inl e ↦ same_branch w (t ∷ us) q (Exprs.is_arrow_head (t ∷ us)) (Exprs.is_arrow_head (t ∷ (us ++ q))) (head_other t (us ++ q) n ∙ ap (λ b. is_mark mark.OPEN_PAREN t.kind && b) e ∙ sym (head_other t us n))
+    | inr r ↦ open_same w t us q n o r (Exprs.is_arrow_head (t ∷ (us ++ q))) refl
+  ]
 
   assign_same : (w : Bool) (ts q : List Lexeme) → Same q (Exprs.assign_of v w ts) (Exprs.assign_of v w (ts ++ q))
   unfolding Exprs.assign_of
@@ -219,17 +219,17 @@ module _ (v : Env) (l : LocalEnv v) (q : List Lexeme) where
   value_pair : (t u : Lexeme) (us : List Lexeme) → t.kind ≡ kind.Name → u.kind ≡ kind.Mark mark.ASSIGN → Pair q (Exprs.assign_tail v true (tree.Name (named t)) (u ∷ us)) (Exprs.arrow_param v (t ∷ u ∷ (us ++ q)))
   value_pair t u us n e =
       subst (λ x. Pair q x (Exprs.arrow_param v (t ∷ u ∷ (us ++ q)))) (sym (tail_assign true (named t) u us e))
-          (subst (λ x. Pair q (bind (v.sub (AnAssign true)) (λ x. ret (tree.Assign mark.ASSIGN (tree.Name (named t)) x)) us) x) (sym (param_first t (u ∷ (us ++ q)) n ∙ ap (λ r. after r (λ o. ret (param (named t) o))) (init_assign u (us ++ q) e)))
-              (values_pair (named t) (v.sub (AnAssign true) us) (v.sub (AnAssign true) (us ++ q)) ((l.at (AnAssign true)).same us q)))
+      (subst (λ x. Pair q (bind (v.sub (AnAssign true)) (λ x. ret (tree.Assign mark.ASSIGN (tree.Name (named t)) x)) us) x) (sym (param_first t (u ∷ (us ++ q)) n ∙ ap (λ r. after r (λ o. ret (param (named t) o))) (init_assign u (us ++ q) e)))
+      (values_pair (named t) (v.sub (AnAssign true) us) (v.sub (AnAssign true) (us ++ q)) ((l.at (AnAssign true)).same us q)))
 
   pub call_pair : (t u : Lexeme) (us : List Lexeme) → is_param_form t u ≡ true → Pair q (Exprs.assign_of v true (t ∷ u ∷ us)) (Exprs.arrow_param v (t ∷ u ∷ (us ++ q)))
   call_pair t u us h =
       let n = form_name t u h in
       subst (λ x. Pair q x (Exprs.arrow_param v (t ∷ u ∷ (us ++ q)))) (sym (lone_assign v true t u us h))
-          (form_cases t u h
-              (λ e. lone_pair t u us n (ap is_assign_mark e) (ap (is_mark mark.ASSIGN) e))
-              (λ e. lone_pair t u us n (ap is_assign_mark e) (ap (is_mark mark.ASSIGN) e))
-              (λ e. value_pair t u us n e))
+      (form_cases t u h
+      (λ e. lone_pair t u us n (ap is_assign_mark e) (ap (is_mark mark.ASSIGN) e))
+      (λ e. lone_pair t u us n (ap is_assign_mark e) (ap (is_mark mark.ASSIGN) e))
+      (λ e. value_pair t u us n e))
 
 -- with whatever room for depth
 
@@ -253,12 +253,14 @@ module _ (m : Bodies) (body : ℕ → BodyParser) (b : (room d : ℕ) → SoundB
   no_room_env : LocalRoom (env_at zero)
   unfolding calls
   no_room_env = record {
-      env = record {
-        at = λ c. local_no_room (begins_call c);
-        eats = λ c. eats_no_room (begins_call c);
-        body = h zero;
-        name = λ t e. deep_end (λ q. no_room_name (AnAssign true) t q (begins_name (AnAssign true) t (inl refl) e)) (λ q. no_room_name AParam t q (begins_name AParam t (inr refl) e)) };
-      pair = λ q t u us k. let e = ap is_name (form_name t u k) in pair_deep [] (t ∷ u ∷ us) (no_room_name (AnAssign true) t (u ∷ us) (begins_name (AnAssign true) t (inl refl) e)) (no_room_name AParam t (u ∷ (us ++ q)) (begins_name AParam t (inr refl) e)) }
+    env = record {
+      at = λ c. local_no_room (begins_call c);
+      eats = λ c. eats_no_room (begins_call c);
+      body = h zero;
+      name = λ t e. deep_end (λ q. no_room_name (AnAssign true) t q (begins_name (AnAssign true) t (inl refl) e)) (λ q. no_room_name AParam t q (begins_name AParam t (inr refl) e));
+    };
+    pair = λ q t u us k. let e = ap is_name (form_name t u k) in pair_deep [] (t ∷ u ∷ us) (no_room_name (AnAssign true) t (u ∷ us) (begins_name (AnAssign true) t (inl refl) e)) (no_room_name AParam t (u ∷ (us ++ q)) (begins_name AParam t (inr refl) e));
+  }
 
   name_eats : Eats name_of
   unfolding name_of
@@ -305,7 +307,8 @@ module _ (m : Bodies) (body : ℕ → BodyParser) (b : (room d : ℕ) → SoundB
       let r = local_room room in
       record {
         env = record { at = call_local room r; eats = call_eats room r; body = h (suc room); name = call_name room r };
-        pair = call_pairs room r }
+        pair = call_pairs room r;
+      }
 
   -- the calls look at nothing behind the place where they stop, and each reads a lexeme
   pub calls_local : (room : ℕ) (c : Call) → Local (calls body room c)

@@ -117,7 +117,7 @@ module _ (v : Env) (l : LocalEnv v) (q : List Lexeme) where
     doomed_side y us s g m h e true k =
         let none = close_last y us k h in
         close_out (ap (λ x. length (left (after (after x (λ _. bad {A = Leading})) (turned (turns (Exprs.lead_turn v) n))))) (expect_close y us k) ∙ ap length none)
-            (omega (arith, ap (λ x. length (left x)) (e ∙ ending_here g m y (us ++ q) k), ap length (ap (λ x. x ++ q) none)))
+        (omega (arith, ap (λ x. length (left x)) (e ∙ ending_here g m y (us ++ q) k), ap length (ap (λ x. x ++ q) none)))
     doomed_side y us s g m h e false k = close_bad [] (y ∷ us) (ap (λ x. after (after x (λ _. bad {A = Leading})) (turned (turns (Exprs.lead_turn v) n))) (expect_stuck y us k)) (e ∙ ending_stuck g m y (us ++ q) k)
 
     -- the doomed, on the second side
@@ -152,7 +152,7 @@ module _ (v : Env) (l : LocalEnv v) (q : List Lexeme) where
     later_close : {B : Type 0} (g : Many Param ParamsEnd → B) (zs : List Lexeme) (x : Reply Leading) (y : Reply Arrowing) → ((us : List Lexeme) → length us < length zs → RunsOut (paren ∷ []) us → Rests n us) → length zs + length q ≤ limit → Later zs x y → Close q (first_side x) (after (after y more) (Ending g))
     later_close {B} g zs x y i z (later_again e p c us k h s) =
         subst (λ r. Close q (after (turns (Exprs.lead_turn v) n us) (λ m. ret (begun e m))) r) (sym (again_comma g p c (us ++ q) k))
-            (close_map q (turns (Exprs.lead_turn v) n us) _ (begun e) (i us s h B (λ m. g (begun p m)) (b.steps (c ∷ (us ++ q))) (omega (arith, length-append us q, b.enough (c ∷ (us ++ q)) (omega (arith, length-append us q, s, z))))))
+        (close_map q (turns (Exprs.lead_turn v) n us) _ (begun e) (i us s h B (λ m. g (begun p m)) (b.steps (c ∷ (us ++ q))) (omega (arith, length-append us q, b.enough (c ∷ (us ++ q)) (omega (arith, length-append us q, s, z))))))
     later_close g zs x y i z (later_item es p c us k h) = ended (stopped es) c us _ g (begun p (stopped Plain)) h (again_other g p c (us ++ q) k) (is_mark mark.CLOSE_PAREN c.kind) refl
     later_close g zs x y i z (later_rest m c us h) = doomed_side c us _ g (stopped (Rest m)) h (ap (λ r. after r (Ending g)) (b.stops (Rest m) (c ∷ (us ++ q)))) (is_mark mark.CLOSE_PAREN c.kind) refl
     later_close g zs x y i z (later_plain es c us h) = plain_side es c us g h (is_mark mark.CLOSE_PAREN c.kind) refl
@@ -166,14 +166,13 @@ module _ (v : Env) (l : LocalEnv v) (q : List Lexeme) where
     turn_close g zs r s i w (turn_deep rs us e f) = close_deep rs us (ap (λ x. after x (turned (turns (Exprs.lead_turn v) n))) e) (ap (λ x. after (after x more) (Ending g)) f)
     turn_close g zs r s i w (turn_later rs x y e f h) =
         subst (λ a. Close q a (after (after s more) (Ending g))) (sym (ap (λ a. after a (turned (turns (Exprs.lead_turn v) n))) e ∙ after_noted rs x (turned (turns (Exprs.lead_turn v) n))))
-            (subst (λ a. Close q (noted rs (after x (turned (turns (Exprs.lead_turn v) n)))) a) (sym (ap (λ a. after (after a more) (Ending g)) f ∙ ap (λ a. after a (Ending g)) (after_noted (grown_records q rs) y more) ∙ after_noted (grown_records q rs) (after y more) (Ending g)))
-                (close_noted q rs (after x (turned (turns (Exprs.lead_turn v) n))) (after (after y more) (Ending g)) (later_close g zs x y i w h)))
+        (subst (λ a. Close q (noted rs (after x (turned (turns (Exprs.lead_turn v) n)))) a) (sym (ap (λ a. after (after a more) (Ending g)) f ∙ ap (λ a. after a (Ending g)) (after_noted (grown_records q rs) y more) ∙ after_noted (grown_records q rs) (after y more) (Ending g)))
+        (close_noted q rs (after x (turned (turns (Exprs.lead_turn v) n))) (after (after y more) (Ending g)) (later_close g zs x y i w h)))
 
   -- one turn of both
 
   module _ (m : Bodies) (d : ℕ) (s : SoundEnv m d v)
       (pair : (t u : Lexeme) (us : List Lexeme) → is_param_form t u ≡ true → Pair q (v.sub (AnAssign true) (t ∷ u ∷ us)) (v.sub AParam (t ∷ u ∷ (us ++ q)))) where
-
     open_all : {ps : List Piece} {w : List Lexeme} → Nested ps → FitsAll ps w → open_at_end (paren ∷ []) w ≡ Some (paren ∷ [])
     open_all {w = w} x f = x.at w end_lexeme (f.before end_lexeme) (paren ∷ [])
 
@@ -245,7 +244,7 @@ module _ (v : Env) (l : LocalEnv v) (q : List Lexeme) where
         let more = λ (e : Expr). bind (loop (Exprs.more_turn v true)) (λ n. ret (e ∷ n.items)) in
         let more_is = λ (e : Expr). local_bind (local_loop (more_turn_local v l true) (more_turn_gains v l true)) (λ n. local_ret (e ∷ n.items)) in
         turn_out (omega (arith, h, after_shorter more more_is (v.sub (AnAssign true) (t ∷ [])), after_shorter (λ (es : List Expr). ret {A = Leading} (Stop es)) (λ es. local_ret (Stop es)) (after (v.sub (AnAssign true) (t ∷ [])) more)))
-            (omega (arith, k q, after_shorter (again {A = Param} {B = ParamsEnd}) (λ p. local_ret (Again p)) (v.sub AParam (t ∷ q))))
+        (omega (arith, k q, after_shorter (again {A = Param} {B = ParamsEnd}) (λ p. local_ret (Again p)) (v.sub AParam (t ∷ q))))
 
     item_pair : (t : Lexeme) (ts : List Lexeme) → RunsOut (paren ∷ []) (t ∷ ts) → TurnRace (t ∷ ts) (Exprs.lead_item v (t ∷ ts)) (Exprs.arrow_item v (t ∷ (ts ++ q)))
     unfolding Exprs.lead_item Exprs.arrow_item
@@ -286,11 +285,12 @@ module _ (v : Env) (l : LocalEnv v) (q : List Lexeme) where
 
     turned_behind : (k : ℕ) → Behind k (turned (turns (Exprs.arrow_turn v) (suc k)))
     turned_behind k = record {
-        near = local_turned (turns (Exprs.arrow_turn v) (suc k)) (local_turns (Exprs.arrow_turn v) (arrow_turn_local v l) (suc k));
-        steps = λ us. k;
-        enough = λ us h. h;
-        goes = λ p us. refl;
-        stops = λ e us. refl }
+      near = local_turned (turns (Exprs.arrow_turn v) (suc k)) (local_turns (Exprs.arrow_turn v) (arrow_turn_local v l) (suc k));
+      steps = λ us. k;
+      enough = λ us h. h;
+      goes = λ p us. refl;
+      stops = λ e us. refl;
+    }
 
     lead_left : (n : ℕ) (zs : List Lexeme) → length (left (turns (Exprs.lead_turn v) n zs)) ≤ length zs
     lead_left n zs = (local_turns (Exprs.lead_turn v) (lead_turn_local v l) n).shorter zs
@@ -302,12 +302,12 @@ module _ (v : Env) (l : LocalEnv v) (q : List Lexeme) where
     at_close g n k t ts r c =
         let none = close_last t ts c r in
         close_out (ap (λ x. length (left (after x (turned (turns (Exprs.lead_turn v) n))))) (lead_close t ts c) ∙ ap length none)
-            (omega (arith, ap (λ x. length (left x)) (ap (λ x. after (after x (turned (turns (Exprs.arrow_turn v) k))) (Ending g)) (next_close t (ts ++ q) c) ∙ ending_here g (stopped Trailing) t (ts ++ q) c), ap length (ap (λ x. x ++ q) none)))
+        (omega (arith, ap (λ x. length (left x)) (ap (λ x. after (after x (turned (turns (Exprs.arrow_turn v) k))) (Ending g)) (next_close t (ts ++ q) c) ∙ ending_here g (stopped Trailing) t (ts ++ q) c), ap length (ap (λ x. x ++ q) none)))
 
     at_item : {B : Type 0} (g : Many Param ParamsEnd → B) (n k : ℕ) (t : Lexeme) (ts : List Lexeme) → RunsOut (paren ∷ []) (t ∷ ts) → is_mark mark.CLOSE_PAREN t.kind ≡ false → length (t ∷ ts) + length q ≤ k → ((us : List Lexeme) → length us < length (t ∷ ts) → RunsOut (paren ∷ []) us → Rests n us) → Close q (after (Exprs.lead_turn v (t ∷ ts)) (turned (turns (Exprs.lead_turn v) n))) (after (after (Exprs.arrow_next v (t ∷ (ts ++ q))) (turned (turns (Exprs.arrow_turn v) (suc k)))) (Ending g))
     at_item g n k t ts r c z i =
         subst (λ x. Close q (after (Exprs.lead_turn v (t ∷ ts)) (turned (turns (Exprs.lead_turn v) n))) (after (after x (turned (turns (Exprs.arrow_turn v) (suc k)))) (Ending g))) (sym (next_first t (ts ++ q) c))
-            (turn_close k (turned (turns (Exprs.arrow_turn v) (suc k))) (turned_behind k) n g (t ∷ ts) (Exprs.lead_turn v (t ∷ ts)) (Exprs.arrow_first v (t ∷ (ts ++ q))) i z (turn_race t ts c r))
+        (turn_close k (turned (turns (Exprs.arrow_turn v) (suc k))) (turned_behind k) n g (t ∷ ts) (Exprs.lead_turn v (t ∷ ts)) (Exprs.arrow_first v (t ∷ (ts ++ q))) i z (turn_race t ts c r))
 
     turns_at : (n : ℕ) (zs : List Lexeme) → after (Exprs.lead_turn v zs) (turned (turns (Exprs.lead_turn v) n)) ≡ turns (Exprs.lead_turn v) (suc n) zs
     unfolding turns
@@ -319,20 +319,22 @@ module _ (v : Env) (l : LocalEnv v) (q : List Lexeme) where
     rests (suc n) (t ∷ ts) h r B g zero s = absurd (omega (arith, s))
     rests (suc n) (t ∷ ts) h r B g (suc k) s =
         subst (λ x. Close q x (after (after (Exprs.arrow_next v (t ∷ (ts ++ q))) (turned (turns (Exprs.arrow_turn v) (suc k)))) (Ending g))) (turns_at n (t ∷ ts))
-            (elim (bool_cases (is_mark mark.CLOSE_PAREN t.kind)) [
-                inl c ↦ at_close g n (suc k) t ts r c
-              | inr c ↦ at_item g n k t ts r c (omega (arith, s, length-append ts q)) (λ us lt x. rests n us (omega (arith, lt, h)) x) ])
+        (elim (bool_cases (is_mark mark.CLOSE_PAREN t.kind)) [
+          | inl c ↦ at_close g n (suc k) t ts r c
+          | inr c ↦ at_item g n k t ts r c (omega (arith, s, length-append ts q)) (λ us lt x. rests n us (omega (arith, lt, h)) x)
+        ])
 
     -- all items from the first, and what stands around them
 
     led_behind : (limit : ℕ) → Behind limit (Exprs.params_led (Exprs.arrow_turn v))
     unfolding loop
     led_behind limit = record {
-        near = params_led_local v l (arrow_turn_local v l) (arrow_turn_gains v l);
-        steps = length;
-        enough = λ us h. omega arith;
-        goes = λ p us. refl;
-        stops = λ e us. refl }
+      near = params_led_local v l (arrow_turn_local v l) (arrow_turn_gains v l);
+      steps = length;
+      enough = λ us h. omega arith;
+      goes = λ p us. refl;
+      stops = λ e us. refl;
+    }
 
     params_first : (t : Lexeme) (ts : List Lexeme) → is_mark mark.CLOSE_PAREN t.kind ≡ false → Exprs.arrow_params v (t ∷ ts) ≡ after (Exprs.arrow_first v (t ∷ ts)) (Exprs.params_led (Exprs.arrow_turn v))
     unfolding Exprs.arrow_params
@@ -347,12 +349,13 @@ module _ (v : Env) (l : LocalEnv v) (q : List Lexeme) where
     all_close g [] r = close_out (omega (arith, lead_left 1 [])) (omega (arith, (arrow_params_local v l).shorter q, after_shorter (Ending g) (ending_local g) (Exprs.arrow_params v q)))
     all_close g (t ∷ ts) r =
         subst (λ x. Close q x (after (Exprs.arrow_params v (t ∷ (ts ++ q))) (Ending g))) (turns_at (length (t ∷ ts)) (t ∷ ts))
-            (elim (bool_cases (is_mark mark.CLOSE_PAREN t.kind)) [
-                inl c ↦ (let none = close_last t ts c r in
-                    close_out (ap (λ x. length (left (after x (turned (turns (Exprs.lead_turn v) (length (t ∷ ts))))))) (lead_close t ts c) ∙ ap length none)
-                        (omega (arith, ap (λ x. length (left x)) (ap (λ x. after x (Ending g)) (params_close t (ts ++ q) c) ∙ ending_here g (stopped Plain) t (ts ++ q) c), ap length (ap (λ x. x ++ q) none))))
-              | inr c ↦ subst (λ x. Close q (after (Exprs.lead_turn v (t ∷ ts)) (turned (turns (Exprs.lead_turn v) (length (t ∷ ts))))) (after x (Ending g))) (sym (params_first t (ts ++ q) c))
-                    (turn_close (length (t ∷ ts) + length q) (Exprs.params_led (Exprs.arrow_turn v)) (led_behind (length (t ∷ ts) + length q)) (length (t ∷ ts)) g (t ∷ ts) (Exprs.lead_turn v (t ∷ ts)) (Exprs.arrow_first v (t ∷ (ts ++ q))) (λ us lt x. rests (length (t ∷ ts)) us lt x) (omega arith) (turn_race t ts c r)) ])
+        (elim (bool_cases (is_mark mark.CLOSE_PAREN t.kind)) [
+          | inl c ↦ (let none = close_last t ts c r in
+              close_out (ap (λ x. length (left (after x (turned (turns (Exprs.lead_turn v) (length (t ∷ ts))))))) (lead_close t ts c) ∙ ap length none)
+              (omega (arith, ap (λ x. length (left x)) (ap (λ x. after x (Ending g)) (params_close t (ts ++ q) c) ∙ ending_here g (stopped Plain) t (ts ++ q) c), ap length (ap (λ x. x ++ q) none))))
+          | inr c ↦ subst (λ x. Close q (after (Exprs.lead_turn v (t ∷ ts)) (turned (turns (Exprs.lead_turn v) (length (t ∷ ts))))) (after x (Ending g))) (sym (params_first t (ts ++ q) c))
+              (turn_close (length (t ∷ ts) + length q) (Exprs.params_led (Exprs.arrow_turn v)) (led_behind (length (t ∷ ts) + length q)) (length (t ∷ ts)) g (t ∷ ts) (Exprs.lead_turn v (t ∷ ts)) (Exprs.arrow_first v (t ∷ (ts ++ q))) (λ us lt x. rests (length (t ∷ ts)) us lt x) (omega arith) (turn_race t ts c r))
+        ])
 
     -- both have the same fault up to the closing parenthesis, or both run out
     pub paren_race : (at : ℕ) (us : List Lexeme) → RunsOut (paren ∷ []) us → Race q (Exprs.paren_of v true at us) (Exprs.arrow_listed v at (us ++ q))

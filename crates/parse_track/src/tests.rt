@@ -1,3 +1,5 @@
+ghost use Rattle.std.specs.Prelude.{IsSome, OnOk};
+
 use crate::region::{ClosedAt, Declare, Early, Jump, Known, Region, Tracked};
 use crate::track::Track;
 use script_grammar::tree::Ident;
@@ -112,16 +114,32 @@ fn the_first_of_two_errors_at_one_offset_is_that_of_the_smaller_rule(
     Ok(())
 }
 
+fn declare_names(track: &mut Track, count: u32) -> Result<(), AllocError>
+    requires { IsSome track.old.present }
+    ensures { OnOk result (IsSome track.new.present) }
+{
+    for atom in 0..count {
+        track.declare(Declare::Lexical, name(atom, atom))?;
+    }
+    Ok(())
+}
+
+fn use_names(track: &mut Track, count: u32) -> Result<(), AllocError>
+    requires { IsSome track.old.present }
+{
+    for atom in 0..count {
+        track.used(atom)?;
+    }
+    Ok(())
+}
+
 // So many names, each used once in a function inside.
 fn many_names(alloc: Global, count: u32) -> Result<Tracked, AllocError> {
     let mut track = Track::new(alloc, KNOWN);
-    let script = track.enter(Region::Script, 0)?;
-    for atom in 0..count {
-        track.resume(script);
-        track.declare(Declare::Lexical, name(atom, atom))?;
-        let _arrow = track.enter(Region::Arrow, atom)?;
-        track.used(atom)?;
-    }
+    let _script = track.enter(Region::Script, 0)?;
+    declare_names(&mut track, count)?;
+    let _arrow = track.enter(Region::Arrow, count)?;
+    use_names(&mut track, count)?;
     track.finish()
 }
 

@@ -1,0 +1,5 @@
+pub mod Asked
+pub mod Chosen
+pub mod Faults
+pub mod Numbers
+pub mod Words

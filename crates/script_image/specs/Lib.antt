@@ -1,0 +1,5 @@
+pub mod CodeLines
+pub mod OpNames
+pub mod Quoted
+pub mod ScopeLines
+pub mod ScriptLines

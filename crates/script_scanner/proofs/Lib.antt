@@ -1,5 +1,6 @@
 -- Lemmas of the scanner.
 pub mod BlankLemmas
+pub mod KindLemmas
 pub mod Lists
 pub mod MarkLemmas
 pub mod NumberLemmas

@@ -1,5 +1,5 @@
 -- How far a text is scanned.
-use Rattle.std.proofs.Common.{◌≡◌, ℕ, ◌+◌, ◌-◌, ◌<◌, ◌≤◌, inl, inr, zero, suc, List, [], ◌∷◌, ◌++◌, map, length, drop, Bool, false, refl, sym, ◌∙◌, ap, subst, arith, append_assoc, length-append, length-drop}
+use Rattle.std.proofs.Common.{◌≡◌, ℕ, ◌+◌, ◌-◌, ◌<◌, ◌≤◌, inl, inr, zero, suc, List, [], ◌∷◌, ◌++◌, map, length, drop, Bool, true, false, refl, sym, ◌∙◌, ap, subst, arith, append_assoc, length-append, length-drop}
 use Rattle.std.specs.Prelude.{Option, Some, None, ◌||◌, slice_get}
 use Rattle.std.specs.List.{AllByRecursion}
 use Rattle.std.proofs.lemmas.List.{append-nil}
@@ -13,12 +13,13 @@ use Rattle.script_scanner.specs.declared.pieces.Found.{Found}
 use Rattle.script_scanner.specs.declared.pieces.Content.{Content}
 use Rattle.script_scanner.specs.declared.pieces.Content.TheVariants as content
 use Rattle.script_scanner.specs.declared.scanning.Scanner.{Scanner}
+use Rattle.script_scanner.proofs.KindLemmas.{piece_no_last}
 use Rattle.script_scanner.proofs.Lists.{drop_drop}
-use Rattle.script_scanner.specs.Advances.{TakesValue, TakesToken, EndsWith, rest_after, Moves}
+use Rattle.script_scanner.specs.Advances.{TakesValue, TakesToken, EndsWith, LastAfter, rest_after, Moves}
 use Rattle.script_scanner.specs.Blanks.{blank_at}
 use Rattle.script_scanner.specs.Braces.{in_substitution}
 use Rattle.script_scanner.specs.Reads.{FindsPiece, HoldsValue}
-use Rattle.script_scanner.specs.Stands.{HasValue, StandsFor, StandFor, IsValueAmong, GainsOnly, Keeps}
+use Rattle.script_scanner.specs.Stands.{HasValue, StandsFor, StandFor, IsValueAmong, GainsOnly, Keeps, is_last, AreNoLast, HasOneLast}
 use Rattle.script_scanner.specs.Tokens.{Lexed, Piece, Value, Text, Number, Nothing, front_of, front_at, then_tokens, tokens_within, token_at, last_token, place, braces_after}
 
 module _ {X : Type 0} where
@@ -119,6 +120,33 @@ rest_some : (n : ℕ) (ls : List Lexed) → 0 < n → ls ≡ rest_after n ls
 rest_some zero ls some = absurd (omega (arith, some))
 rest_some (suc n) ls some = refl
 
+-- the last token, and no other, is End or Bad
+some_after : (n : ℕ) (ts : List Token) → 0 < n → AreNoLast ts → LastAfter n ts
+some_after zero ts some h = absurd (omega (arith, some))
+some_after (suc n) ts some h = h
+
+no_last_after : (n : ℕ) (ts : List Token) → 0 < n → LastAfter n ts → AreNoLast ts
+no_last_after zero ts some h = absurd (omega (arith, some))
+no_last_after (suc n) ts some h = h
+
+no_last_append : (ts us : List Token) → AreNoLast ts → AreNoLast us → AreNoLast (ts ++ us)
+no_last_append [] us h k = k
+no_last_append (t ∷ ts) us h k = (h.0, no_last_append ts us h.1 k)
+
+after_append : (n : ℕ) (ts us : List Token) → AreNoLast ts → LastAfter n us → LastAfter n (ts ++ us)
+after_append zero ts us h k = record {
+  front = ts ++ k.front;
+  last = k.last;
+  split = ap (λ (xs : List Token). ts ++ xs) k.split ∙ sym (append_assoc ts k.front (k.last ∷ []));
+  ends = k.ends;
+  others = no_last_append ts k.front h k.others;
+}
+after_append (suc n) ts us h k = no_last_append ts us h k
+
+last_is_last : (to : ℕ) (after : Bool) (rest : List Point) → is_last (last_token to after rest).kind ≡ true
+last_is_last to after [] = refl
+last_is_last to after (p ∷ rest) = refl
+
 -- a blank
 pub moves_blank : (to : ℕ) (rest : List Point) (tokens : List Token) (braces : List Brace) (after now : Bool) (texts : List (List ℕ)) (blank : Blank)
     → blank_at (map code_of rest) ≡ Some blank → 0 < blank.length → now ≡ after || blank.breaks → Moves to rest tokens tokens braces braces after now texts texts blank.length
@@ -128,6 +156,7 @@ moves_blank to rest tokens braces after now texts blank is some breaks = record 
   appended = sym (append-nil tokens);
   stand = tt;
   gains = gains_nothing texts texts [] refl;
+  last = some_after blank.length [] some tt;
   few = omega arith;
   steps = λ others.
       ap (λ (o : Option Blank). then_tokens to braces after rest (front_of o (token_at (in_substitution braces) (map code_of rest))) others) is
@@ -157,6 +186,7 @@ moves_piece to rest found before now texts texts_now taken (Some piece) t took s
         tt,
       );
       gains = value_gains piece.value found.content before.units.items texts texts_now t.token.value lexed finds.2 t.value refl;
+      last = some_after taken (t.token ∷ []) (omega (arith, took, some)) (ap is_last (t.kind ∙ finds.0) ∙ piece_no_last (in_substitution before.braces.items) (map code_of rest) piece is, tt);
       few = let one : length texts_now ≤ length texts + 1 = value_few found.content before.units.items texts texts_now t.token.value t.value in omega (arith, one, took, some);
       steps = λ others.
           ap (λ (b : Option Blank). then_tokens to before.braces.items before.after_line rest (front_of b (token_at (in_substitution before.braces.items) (map code_of rest))) others) bare
@@ -187,6 +217,7 @@ moves_none to rest tokens now braces braces_now after after_now texts units None
   appended = ends.appended;
   stand = (ends.stands texts, tt);
   gains = gains_nothing texts texts (last_token to after rest ∷ []) refl;
+  last = record { front = []; last = ends.token; split = refl; ends = ap is_last (ends.stands texts).kind ∙ last_is_last to after rest; others = tt };
   few = omega arith;
   steps = λ others.
       ap (λ (b : Option Blank). then_tokens to braces after rest (front_of b (token_at (in_substitution braces) (map code_of rest))) others) bare
@@ -215,6 +246,7 @@ pub record IsScanning (to : ℕ) (text : List Point) (at : ℕ) (tokens : List T
   pub made : List Lexed
   pub stand : StandFor now tokens made
   pub gains : GainsOnly texts now made
+  pub no_last : AreNoLast tokens
   pub few : length now ≤ length texts + at
   pub so_far : tokens_within (suc (length text)) to [] false text ≡ made ++ tokens_within fuel to braces after (drop at text)
 
@@ -226,6 +258,7 @@ pub record IsStepped (to : ℕ) (text : List Point) (at taken : ℕ) (tokens : L
   pub made : List Lexed
   pub stand : StandFor now tokens made
   pub gains : GainsOnly texts now made
+  pub last : LastAfter taken tokens
   pub few : length now ≤ length texts + (at + taken)
   pub so_far : tokens_within (suc (length text)) to [] false text ≡ made ++ rest_after taken (tokens_within fuel to braces after (drop (at + taken) text))
 
@@ -238,6 +271,7 @@ scanning_first to text tokens braces after texts no_tokens no_braces no_line = r
   made = [];
   stand = subst (λ (ts : List Token). StandFor texts ts []) (sym no_tokens) tt;
   gains = gains_nothing texts texts [] refl;
+  no_last = subst AreNoLast (sym no_tokens) tt;
   few = omega arith;
   so_far = ap (λ (bs : List Brace). tokens_within (suc (length text)) to bs false text) (sym no_braces) ∙ ap (λ (a : Bool). tokens_within (suc (length text)) to braces a text) (sym no_line);
 }
@@ -263,6 +297,7 @@ stepped to text at taken tokens tokens_now braces braces_now after after_now tex
   made = s.made ++ m.made;
   stand = stand_grown texts between now tokens m.fresh tokens_now s.made m.made m.appended s.stand m.stand m.gains;
   gains = gains_both texts between now s.made m.made s.gains m.gains;
+  last = subst (LastAfter taken) (sym m.appended) (after_append taken tokens m.fresh s.no_last m.last);
   few = omega (arith, s.few, m.few);
   so_far = s.so_far
       ∙ ap (λ (ls : List Lexed). s.made ++ ls) (unroll s.fuel to braces after (drop at text) (omega (arith, s.enough, s.within)) ∙ m.steps (λ o a ps. tokens_within (s.fuel - 1) to o a ps))
@@ -286,6 +321,7 @@ resumed to text at taken tokens braces after texts now s some = record {
   made = s.made;
   stand = s.stand;
   gains = s.gains;
+  no_last = no_last_after taken tokens some s.last;
   few = s.few;
   so_far = s.so_far ∙ ap (λ (ls : List Lexed). s.made ++ ls) (sym (rest_some taken (tokens_within s.fuel to braces after (drop (at + taken) text)) some));
 }
@@ -305,6 +341,10 @@ pub all_gained : (to : ℕ) (text : List Point) (at taken : ℕ) (tokens : List 
     → IsStepped to text at taken tokens braces after texts now → taken ≡ 0 → GainsOnly texts now (tokens_within (suc (length text)) to [] false text)
 all_gained to text at taken tokens braces after texts now s none =
     subst (λ (ls : List Lexed). GainsOnly texts now ls) (all_made to text at taken tokens braces after texts now s none) s.gains
+
+pub all_last : (to : ℕ) (text : List Point) (at taken : ℕ) (tokens : List Token) (braces : List Brace) (after : Bool) (texts now : List (List ℕ))
+    → IsStepped to text at taken tokens braces after texts now → taken ≡ 0 → HasOneLast tokens
+all_last to text at taken tokens braces after texts now s none = subst (λ (n : ℕ). LastAfter n tokens) none s.last
 
 -- what was kept by both
 pub keeps_both : (texts between now : List (List ℕ)) (ls : List Lexed) → GainsOnly texts between ls → Keeps between now → Keeps texts now

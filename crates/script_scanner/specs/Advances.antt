@@ -8,7 +8,7 @@ use Rattle.script_scanner.specs.declared.pieces.Found.{Found}
 use Rattle.script_scanner.specs.declared.pieces.Content.{Content}
 use Rattle.script_scanner.specs.declared.pieces.Content.TheVariants as content
 use Rattle.script_scanner.specs.declared.scanning.Scanner.{Scanner}
-use Rattle.script_scanner.specs.Stands.{StandFor, StandsFor, GainsOnly}
+use Rattle.script_scanner.specs.Stands.{StandFor, StandsFor, GainsOnly, AreNoLast, HasOneLast}
 use Rattle.script_scanner.specs.Tokens.{Lexed, then_tokens, front_at, place, braces_after}
 
 -- The number of a token: the atom of the units in the buffer, the number that stands beside the kind, or 0.
@@ -40,6 +40,11 @@ abbrev pub rest_after : ℕ → List Lexed → List Lexed
 rest_after zero rest = []
 rest_after (suc taken) rest = rest
 
+-- The last of these tokens, and no other, is End or Bad where no code point was taken, and none of them is otherwise.
+abbrev pub LastAfter : ℕ → List Token → Type 0
+LastAfter zero tokens = HasOneLast tokens
+LastAfter (suc taken) tokens = AreNoLast tokens
+
 -- A step takes so many code points of the rest and makes tokens of the model, which the tokens that came stand for: they are
 -- the first of the rest's tokens, and the others follow.
 pub record Moves (to : ℕ) (rest : List Point) (tokens tokens_now : List Token) (braces braces_now : List Brace) (after_line after_line_now : Bool)
@@ -49,6 +54,7 @@ pub record Moves (to : ℕ) (rest : List Point) (tokens tokens_now : List Token)
   pub appended : tokens_now ≡ tokens ++ fresh
   pub stand : StandFor texts_now fresh made
   pub gains : GainsOnly texts texts_now made
+  pub last : LastAfter taken fresh
   pub few : length texts_now ≤ length texts + taken
   pub steps : (others : List Brace → Bool → List Point → List Lexed) → then_tokens to braces after_line rest (front_at braces rest) others
       ≡ made ++ rest_after taken (others braces_now after_line_now (drop taken rest))

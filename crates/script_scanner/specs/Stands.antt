@@ -1,6 +1,8 @@
 -- What tokens of the code stand for: those of the model, by the texts that their atoms name.
-use Rattle.std.specs.Prelude.{◌≡◌, ℕ, List, [], ◌∷◌, ◌++◌, slice_get, Some}
+use Rattle.std.specs.Prelude.{◌≡◌, ℕ, Bool, true, false, List, [], ◌∷◌, ◌++◌, slice_get, Some}
 use Rattle.std.specs.List.{AllByRecursion}
+use Rattle.script_grammar.specs.declared.token.Kind.{Kind}
+use Rattle.script_grammar.specs.declared.token.Kind.TheVariants as kind
 use Rattle.script_grammar.specs.declared.token.Token.{Token}
 use Rattle.script_scanner.specs.Tokens.{Lexed, Value, Text, Number, Nothing}
 
@@ -38,3 +40,21 @@ pub record GainsOnly (before after : List (List ℕ)) (lexed : List Lexed) : Typ
 -- All texts from before stand where they stood.
 abbrev pub Keeps : List (List ℕ) → List (List ℕ) → Type 0
 Keeps before after = (more : List (List ℕ)) × (after ≡ before ++ more)
+
+-- Nothing follows a token of this kind: it is End or Bad.
+abbrev pub is_last : Kind → Bool
+is_last kind.Bad = true
+is_last kind.End = true
+is_last _ = false
+
+abbrev pub AreNoLast : List Token → Type 0
+AreNoLast [] = Unit {0}
+AreNoLast (t ∷ ts) = (is_last t.kind ≡ false) × AreNoLast ts
+
+-- The last token, and no other, is End or Bad.
+pub record HasOneLast (tokens : List Token) : Type 0 where
+  pub front : List Token
+  pub last : Token
+  pub split : tokens ≡ front ++ last ∷ []
+  pub ends : is_last last.kind ≡ true
+  pub others : AreNoLast front

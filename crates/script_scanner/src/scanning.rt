@@ -5,7 +5,7 @@ ghost use Rattle.std.specs.List.Sorted.{IsPartitionPoint, IsNonDecreasingBy};
 ghost use Rattle.script_scanner.specs.Order.{AreInOrder};
 ghost use Rattle.script_scanner.specs.Braces.{in_substitution};
 ghost use Rattle.script_scanner.specs.Tokens.{braces_after, last_token, place, tokens, tokens_within, without_first_line, part};
-ghost use Rattle.script_scanner.specs.Stands.{StandFor, StandsFor, GainsOnly, Keeps};
+ghost use Rattle.script_scanner.specs.Stands.{StandFor, StandsFor, GainsOnly, HasOneLast, Keeps};
 ghost use Rattle.script_scanner.specs.Advances.{Advances, TakesValue, TakesToken, EndsWith};
 
 use crate::blanks::{blank_at, first_line_length};
@@ -227,6 +227,7 @@ impl Scanner {
         requires braces { self.old.braces.items ≡ [] }
         requires after_line { self.old.after_line ≡ false }
         ensures stand { OnOk result (StandFor atoms.new self.new.tokens.items (tokens_within (suc (length text.now)) to [] false text.now)) }
+        ensures last { OnOk result (HasOneLast self.new.tokens.items) }
         ensures gains { OnOk result (GainsOnly atoms.old atoms.new (tokens_within (suc (length text.now)) to [] false text.now)) }
         ensures keeps { Keeps atoms.old atoms.new }
     {
@@ -249,6 +250,7 @@ fn scan_text(
 ) -> Result<Vec<Token>, AllocError>
     requires { length text.now + length atoms.old < 2 ^ 32 - 1 }
     ensures stand { IfOk result (λ made. StandFor atoms.new made.items (tokens_within (suc (length text.now)) to [] false text.now)) }
+    ensures last { IfOk result (λ made. HasOneLast made.items) }
     ensures gains { OnOk result (GainsOnly atoms.old atoms.new (tokens_within (suc (length text.now)) to [] false text.now)) }
     ensures keeps { Keeps atoms.old atoms.new }
 {
@@ -309,6 +311,7 @@ pub fn scan(
     requires in_order { AreInOrder points.now }
     requires few { length points.now + length atoms.old < 2 ^ 32 - 1 }
     ensures tokens { IfOk result (λ made. StandFor atoms.new made.items (tokens points.now from to)) }
+    ensures last { IfOk result (λ made. HasOneLast made.items) }
     ensures gains { OnOk result (GainsOnly atoms.old atoms.new (tokens points.now from to)) }
     ensures keeps { Keeps atoms.old atoms.new }
 {

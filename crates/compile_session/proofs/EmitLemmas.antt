@@ -92,6 +92,12 @@ emits_name old new o atom at a is same small bytes =
     (emits_one old new (record { op = op.GetGName; a = a; b = 0 }) (record { first = small; second = lit< tt }) bytes)
     (λ texts. ap (λ (n : ℕ). named op.GetGName (slice_index_or texts n []) ∷ []) same ∙ ap (λ (p : Operand). expr_code (expr_of texts p)) (sym is))
 
+pub emits_string : (old new : List ℕ) (o : Operand) (atom at end a : ℕ) → o ≡ operand.Str atom at end → a ≡ atom → a < 2 ^ 32 → new ≡ old ++ laid (record { op = op.String; a = a; b = 0 }) → Emits old new (λ texts. expr_code (expr_of texts o))
+emits_string old new o atom at end a is same small bytes =
+    emits_as old new (λ texts. command_of texts (record { op = op.String; a = a; b = 0 }) ∷ []) (λ texts. expr_code (expr_of texts o))
+    (emits_one old new (record { op = op.String; a = a; b = 0 }) (record { first = small; second = lit< tt }) bytes)
+    (λ texts. ap (λ (n : ℕ). named op.String (slice_index_or texts n []) ∷ []) same ∙ ap (λ (p : Operand). expr_code (expr_of texts p)) (sym is))
+
 pub emits_number : (old new : List ℕ) (o : Operand) (value at : ℕ) (code : Op) (a : ℕ) → o ≡ operand.Number value at → a < 256 ^ first_of code → second_of code ≡ 0 → ((texts : List (List ℕ)) → command_of texts (record { op = code; a = a; b = 0 }) ≡ number_code value) → new ≡ old ++ laid (record { op = code; a = a; b = 0 }) → Emits old new (λ texts. expr_code (expr_of texts o))
 emits_number old new o value at code a is small none stands bytes =
     emits_as old new (λ texts. command_of texts (record { op = code; a = a; b = 0 }) ∷ []) (λ texts. expr_code (expr_of texts o))

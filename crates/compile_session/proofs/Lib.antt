@@ -1,4 +1,4 @@
-pub mod ScanLemmas
+pub mod TokenLemmas
 pub mod ParseLemmas
 pub mod ScriptLemmas
 pub mod EmitLemmas

@@ -7,7 +7,7 @@ use Rattle.script_grammar.specs.Tree.{Expr, Operands, no_operands, more_operands
 use Rattle.script_grammar.specs.Tree as tree
 use Rattle.compile_session.specs.declared.parser.Operand.{Operand}
 use Rattle.compile_session.specs.declared.parser.Statement.{Statement}
-use Rattle.compile_session.specs.BuiltTokens.{seen_as}
+use Rattle.compile_session.specs.FileTokens.{seen_as, seen}
 use Rattle.compile_session.specs.Atoms.{AtomsFit}
 use Rattle.compile_session.specs.ReadBuilt as read
 use Rattle.compile_session.specs.ReadBuilt.{Rest, added, finished, ended, sum_of, read_stmts, read_rest, read_operand, at_end, part_of}
@@ -16,7 +16,7 @@ use Rattle.std.specs.Prelude.{Vec, IfSome}
 use Rattle.std.specs.declared.alloc.Global.{Global}
 use Rattle.std.proofs.Common.{subst, arith}
 use Rattle.compile_session.specs.declared.parser.Statement.TheVariants as statement
-use Rattle.compile_session.specs.Statements.{ReadsRest, ReadsSum, expr_of, operands_before, stmt_of, stmts_before, seen, rest_of}
+use Rattle.compile_session.specs.Statements.{ReadsRest, ReadsSum, expr_of, operands_before, stmt_of, stmts_before, rest_of}
 
 -- one operand more
 pub operands_before-last : (texts : List (List ℕ)) (os : List Operand) (o : Operand) (behind : Operands) → operands_before texts (os ++ o ∷ []) behind ≡ operands_before texts os (more_operands mark.PLUS false (expr_of texts o) behind)

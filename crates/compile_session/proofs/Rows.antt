@@ -1,20 +1,31 @@
 -- The definitions, computed on worked rows.
-use Rattle.std.proofs.Common.{◌≡◌, [], ◌∷◌, Some, None, false, true, codes, refl}
+use Rattle.std.proofs.Common.{◌≡◌, ℕ, [], ◌∷◌, Some, None, false, true, codes, map, refl}
 use Rattle.std.specs.Fmt.{digits}
+use Rattle.script_grammar.specs.declared.token.Kind.{Kind}
+use Rattle.script_grammar.specs.declared.token.Kind.TheVariants as kind
 use Rattle.script_grammar.specs.declared.token.mark.TheConstants as mark
+use Rattle.script_grammar.specs.declared.token.word.TheConstants as word
 use Rattle.script_grammar.specs.Tree.{Stmts, no_stmts, more_stmts, no_operands, more_operands}
 use Rattle.script_grammar.specs.Tree as tree
-use Rattle.compile_session.specs.BuiltTokens.{tokens_of, tokens_within}
+use Rattle.script_scanner.specs.Tokens.{Lexed, Value, Text, Number, Nothing}
+use Rattle.compile_session.specs.declared.refusal.Refusal.TheVariants as refusal
+use Rattle.compile_session.specs.FileTokens.{lexeme_of}
 use Rattle.compile_session.specs.ReadBuilt.{read_stmts}
-use Rattle.compile_session.specs.Verdict.{IsListed, IsTooLong, IsNotBuilt, file_text}
+use Rattle.compile_session.specs.Verdict.{IsListed, IsRefused, file_text}
 use Rattle.compile_session.specs.Words.{files_of}
+
+abbrev token : Kind → Value → ℕ → ℕ → Lexed
+token k v start end = record { kind = k; value = v; start = start; end = end; after_line = false }
+
+abbrev end_at : ℕ → Lexed
+end_at at = token kind.End Nothing at at
 
 -- `1 + 2;`
 sum : Stmts
 sum = more_stmts (tree.Value (tree.Binary (tree.Number 0 1) (more_operands mark.PLUS false (tree.Number 4 2) no_operands)) true) no_stmts
 
-sum_is_read : read_stmts (tokens_of (codes "1 + 2;")) ≡ Some sum
-unfolding tokens_within sum
+sum_is_read : read_stmts (map lexeme_of (token kind.Number (Number 1) 0 1 ∷ token (kind.Mark mark.PLUS) Nothing 2 3 ∷ token kind.Number (Number 2) 4 5 ∷ token (kind.Mark mark.SEMICOLON) Nothing 5 6 ∷ end_at 6 ∷ [])) ≡ Some sum
+unfolding sum
 sum_is_read = refl
 
 sum_is_listed : file_text (codes "a.js") (codes "1 + 2;") (IsListed sum) ≡ codes "file a.js\nscript 0 top 0..6\n  00000 GlobalOrEvalDeclInstantiation 0\n  00005 One\n  00006 Int8 2\n  00008 Add\n  00009 SetRval\n  00010 RetRval\n"
@@ -22,49 +33,50 @@ unfolding sum digits
 sum_is_listed = refl
 
 -- the empty file, and an empty statement
-empty_is_read : read_stmts (tokens_of []) ≡ Some no_stmts
-unfolding tokens_within
+empty_is_read : read_stmts (map lexeme_of (end_at 0 ∷ [])) ≡ Some no_stmts
 empty_is_read = refl
 
 empty_is_listed : file_text (codes "a.js") [] (IsListed no_stmts) ≡ codes "file a.js\nscript 0 top 0..0\n  00000 GlobalOrEvalDeclInstantiation 0\n  00005 RetRval\n"
 unfolding digits
 empty_is_listed = refl
 
-semicolon_is_read : read_stmts (tokens_of (codes ";")) ≡ Some (more_stmts tree.Empty no_stmts)
-unfolding tokens_within
+semicolon_is_read : read_stmts (map lexeme_of (token (kind.Mark mark.SEMICOLON) Nothing 0 1 ∷ end_at 1 ∷ [])) ≡ Some (more_stmts tree.Empty no_stmts)
 semicolon_is_read = refl
 
--- a name, the greatest number, and line ends
-names_are_read : read_stmts (tokens_of (codes "$a\n+ 9007199254740991;")) ≡ Some (more_stmts (tree.Value (tree.Binary (tree.Name (record { text = codes "$a"; at = 0 })) (more_operands mark.PLUS false (tree.Number 5 9007199254740991) no_operands)) true) no_stmts)
-unfolding tokens_within
-names_are_read = refl
+-- a name and a string: `b + "a\u{1F600}\n";`
+named : Stmts
+named = more_stmts (tree.Value (tree.Binary (tree.Name (record { text = codes "b"; at = 0 })) (more_operands mark.PLUS false (tree.Str 4 18 (0x61 ∷ 0xD83D ∷ 0xDE00 ∷ 0xA ∷ [])) no_operands)) true) no_stmts
 
--- what is not of the built form: no semicolon, a longer mark, a reserved word, a number that is too great, one that goes on
-unended_is_not_read : read_stmts (tokens_of (codes "1 + 2")) ≡ None
-unfolding tokens_within
+named_is_read : read_stmts (map lexeme_of (token kind.Name (Text (codes "b")) 0 1 ∷ token (kind.Mark mark.PLUS) Nothing 2 3 ∷ token kind.Str (Text (0x61 ∷ 0xD83D ∷ 0xDE00 ∷ 0xA ∷ [])) 4 18 ∷ token (kind.Mark mark.SEMICOLON) Nothing 18 19 ∷ end_at 19 ∷ [])) ≡ Some named
+unfolding named
+named_is_read = refl
+
+named_is_listed : file_text (codes "a.js") (codes "b + \"a\\u{1F600}\\n\";") (IsListed named) ≡ codes "file a.js\nscript 0 top 0..19\n  00000 GlobalOrEvalDeclInstantiation 0\n  00005 GetGName \"b\"\n  00010 String \"a\\ud83d\\ude00\\u000a\"\n  00015 Add\n  00016 SetRval\n  00017 RetRval\n"
+unfolding named digits
+named_is_listed = refl
+
+-- what is not of the built form: no semicolon, a word, a mark that is none of it, a part that begins no token
+unended_is_not_read : read_stmts (map lexeme_of (token kind.Number (Number 1) 0 1 ∷ end_at 1 ∷ [])) ≡ None
 unended_is_not_read = refl
 
-increment_is_not_read : read_stmts (tokens_of (codes "1 ++ 2;")) ≡ None
-unfolding tokens_within
-increment_is_not_read = refl
-
-word_is_not_read : read_stmts (tokens_of (codes "let;")) ≡ None
-unfolding tokens_within
+word_is_not_read : read_stmts (map lexeme_of (token (kind.Word word.LET) (Text (codes "let")) 0 3 ∷ token (kind.Mark mark.SEMICOLON) Nothing 3 4 ∷ end_at 4 ∷ [])) ≡ None
 word_is_not_read = refl
 
-great_is_not_read : read_stmts (tokens_of (codes "9007199254740992;")) ≡ None
-unfolding tokens_within
-great_is_not_read = refl
+increment_is_not_read : read_stmts (map lexeme_of (token kind.Number (Number 1) 0 1 ∷ token (kind.Mark mark.INCREMENT) Nothing 1 3 ∷ token kind.Number (Number 2) 3 4 ∷ token (kind.Mark mark.SEMICOLON) Nothing 4 5 ∷ end_at 5 ∷ [])) ≡ None
+increment_is_not_read = refl
 
-zero_is_not_read : read_stmts (tokens_of (codes "01;")) ≡ None
-unfolding tokens_within
-zero_is_not_read = refl
+bad_is_not_read : read_stmts (map lexeme_of (token kind.Bad Nothing 0 0 ∷ [])) ≡ None
+bad_is_not_read = refl
 
 -- refusals
-long_is_told : file_text (codes "a.js") [] IsTooLong ≡ codes "a.js: too long\n"
+long_is_told : file_text (codes "a.js") [] (IsRefused refusal.TooLong) ≡ codes "a.js: too long\n"
 long_is_told = refl
 
-other_is_told : file_text (codes "a.js") [] IsNotBuilt ≡ codes "a.js: not built\n"
+bad_text_is_told : file_text (codes "a.js") [] (IsRefused (refusal.BadUtf8 1)) ≡ codes "a.js:1: not UTF-8\n"
+unfolding digits
+bad_text_is_told = refl
+
+other_is_told : file_text (codes "a.js") [] (IsRefused refusal.NotBuilt) ≡ codes "a.js: not built\n"
 other_is_told = refl
 
 -- words of commands

@@ -110,10 +110,20 @@ number_operand t is = record {
   fits = λ ps w n fit. (record { kind = is; content = refl; starts = (refl, tt); ends = tt; line = λ h. absurd (cc) }, fit);
 }
 
+string_operand : (t : Lexeme) → t.kind ≡ kind.Str → IsOperandOf t (tree.Str t.start t.end t.text)
+string_operand t is = record {
+  built = tt;
+  proper = tt;
+  low = refl;
+  no_brace = λ rest. elim rest as (λ (r : Operands). begins_brace (sum_of (tree.Str t.start t.end t.text) r) ≡ false) [ no_operands ↦ refl | more_operands op is_word value behind ↦ refl ];
+  no_function = λ rest. elim rest as (λ (r : Operands). begins_function (sum_of (tree.Str t.start t.end t.text) r) ≡ false) [ no_operands ↦ refl | more_operands op is_word value behind ↦ refl ];
+  fits = λ ps w n fit. (record { kind = is; content = refl; starts = (refl, tt); ends = (refl, tt); line = λ h. absurd (cc) }, fit);
+}
+
 operand_by : (k : Kind) (t : Lexeme) (e : Expr) → t.kind ≡ k → part_by k t ≡ operand e → IsOperandOf t e
 operand_by kind.Name t e is h = let same : tree.Name (record { text = t.text; at = t.start }) ≡ e = cc in subst (IsOperandOf t) same (name_operand t is)
 operand_by kind.Number t e is h = let same : tree.Number t.start t.number ≡ e = cc in subst (IsOperandOf t) same (number_operand t is)
-operand_by kind.Str t e is h = absurd (cc)
+operand_by kind.Str t e is h = let same : tree.Str t.start t.end t.text ≡ e = cc in subst (IsOperandOf t) same (string_operand t is)
 operand_by kind.TemplateWhole t e is h = absurd (cc)
 operand_by kind.TemplateHead t e is h = absurd (cc)
 operand_by kind.TemplateMiddle t e is h = absurd (cc)
@@ -219,7 +229,7 @@ built_sum t (tree.This at) no_operands is built = absurd is.built
 built_sum t (tree.Null at) no_operands is built = absurd is.built
 built_sum t (tree.True at) no_operands is built = absurd is.built
 built_sum t (tree.False at) no_operands is built = absurd is.built
-built_sum t (tree.Str at last w) no_operands is built = absurd is.built
+built_sum t (tree.Str at last w) no_operands is built = tt
 built_sum t (tree.Template at first parts) no_operands is built = absurd is.built
 built_sum t (tree.Array at items comma) no_operands is built = absurd is.built
 built_sum t (tree.Object at props comma) no_operands is built = absurd is.built
@@ -334,6 +344,9 @@ text_slot name d = record { kind = Exactly kind.Name; content = text name.text; 
 abbrev number_slot : ℕ → ℕ → ℕ → Slot
 number_slot at value d = record { kind = Exactly kind.Number; content = number value; starts = at ∷ []; ends = []; glued = false; depth = d }
 
+abbrev string_slot : ℕ → ℕ → List ℕ → ℕ → Slot
+string_slot at behind w d = record { kind = Exactly kind.Str; content = text w; starts = at ∷ []; ends = behind ∷ []; glued = false; depth = d }
+
 part_of-mark : (t : Lexeme) (k : Kind) → t.kind ≡ k → part_of t ≡ part_by k t
 part_of-mark t k is = ap (λ (j : Kind). part_by j t) is
 
@@ -349,6 +362,13 @@ number_part at value t d is =
     part_of-mark t kind.Number is.kind
     ∙ ap (λ (n : ℕ). operand (tree.Number t.start n)) is.content
     ∙ ap (λ (n : ℕ). operand (tree.Number n value)) is.starts.0
+
+string_part : (at behind : ℕ) (w : List ℕ) (t : Lexeme) (d : ℕ) → Is (string_slot at behind w d) t → part_of t ≡ operand (tree.Str at behind w)
+string_part at behind w t d is =
+    part_of-mark t kind.Str is.kind
+    ∙ ap (λ (v : List ℕ). operand (tree.Str t.start t.end v)) is.content
+    ∙ ap (λ (n : ℕ). operand (tree.Str n t.end w)) is.starts.0
+    ∙ ap (λ (n : ℕ). operand (tree.Str at n w)) is.ends.0
 
 -- reading goes on behind a token
 read_stmts-at : (t : Lexeme) (p : Part) (ts : List Lexeme) → part_of t ≡ p → read_stmts (t ∷ ts) ≡ read_stmts-by p ts
@@ -371,6 +391,8 @@ value_read (tree.Name name) ps [] n built fits = absurd fits
 value_read (tree.Name name) ps (t ∷ v) n built fits = (t, v, refl, name_part name t 2 fits.0, fits.1)
 value_read (tree.Number at value) ps [] n built fits = absurd fits
 value_read (tree.Number at value) ps (t ∷ v) n built fits = (t, v, refl, number_part at value t 2 fits.0, fits.1)
+value_read (tree.Str at behind chars) ps [] n built fits = absurd fits
+value_read (tree.Str at behind chars) ps (t ∷ v) n built fits = (t, v, refl, string_part at behind chars t 2 fits.0, fits.1)
 value_read _ ps w n built fits = absurd built
 
 -- the rest of a sum is read
@@ -427,6 +449,7 @@ value_stmt_read : (e : Expr) (ss : Stmts) → IsBuiltExpr e → Proper whole e �
 unfolding ReadsStmts
 value_stmt_read (tree.Name name) ss built proper reads w n ends fits = sum_read (tree.Name name) no_operands ss w n ends tt tt reads fits
 value_stmt_read (tree.Number at value) ss built proper reads w n ends fits = sum_read (tree.Number at value) no_operands ss w n ends tt tt reads fits
+value_stmt_read (tree.Str at behind chars) ss built proper reads w n ends fits = sum_read (tree.Str at behind chars) no_operands ss w n ends tt tt reads fits
 value_stmt_read (tree.Binary first rest) ss built proper reads w n ends fits =
     let same = sum_of-binary first rest proper.0 in
     let P : Expr → Type 0 = λ e. Fits (print_stmts whole 0 (more_stmts (tree.Value e true) ss)) w n in

@@ -2,16 +2,23 @@
 use Rattle.std.specs.Prelude.{◌≡◌, ℕ, Bool, List, Option, Some, None, Vec}
 use Rattle.std.specs.declared.alloc.Global.{Global}
 use Rattle.script_grammar.specs.Tree.{Stmts}
+use Rattle.script_grammar.specs.Lexeme.{Lexeme}
 use Rattle.compile_session.specs.declared.file.FileAnswer.{FileAnswer}
-use Rattle.compile_session.specs.BuiltTokens.{tokens_of}
+use Rattle.compile_session.specs.declared.file.Outcome.{Outcome}
+use Rattle.compile_session.specs.declared.file.Outcome.TheVariants as outcome
 use Rattle.compile_session.specs.Built.{IsBuiltScript}
-use Rattle.compile_session.specs.Verdict.{Verdict, IsListed, IsVerdict, is_refused, file_text, most_bytes}
+use Rattle.compile_session.specs.Verdict.{Verdict, IsListed, IsVerdict, IsRefusedAs, is_refused, script_text, file_text, most_bytes}
 use Rattle.outside.specs.Loops.{IsWholeWithin}
 
--- the listing of the file's script, or none where it is no script of the built form
-abbrev pub IsListing : List ℕ → List ℕ → Option (Vec ℕ Global) → Type 0
-IsListing name file None = (script : Stmts) → IsBuiltScript (tokens_of file) script → ⊥
-IsListing name file (Some text) = (script : Stmts) × IsBuiltScript (tokens_of file) script × (text.items ≡ file_text name file (IsListed script))
+-- the listing of the script that these tokens are, or none where they are no script of the built form
+abbrev pub IsListing : List ℕ → ℕ → List Lexeme → Option (Vec ℕ Global) → Type 0
+IsListing name size tokens None = (script : Stmts) → IsBuiltScript tokens script → ⊥
+IsListing name size tokens (Some text) = (script : Stmts) × IsBuiltScript tokens script × (text.items ≡ script_text name size script)
+
+-- a file that stands alone is listed, or refused
+abbrev pub IsOutcome : List ℕ → List ℕ → Outcome → Type 0
+IsOutcome name file (outcome.Listed text) = (script : Stmts) × IsVerdict 0 file (IsListed script) × (text.items ≡ file_text name file (IsListed script))
+IsOutcome name file (outcome.Refused why) = IsRefusedAs 0 file why
 
 -- the text and the verdict of a file, which has no other verdict
 pub record Settles (name file : List ℕ) (text : List ℕ) (refused : Bool) : Type 0 where

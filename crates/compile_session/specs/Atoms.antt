@@ -4,9 +4,10 @@ use Rattle.script_grammar.specs.declared.token.Kind.{Kind}
 use Rattle.script_grammar.specs.declared.token.Kind.TheVariants as kind
 use Rattle.script_grammar.specs.declared.token.Token.{Token}
 
--- the value of a name is below 2 ^ 32
+-- the value of a name or of a string is below 2 ^ 32
 abbrev pub AtomFits : Kind → ℕ → Type 0
 AtomFits kind.Name value = value < 2 ^ 32
+AtomFits kind.Str value = value < 2 ^ 32
 AtomFits _ value = Unit {0}
 
 abbrev pub AtomsFit : List Token → Type 0

@@ -1,6 +1,5 @@
--- The built form: which trees of a script the program compiles so far, and how the tokens of such a script are read. The
--- form is this stage's own choice: every statement is empty, or an expression with a written semicolon that is made of
--- names, numbers and binary `+`.
+-- The built form: which trees of a script the program compiles so far. The form is this stage's own choice: every
+-- statement is empty, or an expression with a written semicolon that is made of names, numbers, strings and binary `+`.
 use Rattle.std.specs.Prelude.{◌≡◌, true, false, List, [], ◌∷◌, ◌++◌}
 use Rattle.script_grammar.specs.declared.token.Kind.TheVariants as kind
 use Rattle.script_grammar.specs.declared.token.mark.TheConstants as mark
@@ -9,10 +8,11 @@ use Rattle.script_grammar.specs.Tree.{Named, Expr, Operands, no_operands, more_o
 use Rattle.script_grammar.specs.Tree as tree
 use Rattle.script_grammar.specs.Script.{IsScript}
 
--- a name or a number
+-- a name, a number or a string
 abbrev pub IsBuiltOperand : Expr → Type 0
 IsBuiltOperand (tree.Name name) = Unit {0}
 IsBuiltOperand (tree.Number at value) = Unit {0}
+IsBuiltOperand (tree.Str at end text) = Unit {0}
 IsBuiltOperand _ = ⊥
 
 -- each behind a `+`
@@ -23,6 +23,7 @@ AreBuiltOperands (more_operands op is_word value rest) = (op ≡ mark.PLUS) × (
 abbrev pub IsBuiltExpr : Expr → Type 0
 IsBuiltExpr (tree.Name name) = Unit {0}
 IsBuiltExpr (tree.Number at value) = Unit {0}
+IsBuiltExpr (tree.Str at end text) = Unit {0}
 IsBuiltExpr (tree.Binary first rest) = IsBuiltOperand first × AreBuiltOperands rest
 IsBuiltExpr _ = ⊥
 

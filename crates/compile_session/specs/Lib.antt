@@ -1,5 +1,4 @@
-pub mod ReservedWords
-pub mod BuiltTokens
+pub mod FileTokens
 pub mod Atoms
 pub mod Built
 pub mod ReadBuilt

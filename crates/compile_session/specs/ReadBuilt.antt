@@ -1,5 +1,5 @@
 -- How the tokens of a script of the built form are read, as functions on lists. That they read what the grammar has is
--- proved in ReadLemmas.
+-- proved in ScriptLemmas.
 use Rattle.std.specs.Prelude.{ℕ, true, false, nat_eq, List, [], ◌∷◌, Option, Some, None, option_map, if◌then◌else◌}
 use Rattle.script_grammar.specs.declared.token.Kind.{Kind}
 use Rattle.script_grammar.specs.declared.token.Kind.TheVariants as kind
@@ -22,6 +22,7 @@ mark_part index = if nat_eq index mark.PLUS then plus else (if nat_eq index mark
 abbrev pub part_by : Kind → Lexeme → Part
 part_by kind.Name t = operand (tree.Name (record { text = t.text; at = t.start }))
 part_by kind.Number t = operand (tree.Number t.start t.number)
+part_by kind.Str t = operand (tree.Str t.start t.end t.text)
 part_by (kind.Mark index) t = mark_part index
 part_by kind.End t = end
 part_by _ t = other

@@ -1,9 +1,8 @@
 -- What the parser's parts stand for: parts of the model's trees, over the texts that atoms index.
-use Rattle.std.specs.Prelude.{ℕ, ◌≡◌, Bool, true, false, List, [], ◌∷◌, Option, Some, None, option_map, map, slice_index_or}
+use Rattle.std.specs.Prelude.{ℕ, ◌≡◌, Bool, true, false, List, [], ◌∷◌, Option, Some, None, option_map, slice_index_or}
 use Rattle.std.specs.Borrow.{Bor}
 use Rattle.script_grammar.specs.declared.token.mark.TheConstants as mark
 use Rattle.script_grammar.specs.declared.token.Token.{Token}
-use Rattle.script_grammar.specs.Lexeme.{Lexeme}
 use Rattle.script_grammar.specs.Tree.{Expr, Operands, no_operands, more_operands, Stmt, Stmts, no_stmts, more_stmts}
 use Rattle.script_grammar.specs.Tree as tree
 use Rattle.compile_session.specs.declared.parser.Operand.{Operand}
@@ -12,13 +11,14 @@ use Rattle.compile_session.specs.declared.parser.Statement.{Statement}
 use Rattle.compile_session.specs.declared.parser.Statement.TheVariants as statement
 use Rattle.compile_session.specs.declared.parser.Part.{Part}
 use Rattle.compile_session.specs.declared.parser.Part.TheVariants as part
-use Rattle.compile_session.specs.BuiltTokens.{seen_as}
+use Rattle.compile_session.specs.FileTokens.{seen}
 use Rattle.compile_session.specs.ReadBuilt as read
 use Rattle.compile_session.specs.ReadBuilt.{Rest, added, sum_of, read_stmts, read_rest, read_operand}
 
 abbrev pub expr_of : List (List ℕ) → Operand → Expr
 expr_of texts (kind.Name atom at) = tree.Name (record { text = slice_index_or texts atom []; at = at })
 expr_of texts (kind.Number value at) = tree.Number at value
+expr_of texts (kind.Str atom at end) = tree.Str at end (slice_index_or texts atom [])
 
 abbrev pub part_seen : List (List ℕ) → Part → read.Part
 part_seen texts (part.Operand operand) = read.operand (expr_of texts operand)
@@ -46,10 +46,6 @@ stmts_before texts (s ∷ ss) behind = more_stmts (stmt_of texts s) (stmts_befor
 
 abbrev pub stmts_of : List (List ℕ) → List Statement → Stmts
 stmts_of texts ss = stmts_before texts ss no_stmts
-
--- the tokens as they are seen
-abbrev pub seen : List (List ℕ) → List Token → List Lexeme
-seen texts tokens = map (seen_as texts) tokens
 
 -- an operand was read, or there is none
 abbrev pub ReadsOperand : List (List ℕ) → List Token → Option (Operand × Bor (List Token)) → Type 0

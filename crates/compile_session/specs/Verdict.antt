@@ -1,12 +1,15 @@
 -- What the program answers for one file, and for all files of the command.
 use Rattle.std.specs.Prelude.{◌≡◌, ℕ, ◌+◌, ◌<◌, ◌≤◌, Bool, true, false, ◌||◌, List, [], ◌∷◌, ◌++◌, length, Option, Some, None, codes}
 use Rattle.std.specs.Fmt.{decimal}
+use Rattle.std.specs.Str.{IsUtf8}
+use Rattle.std.specs.Str.Lossy.{utf8_valid_len}
 use Rattle.script_grammar.specs.Tree.{Stmts}
-use Rattle.bytecode_buf.specs.Width.{width_of}
-use Rattle.bytecode_buf.specs.Command.{Command, Listed, command_at}
+use Rattle.bytecode_buf.specs.Command.{placed}
+use Rattle.compile_session.specs.declared.refusal.Refusal.{Refusal}
+use Rattle.compile_session.specs.declared.refusal.Refusal.TheVariants as refusal
 use Rattle.compile_session.specs.declared.status.Status.{Status}
 use Rattle.compile_session.specs.declared.status.Status.TheVariants as status
-use Rattle.compile_session.specs.BuiltTokens.{tokens_of}
+use Rattle.compile_session.specs.FileTokens.{tokens_of}
 use Rattle.compile_session.specs.Built.{IsBuiltScript}
 use Rattle.compile_session.specs.Code.{script_code}
 use Rattle.compile_session.specs.Listing.{listing}
@@ -19,34 +22,42 @@ most_bytes = 16777215
 -- what becomes of a file: it is listed as this script, or refused
 pub data Verdict : Type 0 where
   IsListed : Stmts → Verdict
-  IsTooLong : Verdict
-  IsNotBuilt : Verdict
+  IsRefused : Refusal → Verdict
+
+-- When a file behind so many bytes of other files has each refusal: where more than one would stand, the first of them. The
+-- offset of bad UTF-8 is the length of the longest front of the file that is UTF-8.
+abbrev pub IsRefusedAs : ℕ → List ℕ → Refusal → Type 0
+IsRefusedAs before file refusal.TooLong = most_bytes < before + length file
+IsRefusedAs before file (refusal.BadUtf8 offset) = (before + length file ≤ most_bytes) × (IsUtf8 file → ⊥) × (offset ≡ utf8_valid_len file)
+IsRefusedAs before file refusal.NotBuilt = (before + length file ≤ most_bytes) × IsUtf8 file × ((script : Stmts) → IsBuiltScript (tokens_of file) script → ⊥)
 
 -- the verdict of a file behind so many bytes of other files
 abbrev pub IsVerdict : ℕ → List ℕ → Verdict → Type 0
-IsVerdict before file (IsListed script) = (before + length file ≤ most_bytes) × IsBuiltScript (tokens_of file) script
-IsVerdict before file IsTooLong = most_bytes < before + length file
-IsVerdict before file IsNotBuilt = (before + length file ≤ most_bytes) × ((script : Stmts) → IsBuiltScript (tokens_of file) script → ⊥)
+IsVerdict before file (IsListed script) = (before + length file ≤ most_bytes) × IsUtf8 file × IsBuiltScript (tokens_of file) script
+IsVerdict before file (IsRefused why) = IsRefusedAs before file why
 
 abbrev pub is_refused : Verdict → Bool
 is_refused (IsListed script) = false
-is_refused IsTooLong = true
-is_refused IsNotBuilt = true
-
--- the commands of a code with their offsets, from an offset on
-abbrev pub placed_from : ℕ → List Command → List Listed
-placed_from at [] = []
-placed_from at (c ∷ cs) = record { at = at; command = command_at at c } ∷ placed_from (at + width_of c.op) cs
+is_refused (IsRefused why) = true
 
 -- the lines before the instructions of a script
 abbrev pub head_text : List ℕ → ℕ → List ℕ
 head_text name size = (((codes "file " ++ name) ++ codes "\nscript 0 top 0..") ++ decimal size) ++ 10 ∷ []
 
+-- the listing of a script of so many bytes
+abbrev pub script_text : List ℕ → ℕ → Stmts → List ℕ
+script_text name size script = head_text name size ++ listing (placed (script_code script))
+
+-- the line that is printed for a refused file
+abbrev pub refusal_text : List ℕ → Refusal → List ℕ
+refusal_text name refusal.TooLong = name ++ codes ": too long\n"
+refusal_text name (refusal.BadUtf8 offset) = ((name ++ codes ":") ++ decimal offset) ++ codes ": not UTF-8\n"
+refusal_text name refusal.NotBuilt = name ++ codes ": not built\n"
+
 -- what is printed for a file
 abbrev pub file_text : List ℕ → List ℕ → Verdict → List ℕ
-file_text name file (IsListed script) = head_text name (length file) ++ listing (placed_from 0 (script_code script))
-file_text name file IsTooLong = name ++ codes ": too long\n"
-file_text name file IsNotBuilt = name ++ codes ": not built\n"
+file_text name file (IsListed script) = script_text name (length file) script
+file_text name file (IsRefused why) = refusal_text name why
 
 -- what is printed for the files of these names, and whether one of them is refused
 abbrev pub IsOutput : (List ℕ → List ℕ) → ℕ → List (List ℕ) → List ℕ → Bool → Type 0

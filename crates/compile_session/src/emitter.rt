@@ -48,6 +48,10 @@ fn emit_operand(out: &mut CodeBuf, operand: Operand) -> Result<(), AllocError>
             out.put(op, number, 0)?;
             Ok(())
         }
+        Operand::Str { atom, .. } => {
+            out.put(Op::String, u64::from(atom), 0)?;
+            Ok(())
+        }
     }
 }
 

@@ -1,20 +1,21 @@
-//! The parser of the built form: statements that are empty, or sums of names and numbers with a written
-//! semicolon.
+//! The parser of the built form: statements that are empty, or sums of names, numbers and strings with a
+//! written semicolon.
 
 ghost use Rattle.std.specs.Prelude.{◌≡◌, ◌<◌, ℕ, List, [], length, map, IfOk, IfSome};
 ghost use Rattle.compile_session.specs.Atoms.{AtomFits, AtomsFit};
-ghost use Rattle.compile_session.specs.BuiltTokens.{seen_as};
+ghost use Rattle.compile_session.specs.FileTokens.{seen_as};
 ghost use Rattle.compile_session.specs.ReadBuilt.{part_of, mark_part};
 ghost use Rattle.compile_session.specs.Statements.{part_seen, ReadsOperand, ReadsRest, ReadsSum, IsRead};
 
 use script_grammar::token::{Kind, Token, mark};
 use std::alloc::{AllocError, Global};
 
-/// A name or a number, and its offset.
+/// A name, a number or a string, and its offset; of a string also the offset behind it.
 #[derive(Clone, Copy)]
 pub enum Operand {
     Name { atom: u32, at: u32 },
     Number { value: u64, at: u32 },
+    Str { atom: u32, at: u32, end: u32 },
 }
 
 /// A statement of the built form.
@@ -60,9 +61,13 @@ fn part_of(token: Token) -> Part
             value: token.value,
             at: token.start,
         }),
+        Kind::Str => Part::Operand(Operand::Str {
+            atom: token.value as u32,
+            at: token.start,
+            end: token.end,
+        }),
         Kind::Mark(index) => mark_part(index),
         Kind::End => Part::End,
-        Kind::Str => Part::Other,
         Kind::TemplateWhole => Part::Other,
         Kind::TemplateHead => Part::Other,
         Kind::TemplateMiddle => Part::Other,

@@ -1,11 +1,11 @@
-use Rattle.compile_session.proofs.FileLemmas.{settles_long, settles_not_built, settles_listed}
+use Rattle.compile_session.proofs.FileLemmas.{settles_long, settles_listed, settles_refused}
 use Rattle.compile_session.proofs.file.answer_of.Goals as goal
 
-pub returns-in_ok-text-in-None : goal.returns-in_ok-text-in-None
-returns-in_ok-text-in-None c = λ file whole. settles_long c.args.name.now c.in_ok-text-in-None.text.items file c.args.bytes.now c.in-None.is whole (c.in_ok-text-in-None.ensures file)
+pub returns-in_ok-answer-in-None : goal.returns-in_ok-answer-in-None
+returns-in_ok-answer-in-None c = λ file whole. settles_long c.args.name.now c.in_ok-answer-in-None.answer.text.items file c.in_ok-answer-in-None.answer.refused c.args.bytes.now c.in-None.is c.in_ok-answer-in-None.ensures.text c.in_ok-answer-in-None.ensures.refused whole
 
-pub returns-in_ok-text-in-None-2 : goal.returns-in_ok-text-in-None-2
-returns-in_ok-text-in-None-2 c = λ file whole. settles_not_built c.args.name.now c.in_ok-text-in-None-2.text.items file c.deref.result.now c.args.bytes.now c.in-Some.bytes c.in_ok-listing_of-in-Some.field-0 c.in-Some.is c.deref.ensures.value c.in_ok-listing_of-in-Some.ensures c.in-None-2.is whole (c.in_ok-text-in-None-2.ensures file)
+pub returns-in-Listed : goal.returns-in-Listed
+returns-in-Listed c = λ file whole. settles_listed c.args.name.now file c.deref.result.now c.in-Listed.text c.args.bytes.now c.in-Some.bytes c.in_ok-text-in-Some.field-0 c.in-Some.is c.deref.ensures.value c.in_ok-text-in-Some.ensures c.in-Listed.is whole
 
-pub returns-in-Some-2 : goal.returns-in-Some-2
-returns-in-Some-2 c = λ file whole. settles_listed c.args.name.now file c.deref.result.now c.in-Some-2.text c.args.bytes.now c.in-Some.bytes c.in_ok-listing_of-in-Some.field-0 c.in-Some.is c.deref.ensures.value c.in_ok-listing_of-in-Some.ensures c.in-Some-2.is whole
+pub returns-in_ok-answer-in-Refused : goal.returns-in_ok-answer-in-Refused
+returns-in_ok-answer-in-Refused c = λ file whole. settles_refused c.args.name.now c.in_ok-answer-in-Refused.answer.text.items file c.deref.result.now c.in_ok-answer-in-Refused.answer.refused c.in-Refused.why c.args.bytes.now c.in-Some.bytes c.in_ok-text-in-Some.field-0 c.in-Some.is c.deref.ensures.value c.in_ok-text-in-Some.ensures c.in-Refused.is c.in_ok-answer-in-Refused.ensures.text c.in_ok-answer-in-Refused.ensures.refused whole

@@ -1,0 +1,15 @@
+//! Why a file is refused.
+
+/// Why a file is refused: the first of these that stands.
+#[derive(Clone, Copy)]
+pub enum Refusal {
+    /// The files of the command up to this one have more than 16,777,215 bytes.
+    TooLong,
+    /// The bytes are not UTF-8.
+    BadUtf8 {
+        /// The length of their longest front that is UTF-8, in bytes.
+        offset: u32,
+    },
+    /// The text is no script of the form that is built.
+    NotBuilt,
+}

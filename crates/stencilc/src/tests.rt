@@ -49,39 +49,142 @@ fn status_of<R: Threads + Wait, L: Shelf, K: Sink>(
     Ok(run(rt, alloc, &words, shelf, sink, &OpenGate, &mut tally))
 }
 
+/// The status of `code a.js` over a file with these bytes, and whether just this was printed.
+fn prints<R: Threads + Wait>(
+    rt: &R,
+    alloc: Global,
+    bytes: &[u8],
+    wanted: &[u8],
+) -> Result<(Status, bool), AllocError> {
+    let mut shelf = FirmShelf::new(alloc, file(alloc, "a.js", bytes)?);
+    let mut sink = FirmSink::new(alloc);
+    let status = status_of(rt, alloc, "code", &mut shelf, &mut sink)?;
+    Ok((status, sink.bytes() == wanted))
+}
+
+/// Whether the file is listed so.
+fn lists<R: Threads + Wait>(
+    rt: &R,
+    alloc: Global,
+    bytes: &[u8],
+    wanted: &[u8],
+) -> Result<bool, AllocError> {
+    let (status, same) = prints(rt, alloc, bytes, wanted)?;
+    Ok(status == Status::Done && same)
+}
+
+/// Whether the file is refused so.
+fn refuses<R: Threads + Wait>(
+    rt: &R,
+    alloc: Global,
+    bytes: &[u8],
+    wanted: &[u8],
+) -> Result<bool, AllocError> {
+    let (status, same) = prints(rt, alloc, bytes, wanted)?;
+    Ok(status == Status::Refused && same)
+}
+
 #[test]
 fn lists_a_sum(rt: HostRuntime) -> Result<(), Fail> {
-    let alloc = rt.alloc();
-    let mut shelf = FirmShelf::new(alloc, file(alloc, "a.js", SUM)?);
-    let mut sink = FirmSink::new(alloc);
-    let status = status_of(&rt, alloc, "code", &mut shelf, &mut sink)?;
-    assert!(rt; status == Status::Done);
-    assert!(rt; sink.bytes() == SUM_LISTING);
+    assert!(rt; lists(&rt, rt.alloc(), SUM, SUM_LISTING)?);
     Ok(())
 }
 
 #[test]
 fn lists_an_empty_file(rt: HostRuntime) -> Result<(), Fail> {
     let alloc = rt.alloc();
+    let listing: &[u8] =
+        b"file a.js\nscript 0 top 0..0\n  00000 GlobalOrEvalDeclInstantiation 0\n  00005 RetRval\n";
+    assert!(rt; lists(&rt, alloc, b"", listing)?);
     let mut shelf = FirmShelf::new(alloc, Vec::new(alloc));
     let mut sink = FirmSink::new(alloc);
     let status = status_of(&rt, alloc, "code", &mut shelf, &mut sink)?;
     assert!(rt; status == Status::Done);
-    let listing: &[u8] =
-        b"file a.js\nscript 0 top 0..0\n  00000 GlobalOrEvalDeclInstantiation 0\n  00005 RetRval\n";
     assert!(rt; sink.bytes() == listing);
+    Ok(())
+}
+
+#[test]
+fn lists_a_string_with_escapes(rt: HostRuntime) -> Result<(), Fail> {
+    let listing: &[u8] = b"file a.js
+script 0 top 0..15
+  00000 GlobalOrEvalDeclInstantiation 0
+  00005 String \"a\\ud83d\\ude00\\u000a\"
+  00010 SetRval
+  00011 RetRval
+";
+    assert!(rt; lists(&rt, rt.alloc(), b"\"a\\u{1F600}\\n\";", listing)?);
+    Ok(())
+}
+
+#[test]
+fn lists_a_number_before_a_comment(rt: HostRuntime) -> Result<(), Fail> {
+    let listing: &[u8] = b"file a.js
+script 0 top 0..14
+  00000 GlobalOrEvalDeclInstantiation 0
+  00005 Int8 2
+  00007 SetRval
+  00008 RetRval
+";
+    assert!(rt; lists(&rt, rt.alloc(), b"0b1_0 /* x */;", listing)?);
+    Ok(())
+}
+
+#[test]
+fn lists_the_greatest_number(rt: HostRuntime) -> Result<(), Fail> {
+    let listing: &[u8] = b"file a.js
+script 0 top 0..17
+  00000 GlobalOrEvalDeclInstantiation 0
+  00005 Double 9007199254740991
+  00014 SetRval
+  00015 RetRval
+";
+    assert!(rt; lists(&rt, rt.alloc(), b"9007199254740991;", listing)?);
+    Ok(())
+}
+
+#[test]
+fn lists_names_behind_a_first_line(rt: HostRuntime) -> Result<(), Fail> {
+    let listing: &[u8] = b"file a.js
+script 0 top 0..27
+  00000 GlobalOrEvalDeclInstantiation 0
+  00005 GetGName \"\\u00e9\"
+  00010 String \"\\u00e9\"
+  00015 Add
+  00016 SetRval
+  00017 RetRval
+";
+    let text: &[u8] = "#!/bin/js\n\u{e9} + '\u{e9}'; // \u{e9}\n".as_bytes();
+    assert!(rt; lists(&rt, rt.alloc(), text, listing)?);
     Ok(())
 }
 
 #[test]
 fn refuses_what_is_not_built(rt: HostRuntime) -> Result<(), Fail> {
     let alloc = rt.alloc();
-    let mut shelf = FirmShelf::new(alloc, file(alloc, "a.js", b"1 + 2")?);
-    let mut sink = FirmSink::new(alloc);
-    let status = status_of(&rt, alloc, "code", &mut shelf, &mut sink)?;
-    assert!(rt; status == Status::Refused);
     let line: &[u8] = b"a.js: not built\n";
-    assert!(rt; sink.bytes() == line);
+    assert!(rt; refuses(&rt, alloc, b"1 + 2", line)?);
+    assert!(rt; refuses(&rt, alloc, b"let;", line)?);
+    assert!(rt; refuses(&rt, alloc, b"9007199254740992;", line)?);
+    assert!(rt; refuses(&rt, alloc, b"\"ab", line)?);
+    Ok(())
+}
+
+#[test]
+fn refuses_what_is_not_utf8(rt: HostRuntime) -> Result<(), Fail> {
+    let alloc = rt.alloc();
+    assert!(rt; refuses(&rt, alloc, b"a\xFF", b"a.js:1: not UTF-8\n")?);
+    assert!(rt; refuses(&rt, alloc, b"\xC0\x80", b"a.js:0: not UTF-8\n")?);
+    assert!(rt; refuses(&rt, alloc, b"\xED\xA0\x80", b"a.js:0: not UTF-8\n")?);
+    assert!(rt; refuses(&rt, alloc, b"let \xFF", b"a.js:4: not UTF-8\n")?);
+    Ok(())
+}
+
+#[test]
+fn refuses_a_long_file_before_its_text(rt: HostRuntime) -> Result<(), Fail> {
+    let alloc = rt.alloc();
+    let bytes = vec![in alloc; 0xFFu8; 16777216]?;
+    assert!(rt; refuses(&rt, alloc, &bytes, b"a.js: too long\n")?);
     Ok(())
 }
 

@@ -9,7 +9,7 @@ use Rattle.script_grammar.specs.TreeLists.{Param, params_of, maybe_expr_of}
 use Rattle.script_grammar.specs.Pieces.{Bodies, Piece, mark_piece, name_piece, comma_piece, glued_mark, placed}
 use Rattle.script_grammar.specs.Print.{print, print_params, print_more_params, print_initializer}
 use Rattle.script_grammar.specs.Proper.{ProperMaybe, ProperParams, AreParams}
-use Rattle.pure_parser.specs.Parser.{Read, Parser, head_of, rest_of, ret, bad, bind, peek, step, when, Turn, Again, Stop, loop, stopped, begun}
+use Rattle.pure_parser.specs.Parser.{Read, Parser, head_of, rest_of, ret, bad, bind, peek, step, when, Turn, Again, Stop, loop, stopped, begun, Many}
 use Rattle.pure_parser.specs.Exprs as parser
 use Rattle.pure_parser.specs.Exprs.{Env, AParam, ARest, expect, param, ParamsEnd, Plain, Trailing, Rest, Head, head_case, is_param_form}
 use Rattle.pure_parser.proofs.Friendly.{first_of}
@@ -21,7 +21,7 @@ use Rattle.pure_parser.proofs.CompleteLoops.{c_loop, LastLeads}
 use Rattle.pure_parser.proofs.CompleteStmts.{c_value}
 use Rattle.pure_parser.proofs.CompleteBinds.{option_of}
 use Rattle.pure_parser.proofs.CompleteParts.{CompleteEnv, ParamFollow}
-use Rattle.pure_parser.proofs.CompleteParams.{singles, ends_as, HasOne, single_pieces, end_pieces, flat_params, all_singles, IsSingle, comma_follows, close_follows}
+use Rattle.pure_parser.proofs.CompleteParams.{singles, ends_as, HasOne, single_pieces, end_pieces, flat_params, all_singles, IsSingle, comma_follows, close_follows, rest_alone}
 
 of_maybe : (o : MaybeExpr) → maybe_expr_of (option_of o) ≡ o
 of_maybe no_expr = refl
@@ -178,3 +178,30 @@ module _ (limit : ℕ) (m : Bodies) (d : ℕ) (low : d ≤ limit) (v : Env) (c :
   -- none
   pub none_complete : Completes limit [] Closes (parser.arrow_params v) (stopped Plain)
   none_complete = c_look limit more_none
+
+  abbrev pub many_of : Params → Bool → Many Param ParamsEnd
+  many_of ps comma = record { items = singles ps; last = ends_as ps comma }
+
+  -- a rest parameter alone
+  rest_first : (n : Named) (o : MaybeExpr) (ps : Params) (comma : Bool) → AreParams (more_params n o true ps) comma → Completes limit (print_params m (suc d) d (more_params n o true ps) ++ comma_piece comma d) Closes (parser.arrow_params v) (record { items = []; last = Rest n })
+  rest_first n o ps comma h = by (rest_alone n o ps comma h)
+    where
+      alone : Completes limit (mark_piece mark.ELLIPSIS (suc d) ∷ name_piece n (suc d) ∷ []) Closes (parser.arrow_params v) (record { items = []; last = Rest n })
+      alone = c_front limit (bind (parser.arrow_first v) (parser.params_led (parser.arrow_turn v))) (λ x w r q g. more_some x.lexeme (lexemes w ++ r) (ap (is_mark mark.CLOSE_PAREN) q.0.kind)) (mark_some mark.ELLIPSIS (suc d) (name_piece n (suc d) ∷ []))
+          (c_bind limit (parser.params_led (parser.arrow_turn v)) {b = record { items = []; last = Rest n }} (rest_complete n) lead_any (c_ret limit (stopped (Rest n))))
+
+      by : (o ≡ no_expr) × (ps ≡ no_params) × (comma ≡ false) → Completes limit (print_params m (suc d) d (more_params n o true ps) ++ comma_piece comma d) Closes (parser.arrow_params v) (record { items = []; last = Rest n })
+      by z = subst (λ x. Completes limit (print_params m (suc d) d (more_params n x true ps) ++ comma_piece comma d) Closes (parser.arrow_params v) (record { items = []; last = Rest n })) (sym z.0)
+          (subst (λ x. Completes limit (print_params m (suc d) d (more_params n no_expr true x) ++ comma_piece comma d) Closes (parser.arrow_params v) (record { items = []; last = Rest n })) (sym z.1)
+          (subst (λ x. Completes limit (print_params m (suc d) d (more_params n no_expr true no_params) ++ comma_piece x d) Closes (parser.arrow_params v) (record { items = []; last = Rest n })) (sym z.2) alone))
+
+  pub params_complete : (ps : Params) (comma : Bool) → AreParams ps comma → ProperParams m ps → Completes limit (print_params m (suc d) d ps ++ comma_piece comma d) Closes (parser.arrow_params v) (many_of ps comma)
+  params_complete no_params true h k = absurd (true_false h)
+  params_complete no_params false h k = none_complete
+  params_complete (more_params n o false ps) comma h k = many_complete n o ps comma h k
+  params_complete (more_params n o true ps) comma h k = rest_first n o ps comma h
+
+  -- with the closing parenthesis
+  pub listed_complete : {F : Lexeme → Type 0} (start : ℕ) (ps : Params) (comma : Bool) → AreParams ps comma → ProperParams m ps → Completes limit (print_params m (suc d) d ps ++ (comma_piece comma d ++ mark_piece mark.CLOSE_PAREN d ∷ [])) F (parser.arrow_listed v start) (head_case start (many_of ps comma))
+  unfolding parser.arrow_listed
+  listed_complete start ps comma h k = c_pieces limit (append_assoc (print_params m (suc d) d ps) (comma_piece comma d) (mark_piece mark.CLOSE_PAREN d ∷ [])) (c_bind limit (λ x. bind (expect mark.CLOSE_PAREN) (λ _. ret (head_case start x))) (params_complete ps comma h k) (lead_at (λ t s. s.kind)) (c_made limit (λ _. head_case start (many_of ps comma)) (c_mark limit mark.CLOSE_PAREN d low refl)))

@@ -56,7 +56,7 @@ tail_params n value no_params comma h k = absurd k
 tail_params n no_expr (more_params n2 v2 r2 ps) comma h k = h
 tail_params n (some_expr e) (more_params n2 v2 r2 ps) comma h k = h
 
-rest_alone : (n : Named) (value : MaybeExpr) (ps : Params) (comma : Bool) → AreParams (more_params n value true ps) comma → (value ≡ no_expr) × (ps ≡ no_params) × (comma ≡ false)
+pub rest_alone : (n : Named) (value : MaybeExpr) (ps : Params) (comma : Bool) → AreParams (more_params n value true ps) comma → (value ≡ no_expr) × (ps ≡ no_params) × (comma ≡ false)
 rest_alone n no_expr no_params comma h = (refl, refl, h)
 rest_alone n (some_expr e) no_params comma h = absurd h
 rest_alone n no_expr (more_params n2 v2 r2 ps) comma h = absurd h

@@ -11,7 +11,7 @@ use Rattle.script_grammar.specs.Lexeme.{Lexeme}
 use Rattle.script_grammar.specs.Kinds.{is_mark, is_word, is_name, is_any_word, is_prefix_op, is_update_op, is_assign_op, op_kind, op_level, mark_level, no_level}
 use Rattle.script_grammar.specs.Tree.{Named, Expr, Exprs, no_exprs, more_exprs, Function, function, Params, no_params, more_params, no_expr, some_expr, Tails, no_tails, more_tails, Operands, no_operands, more_operands, Parts, no_parts, more_parts}
 use Rattle.script_grammar.specs.Tree as tree
-use Rattle.script_grammar.specs.Pieces.{Bodies, Piece, At, Gap, Pass, Wanted, Exactly, AnyWord, IsWanted, from}
+use Rattle.script_grammar.specs.Pieces.{Bodies, Piece, At, Gap, Pass, Wanted, Exactly, AnyWord, IsWanted, from, begins_with, is_wanted}
 use Rattle.script_grammar.specs.Print.{print, print_func, print_tails, print_operands, print_more, above, first_kind}
 use Rattle.script_grammar.specs.Proper.{Proper, ProperFunction, IsFuncExpression, operands_level}
 use Rattle.pure_parser.specs.Exprs.{begins_assign, begins_word, begins_mark}
@@ -102,6 +102,17 @@ opens_some f (At s ∷ ps) [] n h k = absurd k
 opens_some f (At s ∷ ps) (x ∷ w) n h k = omega arith
 opens_some f (Gap e ∷ ps) w n h k = absurd h
 opens_some f (Pass ∷ ps) w n h k = absurd h
+
+-- no first place is for a kind of which the test holds
+pub not_begun : (f : Kind → Bool) (ps : List Piece) → begins_with f ps ≡ false → (x : Marked) (w : List Marked) (n : Lexeme) → Opens begins_assign ps → Stands ps (x ∷ w) n → f x.lexeme.kind ≡ false
+not_begun f [] h x w n o q = absurd o
+not_begun f (At s ∷ ps) h x w n o q = of_place s.kind x.lexeme.kind h o q.0.kind
+  where
+    of_place : (w : Wanted) (k : Kind) → is_wanted f w ≡ false → OfKind begins_assign w → IsWanted w k → f k ≡ false
+    of_place (Exactly j) k h o e = ap f e ∙ h
+    of_place AnyWord k h o e = absurd o
+not_begun f (Gap e ∷ ps) h x w n o q = absurd o
+not_begun f (Pass ∷ ps) h x w n o q = absurd o
 
 prefix_begins : (op : ℕ) (is_word : Bool) → is_prefix_op op is_word ≡ true → begins_assign (op_kind op is_word) ≡ true
 prefix_begins op true h =

@@ -9,6 +9,7 @@ pub mod CompleteBinds
 pub mod CompleteChains
 pub mod CompleteEach
 pub mod CompleteFunctions
+pub mod CompleteHeads
 pub mod CompleteItems
 pub mod CompleteLoops
 pub mod CompleteObjects
@@ -24,6 +25,7 @@ pub mod CompleteStmts
 pub mod CompleteSwitch
 pub mod CompleteUnary
 pub mod Completes
+pub mod ExprEnds
 pub mod ExprFronts
 pub mod Fitting
 pub mod Friendly

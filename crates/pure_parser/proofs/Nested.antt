@@ -53,7 +53,7 @@ deeper_reopened : (ps qs os : List Opener) (x y : Option (List Opener)) → ((zs
 deeper_reopened ps qs os None y h e = absurd (cc)
 deeper_reopened ps qs os (Some zs) y h e = ap (λ z. reopened (ps ++ os) z) (h zs refl) ∙ deeper_same ps qs os e
 
-deeper_behind : (k : Kind) (ps qs os : List Opener) → open_behind k ps ≡ Some qs → open_behind k (ps ++ os) ≡ Some (qs ++ os)
+pub deeper_behind : (k : Kind) (ps qs os : List Opener) → open_behind k ps ≡ Some qs → open_behind k (ps ++ os) ≡ Some (qs ++ os)
 deeper_behind (kind.Mark i) ps qs os e = deeper_mark i ps qs os (nat_eq i mark.OPEN_PAREN) (nat_eq i mark.CLOSE_PAREN) (nat_eq i mark.OPEN_BRACKET) (nat_eq i mark.CLOSE_BRACKET) (nat_eq i mark.OPEN_BRACE) (nat_eq i mark.CLOSE_BRACE) e
 deeper_behind kind.TemplateHead ps qs os e = deeper_same (template ∷ ps) qs os e
 deeper_behind kind.TemplateMiddle ps qs os e = deeper_reopened ps qs os (closed template ps) (closed template (ps ++ os)) (λ zs h. deeper_closed template ps zs os h) e

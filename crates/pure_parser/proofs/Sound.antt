@@ -80,13 +80,13 @@ leads_some {R = R} {S = S} {f = f} h s = outcome_some R S h [] (f []) (s.at [])
 pub sound_some : {A : Type 0} {R : List Lexeme → A → Type 0} {f : Parser A} → Sound Inside R f → Mended Inside R
 sound_some s = leads_some (λ w a h. h) s
 
-outcome_map : {A : Type 0} (p : Spot) (R S R2 S2 : List Lexeme → A → Type 0) → ((w : List Lexeme) (a : A) → R w a → R2 w a) → ((w : List Lexeme) (a : A) → S w a → S2 w a) → (ts : List Lexeme) (r : Reply A) → Outcome p R S ts r → Outcome p R2 S2 ts r
-outcome_map p R S R2 S2 f g ts (Read a rs us) o = record { front = o.front; split = o.split; some = o.some; is = f _ _ o.is }
-outcome_map p R S R2 S2 f g ts (Bad rs us) o = record { front = o.front; split = o.split; end = o.end; of = o.of; starts = o.starts; is = g _ _ o.is }
-outcome_map p R S R2 S2 f g ts (Deep rs us) o = record { front = o.front; split = o.split; token = o.token; behind = o.behind; first = o.first; end = o.end; of = o.of; is = g _ _ o.is }
+outcome_map : {A : Type 0} (p : Spot) (R S Rnew Snew : List Lexeme → A → Type 0) → ((w : List Lexeme) (a : A) → R w a → Rnew w a) → ((w : List Lexeme) (a : A) → S w a → Snew w a) → (ts : List Lexeme) (r : Reply A) → Outcome p R S ts r → Outcome p Rnew Snew ts r
+outcome_map p R S Rnew Snew f g ts (Read a rs us) o = record { front = o.front; split = o.split; some = o.some; is = f _ _ o.is }
+outcome_map p R S Rnew Snew f g ts (Bad rs us) o = record { front = o.front; split = o.split; end = o.end; of = o.of; starts = o.starts; is = g _ _ o.is }
+outcome_map p R S Rnew Snew f g ts (Deep rs us) o = record { front = o.front; split = o.split; token = o.token; behind = o.behind; first = o.first; end = o.end; of = o.of; is = g _ _ o.is }
 
-pub leads_map : {A : Type 0} {p : Spot} {R S R2 S2 : List Lexeme → A → Type 0} {f : Parser A} → ((w : List Lexeme) (a : A) → R w a → R2 w a) → ((w : List Lexeme) (a : A) → S w a → S2 w a) → Leads p R S f → Leads p R2 S2 f
-leads_map {p = p} {R = R} {S = S} {R2 = R2} {S2 = S2} {f = f} m k s = record { at = λ ts. outcome_map p R S R2 S2 m k ts (f ts) (s.at ts) }
+pub leads_map : {A : Type 0} {p : Spot} {R S Rnew Snew : List Lexeme → A → Type 0} {f : Parser A} → ((w : List Lexeme) (a : A) → R w a → Rnew w a) → ((w : List Lexeme) (a : A) → S w a → Snew w a) → Leads p R S f → Leads p Rnew Snew f
+leads_map {p = p} {R = R} {S = S} {Rnew = Rnew} {Snew = Snew} {f = f} m k s = record { at = λ ts. outcome_map p R S Rnew Snew m k ts (f ts) (s.at ts) }
 
 pub sound_map : {A : Type 0} {p : Spot} {R S : List Lexeme → A → Type 0} {f : Parser A} → ((w : List Lexeme) (a : A) → R w a → S w a) → Sound p R f → Sound p S f
 sound_map m s = leads_map m m s
@@ -187,8 +187,8 @@ SoundAt p R t f = LeadsAt p R R t f
 pub sound_at : {A : Type 0} {p : Spot} {R S : List Lexeme → A → Type 0} {f : Parser A} (t : Lexeme) → Leads p R S f → LeadsAt p R S t f
 sound_at t s = record { first = λ ts. s.at (t ∷ ts) }
 
-pub at_map : {A : Type 0} {p : Spot} {R S R2 S2 : List Lexeme → A → Type 0} {t : Lexeme} {f : Parser A} → ((w : List Lexeme) (a : A) → R w a → R2 w a) → ((w : List Lexeme) (a : A) → S w a → S2 w a) → LeadsAt p R S t f → LeadsAt p R2 S2 t f
-at_map {p = p} {R = R} {S = S} {R2 = R2} {S2 = S2} {t = t} {f = f} m k s = record { first = λ ts. outcome_map p R S R2 S2 m k (t ∷ ts) (f (t ∷ ts)) (s.first ts) }
+pub at_map : {A : Type 0} {p : Spot} {R S Rnew Snew : List Lexeme → A → Type 0} {t : Lexeme} {f : Parser A} → ((w : List Lexeme) (a : A) → R w a → Rnew w a) → ((w : List Lexeme) (a : A) → S w a → Snew w a) → LeadsAt p R S t f → LeadsAt p Rnew Snew t f
+at_map {p = p} {R = R} {S = S} {Rnew = Rnew} {Snew = Snew} {t = t} {f = f} m k s = record { first = λ ts. outcome_map p R S Rnew Snew m k (t ∷ ts) (f (t ∷ ts)) (s.first ts) }
 
 reads_one : (p : Spot) (t : Lexeme) → Reads p (t ∷ [])
 reads_one AtFront t = tt

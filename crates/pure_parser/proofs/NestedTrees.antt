@@ -164,7 +164,7 @@ mutual
   nested_declared : (m : Bodies) (d : ℕ) (f : Function) → ProperFunction m f → Nested (Print.print_declared m d f)
   nested_declared m d (function form start end name ps comma bare body) p = word_cons _ word.FUNCTION _ refl (nested_append (maybe_name_nested name d) (nested_append (parenthesized_nested bare start d _ comma (nested_params m (Print.param_depth form bare d) d ps p.3)) (nested_append (arrow_nested form d) (nested_body m d end form body p.4))))
 
-  nested_params : (m : Bodies) (q d : ℕ) (ps : Params) → ProperParams m ps → Nested (Print.print_params m q d ps)
+  pub nested_params : (m : Bodies) (q d : ℕ) (ps : Params) → ProperParams m ps → Nested (Print.print_params m q d ps)
   nested_params m q d no_params p = nested_none
   nested_params m q d (more_params name value rest ps) p = nested_append (ellipsis_nested rest q) (name_cons _ _ refl (nested_append (nested_initializer m q value p.0) (nested_more_params m q d ps p.1)))
 

@@ -31,7 +31,7 @@ opt_of : (o : Option Expr) → option_of (maybe_expr_of o) ≡ o
 opt_of None = refl
 opt_of (Some e) = refl
 
-same_param : (p : Param) → p.rest ≡ false → param p.name (option_of (maybe_expr_of p.value)) ≡ p
+pub same_param : (p : Param) → p.rest ≡ false → param p.name (option_of (maybe_expr_of p.value)) ≡ p
 same_param p e = ap (param p.name) (opt_of p.value) ∙ ap (λ x. record { name = p.name; value = p.value; rest = x }) (sym e)
 
 module _ (limit : ℕ) (m : Bodies) (d : ℕ) (low : d ≤ limit) (v : Env) (c : CompleteEnv limit m d v) where

@@ -130,10 +130,10 @@ either_right : (a b : Bool) → b ≡ true → (a || b) ≡ true
 either_right true b h = refl
 either_right false b h = h
 
-abbrev has_op : Kind → Bool
+abbrev pub has_op : Kind → Bool
 has_op k = is_prefix k || is_update k
 
-prefixed_opens : (m : Bodies) (d : ℕ) (e : Expr) → IsPrefixed e → Proper m e → Opens has_op (print m d e)
+pub prefixed_opens : (m : Bodies) (d : ℕ) (e : Expr) → IsPrefixed e → Proper m e → Opens has_op (print m d e)
 prefixed_opens m d (tree.Unary at op of is_word) k h = either_left (is_prefix (op_kind op is_word)) (is_update (op_kind op is_word)) (prefix_kind op is_word h.0)
 prefixed_opens m d (tree.Update at op true of) k h = either_right (is_prefix (kind.Mark op)) (is_update (kind.Mark op)) h.0
 prefixed_opens m d (tree.Update at op false of) k h = absurd k

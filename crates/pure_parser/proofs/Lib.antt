@@ -7,6 +7,7 @@ pub mod Bracketed
 pub mod Complete
 pub mod CompleteArrows
 pub mod CompleteBinds
+pub mod CompleteCalls
 pub mod CompleteChains
 pub mod CompleteEach
 pub mod CompleteFunctions
@@ -26,6 +27,7 @@ pub mod CompleteStmts
 pub mod CompleteSwitch
 pub mod CompleteUnary
 pub mod Completes
+pub mod DeepFronts
 pub mod ExprEnds
 pub mod ExprFronts
 pub mod Fitting

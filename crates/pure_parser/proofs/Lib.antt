@@ -10,6 +10,7 @@ pub mod CompleteBinds
 pub mod CompleteCalls
 pub mod CompleteChains
 pub mod CompleteEach
+pub mod CompleteEverything
 pub mod CompleteFunctions
 pub mod CompleteHeads
 pub mod CompleteItems

@@ -37,6 +37,7 @@ pub mod Fronts
 pub mod Local
 pub mod LocalArrows
 pub mod LocalCalls
+pub mod LocalEverything
 pub mod LocalExprs
 pub mod LocalHeads
 pub mod LocalRace

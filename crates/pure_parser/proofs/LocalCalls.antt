@@ -13,14 +13,14 @@ use Rattle.script_grammar.specs.TreeLists.{Param}
 use Rattle.script_grammar.specs.Pieces.{Bodies, paren}
 use Rattle.pure_parser.specs.Parser.{Recorded, Reply, Read, Bad, Deep, Parser, head_of, rest_of, noted, after, ret, bad, deep, bind, peek, step, when, no_room, turns, loop}
 use Rattle.pure_parser.specs.Exprs
-use Rattle.pure_parser.specs.Exprs.{Env, Call, BodyParser, AnAssign, APrefix, ANew, AParam, ARest, calls, begins_call, named, param, is_param_form, is_arrow, is_update_expr, binary_case, with_last, name_of, arrow_behind}
+use Rattle.pure_parser.specs.Exprs.{Env, Call, BodyParser, AnAssign, APrefix, ANew, AParam, ARest, calls, call_case, no_calls, begins_call, named, param, is_param_form, is_arrow, is_update_expr, binary_case, with_last, name_of, arrow_behind}
 use Rattle.pure_parser.proofs.Friendly.{Spot, AtFront, Inside}
 use Rattle.pure_parser.proofs.Tests.{mark_known, name_known, bool_cases}
 use Rattle.pure_parser.proofs.Local.{Local, Same, out, kept, left, grown, grown_records, grown_noted, left_noted, after_shorter, local_ret, local_bind, local_when, local_loop, local_no_room, local_peek, Eats, Ate, eats_bind, eats_no_room, eats_peek, ate_when, ate_step}
 use Rattle.pure_parser.proofs.Sound.{Leads, Outcome, Sound}
 use Rattle.pure_parser.proofs.Sound as sound
 use Rattle.pure_parser.proofs.SoundParts.{SoundEnv, SoundCalls, SoundBody}
-use Rattle.pure_parser.proofs.SoundCalls.{calls_sound}
+use Rattle.pure_parser.proofs.SoundCalls.{calls_sound, case_sound}
 use Rattle.pure_parser.proofs.Lone.{of_kind, lone_assign, form_name, form_cases}
 use Rattle.pure_parser.proofs.LocalExprs.{LocalEnv, NameEnd, deep_end, read_end, name_of_local, initializer_local, param_local, chain_local, tail_turn_local, tail_turn_gains, postfix_local, power_turn_local, power_turn_gains, operands_local, level_local, cond_tail_local, assign_tail_local, plain_local, prefix_local, new_local, short_behind_local, after_noted}
 use Rattle.pure_parser.proofs.LocalArrows.{arrow_local, arrow_behind_local, arrow_param_local, arrow_rest_local}
@@ -39,7 +39,7 @@ name_alone v w t = refl
 plain_end : (v : Env) (w : Bool) (t : Lexeme) → is_name t.kind ≡ true → length (left (Exprs.plain_of v w (t ∷ []))) ≡ 0
 plain_end v w t e = subst (λ x. length (left (Exprs.plain_of v w (x ∷ []))) ≡ 0) (known kind.Name t (name_known t.kind e)) (ap (λ r. length (left r)) (name_alone v w t))
 
-assign_end : (v : Env) (w : Bool) (t : Lexeme) → is_name t.kind ≡ true → length (left (Exprs.assign_of v w (t ∷ []))) ≡ 0
+pub assign_end : (v : Env) (w : Bool) (t : Lexeme) → is_name t.kind ≡ true → length (left (Exprs.assign_of v w (t ∷ []))) ≡ 0
 unfolding Exprs.assign_of Exprs.is_arrow_head
 assign_end v w t e = ap (λ b. length (left (when b (Exprs.arrow_of v w) (Exprs.plain_of v w) (t ∷ [])))) (ap (λ k. if is_name k then is_arrow (head_of []) else (is_mark mark.OPEN_PAREN k && arrow_behind (paren ∷ []) [])) (name_known t.kind e)) ∙ plain_end v w t e
 
@@ -237,78 +237,77 @@ pub record LocalRoom (v : Env) : Type 0 where
   pub env : LocalEnv v
   pub pair : (q : List Lexeme) (t u : Lexeme) (us : List Lexeme) → is_param_form t u ≡ true → Pair q (v.sub (AnAssign true) (t ∷ u ∷ us)) (v.sub AParam (t ∷ u ∷ (us ++ q)))
 
+pub no_room_name : (c : Call) (t : Lexeme) (q : List Lexeme) → begins_call c t.kind ≡ true → no_room {A = Exprs.Result c} (begins_call c) (t ∷ q) ≡ Deep [] (t ∷ q)
+no_room_name c t q e = ap (λ x. when x deep bad (t ∷ q)) e
+
+begins_name : (c : Call) (t : Lexeme) → (c ≡ AnAssign true) ⊎ (c ≡ AParam) → is_name t.kind ≡ true → begins_call c t.kind ≡ true
+begins_name c t x e = ap (begins_call c) (name_known t.kind e) ∙ elim x [ inl k ↦ ap (λ y. begins_call y kind.Name) k | inr k ↦ ap (λ y. begins_call y kind.Name) k ]
+
+pub name_eats : Eats name_of
+unfolding name_of
+name_eats = eats_peek (λ t. when (is_name t.kind) (step (ret (named t))) bad) tt (λ t ts. ate_when (step (ret (named t))) bad (is_name t.kind) t ts (ate_step (ret (named t)) (local_ret (named t)) t ts) tt)
+
+param_eats : (v : Env) → LocalEnv v → Eats (Exprs.arrow_param v)
+unfolding Exprs.arrow_param Exprs.param_of
+param_eats v l = eats_bind name_eats (λ n. local_bind (initializer_local v l) (λ o. local_ret (param n o)))
+
+rest_eats : Eats Exprs.arrow_rest
+unfolding Exprs.arrow_rest
+rest_eats = eats_peek (λ t. when (is_mark mark.ELLIPSIS t.kind) (step name_of) bad) tt (λ t ts. ate_when (step name_of) bad (is_mark mark.ELLIPSIS t.kind) t ts (ate_step name_of name_of_local t ts) tt)
+
+param_left : (v : Env) (l : LocalEnv v) (t : Lexeme) (q : List Lexeme) → is_name t.kind ≡ true → length (left (Exprs.arrow_param v (t ∷ q))) ≤ length q
+param_left v l t q e = omega (arith, ap (λ r. length (left r)) (param_first v l [] t q (name_known t.kind e)), after_shorter (λ o. ret (param (named t) o)) (λ o. local_ret (param (named t) o)) (Exprs.initializer_of v q), (initializer_local v l).shorter q)
+
+-- All calls over those one deeper.
+module _ (v : Env) (r : LocalRoom v) (m : Bodies) (d : ℕ) (s : SoundEnv m (suc d) v) where
+  pub case_local : (c : Call) → Local (call_case v c)
+  case_local (AnAssign w) = assign_local v r.env m (suc d) s r.pair w
+  case_local APrefix = prefix_local v r.env
+  case_local ANew = new_local v r.env
+  case_local AParam = arrow_param_local v r.env
+  case_local ARest = arrow_rest_local
+
+  pub case_eats : (c : Call) → Eats (call_case v c)
+  case_eats (AnAssign w) = eats_front ((case_sound m d v s).assign w)
+  case_eats APrefix = eats_front ((case_sound m d v s).prefix)
+  case_eats ANew = eats_front ((case_sound m d v s).new)
+  case_eats AParam = param_eats v r.env
+  case_eats ARest = rest_eats
+
+  pub case_room : (body : BodyParser) → ((f : FuncForm) (start : ℕ) (simple : Bool) → Local (body f start simple)) → LocalRoom (record { sub = call_case v; body = body })
+  case_room body h = record {
+    env = record {
+      at = case_local;
+      eats = case_eats;
+      body = h;
+      name = λ t e. read_end (assign_end v true t e) (λ q. param_left v r.env t q e);
+    };
+    pair = λ q t u us k. call_pair v r.env q t u us k;
+  }
+
+-- No room is left.
+pub no_room_calls : (body : BodyParser) → ((f : FuncForm) (start : ℕ) (simple : Bool) → Local (body f start simple)) → LocalRoom (record { sub = no_calls; body = body })
+no_room_calls body h = record {
+  env = record {
+    at = λ c. local_no_room (begins_call c);
+    eats = λ c. eats_no_room (begins_call c);
+    body = h;
+    name = λ t e. deep_end (λ q. no_room_name (AnAssign true) t q (begins_name (AnAssign true) t (inl refl) e)) (λ q. no_room_name AParam t q (begins_name AParam t (inr refl) e));
+  };
+  pair = λ q t u us k. let e = ap is_name (form_name t u k) in pair_deep [] (t ∷ u ∷ us) (no_room_name (AnAssign true) t (u ∷ us) (begins_name (AnAssign true) t (inl refl) e)) (no_room_name AParam t (u ∷ (us ++ q)) (begins_name AParam t (inr refl) e));
+}
+
 module _ (m : Bodies) (body : ℕ → BodyParser) (b : (room d : ℕ) → SoundBody m d (body room)) (h : (room : ℕ) (f : FuncForm) (start : ℕ) (simple : Bool) → Local (body room f start simple)) where
   abbrev pub env_at : ℕ → Env
   env_at room = record { sub = calls body room; body = body room }
 
-  sound_at : (room : ℕ) → SoundEnv m 0 (env_at room)
-  sound_at room = record { calls = calls_sound m body b room 0; body = b room 0 }
-
-  no_room_name : (c : Call) (t : Lexeme) (q : List Lexeme) → begins_call c t.kind ≡ true → no_room {A = Exprs.Result c} (begins_call c) (t ∷ q) ≡ Deep [] (t ∷ q)
-  no_room_name c t q e = ap (λ x. when x deep bad (t ∷ q)) e
-
-  begins_name : (c : Call) (t : Lexeme) → (c ≡ AnAssign true) ⊎ (c ≡ AParam) → is_name t.kind ≡ true → begins_call c t.kind ≡ true
-  begins_name c t x e = ap (begins_call c) (name_known t.kind e) ∙ elim x [ inl k ↦ ap (λ y. begins_call y kind.Name) k | inr k ↦ ap (λ y. begins_call y kind.Name) k ]
-
-  no_room_env : LocalRoom (env_at zero)
-  unfolding calls
-  no_room_env = record {
-    env = record {
-      at = λ c. local_no_room (begins_call c);
-      eats = λ c. eats_no_room (begins_call c);
-      body = h zero;
-      name = λ t e. deep_end (λ q. no_room_name (AnAssign true) t q (begins_name (AnAssign true) t (inl refl) e)) (λ q. no_room_name AParam t q (begins_name AParam t (inr refl) e));
-    };
-    pair = λ q t u us k. let e = ap is_name (form_name t u k) in pair_deep [] (t ∷ u ∷ us) (no_room_name (AnAssign true) t (u ∷ us) (begins_name (AnAssign true) t (inl refl) e)) (no_room_name AParam t (u ∷ (us ++ q)) (begins_name AParam t (inr refl) e));
-  }
-
-  name_eats : Eats name_of
-  unfolding name_of
-  name_eats = eats_peek (λ t. when (is_name t.kind) (step (ret (named t))) bad) tt (λ t ts. ate_when (step (ret (named t))) bad (is_name t.kind) t ts (ate_step (ret (named t)) (local_ret (named t)) t ts) tt)
-
-  param_eats : (v : Env) → LocalEnv v → Eats (Exprs.arrow_param v)
-  unfolding Exprs.arrow_param Exprs.param_of
-  param_eats v l = eats_bind name_eats (λ n. local_bind (initializer_local v l) (λ o. local_ret (param n o)))
-
-  rest_eats : Eats Exprs.arrow_rest
-  unfolding Exprs.arrow_rest
-  rest_eats = eats_peek (λ t. when (is_mark mark.ELLIPSIS t.kind) (step name_of) bad) tt (λ t ts. ate_when (step name_of) bad (is_mark mark.ELLIPSIS t.kind) t ts (ate_step name_of name_of_local t ts) tt)
-
-  param_left : (v : Env) (l : LocalEnv v) (t : Lexeme) (q : List Lexeme) → is_name t.kind ≡ true → length (left (Exprs.arrow_param v (t ∷ q))) ≤ length q
-  param_left v l t q e = omega (arith, ap (λ r. length (left r)) (param_first v l [] t q (name_known t.kind e)), after_shorter (λ o. ret (param (named t) o)) (λ o. local_ret (param (named t) o)) (Exprs.initializer_of v q), (initializer_local v l).shorter q)
-
-  call_local : (room : ℕ) → LocalRoom (env_at room) → (c : Call) → Local (calls body (suc room) c)
-  unfolding calls
-  call_local room r (AnAssign w) = assign_local (env_at room) r.env m 0 (sound_at room) r.pair w
-  call_local room r APrefix = prefix_local (env_at room) r.env
-  call_local room r ANew = new_local (env_at room) r.env
-  call_local room r AParam = arrow_param_local (env_at room) r.env
-  call_local room r ARest = arrow_rest_local
-
-  call_eats : (room : ℕ) → LocalRoom (env_at room) → (c : Call) → Eats (calls body (suc room) c)
-  unfolding calls
-  call_eats room r (AnAssign w) = eats_front ((calls_sound m body b (suc room) 0).assign w)
-  call_eats room r APrefix = eats_front ((calls_sound m body b (suc room) 0).prefix)
-  call_eats room r ANew = eats_front ((calls_sound m body b (suc room) 0).new)
-  call_eats room r AParam = param_eats (env_at room) r.env
-  call_eats room r ARest = rest_eats
-
-  call_name : (room : ℕ) → LocalRoom (env_at room) → (t : Lexeme) → is_name t.kind ≡ true → NameEnd (env_at (suc room)) t
-  unfolding calls
-  call_name room r t e = read_end (assign_end (env_at room) true t e) (λ q. param_left (env_at room) r.env t q e)
-
-  call_pairs : (room : ℕ) → LocalRoom (env_at room) → (q : List Lexeme) (t u : Lexeme) (us : List Lexeme) → is_param_form t u ≡ true → Pair q (calls body (suc room) (AnAssign true) (t ∷ u ∷ us)) (calls body (suc room) AParam (t ∷ u ∷ (us ++ q)))
-  unfolding calls
-  call_pairs room r q t u us k = call_pair (env_at room) r.env q t u us k
+  sound_at : (room : ℕ) → SoundEnv m 1 (env_at room)
+  sound_at room = record { calls = calls_sound m body b room 1; body = b room 1 }
 
   pub local_room : (room : ℕ) → LocalRoom (env_at room)
-  local_room zero = no_room_env
-  local_room (suc room) =
-      let r = local_room room in
-      record {
-        env = record { at = call_local room r; eats = call_eats room r; body = h (suc room); name = call_name room r };
-        pair = call_pairs room r;
-      }
+  unfolding calls
+  local_room zero = no_room_calls (body zero) (h zero)
+  local_room (suc room) = case_room (env_at room) (local_room room) m 0 (sound_at room) (body (suc room)) (h (suc room))
 
   -- the calls look at nothing behind the place where they stop, and each reads a lexeme
   pub calls_local : (room : ℕ) (c : Call) → Local (calls body room c)

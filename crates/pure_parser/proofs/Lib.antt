@@ -31,6 +31,7 @@ pub mod Completes
 pub mod DeepFronts
 pub mod ExprEnds
 pub mod ExprFronts
+pub mod FirstFaults
 pub mod Fitting
 pub mod Friendly
 pub mod Fronts

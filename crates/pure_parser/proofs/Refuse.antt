@@ -58,13 +58,13 @@ either_bad : {A : Type 0} (b : Bool) (ts : List Lexeme) (r : Reply A) (us : List
 either_bad true ts r us h e = cc
 either_bad false ts r us h e = h e
 
-cut_no_bad : {A : Type 0} (limit : ℕ) (w : List Marked) (q : List Lexeme) (a : A) (us : List Lexeme) → cut limit w q (Read a [] q) ≡ Bad [] us → ⊥
-cut_no_bad limit [] q a us e = cc
-cut_no_bad limit (x ∷ w) q a us e = either_bad (nat_lt limit x.depth) (x.lexeme ∷ (lexemes w ++ q)) (cut limit w q (Read a [] q)) us (cut_no_bad limit w q a us) e
+pub cut_no_bad : {A : Type 0} (limit : ℕ) (w : List Marked) (q : List Lexeme) (a : A) (v us : List Lexeme) → cut limit w q (Read a [] v) ≡ Bad [] us → ⊥
+cut_no_bad limit [] q a v us e = cc
+cut_no_bad limit (x ∷ w) q a v us e = either_bad (nat_lt limit x.depth) (x.lexeme ∷ (lexemes w ++ q)) (cut limit w q (Read a [] v)) us (cut_no_bad limit w q a v us) e
 
 -- no lexemes of a tree begin as those up to and including the fault's
 pub refuse : {A : Type 0} (limit : ℕ) (f : Parser A) → Local f → (p : List Lexeme) (x : Lexeme) (r r2 : List Lexeme) → bare (f (p ++ x ∷ r)) ≡ Bad [] (x ∷ r) → (w : List Marked) (q : List Lexeme) (a : A) → Parses limit f w q a → lexemes w ++ q ≡ p ++ x ∷ r2 → ⊥
-refuse limit f l p x r r2 e w q a h s = cut_no_bad limit w q a (x ∷ r2) (sym h.by ∙ ap (λ y. bare (f y)) s ∙ bad_again f l p x r r2 e)
+refuse limit f l p x r r2 e w q a h s = cut_no_bad limit w q a q (x ∷ r2) (sym h.by ∙ ap (λ y. bare (f y)) s ∙ bad_again f l p x r r2 e)
 
 -- The same for a fault that is too deep: the reply is the same, whatever follows.
 

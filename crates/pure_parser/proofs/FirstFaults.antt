@@ -43,15 +43,15 @@ pub inner_front : (u v : List Lexeme) → AllInner (u ++ v) → AllInner u
 inner_front [] v h = tt
 inner_front (t ∷ u) v h = (h.0, inner_front u v h.1)
 
--- a text with its End token
+-- a text with what ends it, which stands inside no text
 pub record Whole (ts : List Lexeme) : Type 0 where
   pub inner : List Lexeme
   pub last : Lexeme
   pub split : ts ≡ inner ++ last ∷ []
-  pub ends : last.kind ≡ kind.End
+  pub ends : IsInner last.kind → ⊥
 
-not_inner : (u : List Lexeme) (t : Lexeme) → t.kind ≡ kind.End → AllInner (u ++ t ∷ []) → ⊥
-not_inner [] t e h = subst IsInner e h.0
+not_inner : (u : List Lexeme) (t : Lexeme) → (IsInner t.kind → ⊥) → AllInner (u ++ t ∷ []) → ⊥
+not_inner [] t e h = e h.0
 not_inner (x ∷ u) t e h = not_inner u t e h.1
 
 -- lists
@@ -253,7 +253,7 @@ module _ {A : Type 0} (P : Part) (f : Parser A) (d : Decides P f) where
   front_length : (ts front us : List Lexeme) → ts ≡ front ++ us → length front ≡ length ts - length us
   front_length ts front us e = omega (arith, ap length e, length-append front us)
 
-  -- in a text, no fault stands behind the End token
+  -- no fault stands behind what ends a text
   pub bad_some : (ts : List Lexeme) → Whole ts → bare (f ts) ≡ Bad [] [] → ⊥
   bad_some ts h e =
       let b = d.bad_begins ts [] e in

@@ -46,6 +46,7 @@ pub mod LocalStmts
 pub mod Lone
 pub mod Nested
 pub mod NestedTrees
+pub mod PartLaws
 pub mod Partnered
 pub mod Refuse
 pub mod Rows

@@ -1,0 +1,109 @@
+-- From the three laws of a parser to the first fault of the parts that it reads: what its soundness says of faults, and its
+-- completeness of parts before no lexeme.
+use Rattle.std.proofs.Common.{◌≡◌, ℕ, zero, suc, ◌≤◌, ◌<◌, List, [], ◌∷◌, ◌++◌, length, get_or, refl, sym, ap, ◌∙◌, subst, arith, append_assoc, append-nil, cond, nat_lt, Bool, true, false}
+use Rattle.std.proofs.lemmas.Bool.{le-ltb, ltb-false}
+use Rattle.script_grammar.specs.Lexeme.{Lexeme}
+use Rattle.script_grammar.specs.Pieces.{Piece, At, Gap, Pass, Fits, depths, may_omit}
+use Rattle.script_grammar.specs.Fault.{depth_limit, Part, Begins}
+use Rattle.pure_parser.specs.Parser.{Reply, Read, Bad, Deep, Parser, end_lexeme}
+use Rattle.pure_parser.proofs.Friendly.{Spot, Friendly, first_of, friendly_omits, end_friendly}
+use Rattle.pure_parser.proofs.Stands.{Marked, lexemes, marks, Stands, Standing, fits_standing, stands_fit}
+use Rattle.pure_parser.proofs.Complete.{Parses, bare, cut}
+use Rattle.pure_parser.proofs.SoundNext.{SoundNext, Outcome, Ended, Sunk, Took}
+use Rattle.pure_parser.proofs.Bracketed.{AllInner}
+use Rattle.pure_parser.proofs.Nested.{Nested}
+use Rattle.pure_parser.proofs.FirstFaults.{BegunBad, BegunDeep, Cuts, Decides, inner_open, inner_front}
+
+-- outcomes of bare replies
+
+pub of_bad : {A : Type 0} (p : Spot) (R : List Lexeme → A → Lexeme → Type 0) (ts us : List Lexeme) (r : Reply A) → bare r ≡ Bad [] us → Outcome p R ts r → Ended p R ts us
+of_bad {A = A} p R ts us (Read a rs vs) e o = absurd (cc)
+of_bad {A = A} p R ts us (Bad rs vs) e o = subst (Ended p R ts) (same e) o
+  where
+    same : ◌≡◌ {A = Reply A} (Bad [] vs) (Bad [] us) → vs ≡ us
+    same e = cc
+of_bad {A = A} p R ts us (Deep rs vs) e o = absurd (cc)
+
+pub of_deep : {A : Type 0} (p : Spot) (R : List Lexeme → A → Lexeme → Type 0) (ts us : List Lexeme) (r : Reply A) → bare r ≡ Deep [] us → Outcome p R ts r → Sunk R ts us
+of_deep {A = A} p R ts us (Read a rs vs) e o = absurd (cc)
+of_deep {A = A} p R ts us (Bad rs vs) e o = absurd (cc)
+of_deep {A = A} p R ts us (Deep rs vs) e o = subst (Sunk R ts) (same e) o
+  where
+    same : ◌≡◌ {A = Reply A} (Deep [] vs) (Deep [] us) → vs ≡ us
+    same e = cc
+
+pub of_read : {A : Type 0} (p : Spot) (R : List Lexeme → A → Lexeme → Type 0) (ts us : List Lexeme) (a : A) (r : Reply A) → bare r ≡ Read a [] us → Outcome p R ts r → Took R ts a us
+of_read {A = A} p R ts us a (Read b rs vs) e o = subst (λ x. Took R ts x us) (same_value e) (subst (Took R ts b) (same_left e) o)
+  where
+    same_left : ◌≡◌ {A = Reply A} (Read b [] vs) (Read a [] us) → vs ≡ us
+    same_left e = cc
+
+    same_value : ◌≡◌ {A = Reply A} (Read b [] vs) (Read a [] us) → b ≡ a
+    same_value e = cc
+of_read {A = A} p R ts us a (Bad rs vs) e o = absurd (cc)
+of_read {A = A} p R ts us a (Deep rs vs) e o = absurd (cc)
+
+-- A parser of which what is read, with some lexemes behind it, is such a part.
+module _ {A : Type 0} (P : Part) (f : Parser A) (p : Spot) (R : List Lexeme → A → Lexeme → Type 0) (s : SoundNext p R f)
+    (inner : (w : List Lexeme) (a : A) → R w a end_lexeme → AllInner w)
+    (part : (u v : List Lexeme) (a : A) → R (u ++ v) a end_lexeme → Begins P u) where
+  pub bad_part : (ts us : List Lexeme) → bare (f ts) ≡ Bad [] us → BegunBad P f ts us
+  bad_part ts us e =
+      let o = of_bad p R ts us (f ts) e (s.at ts) in
+      let is = o.is end_lexeme end_friendly in
+      let b = part o.front o.end o.of is in
+      record { front = o.front; split = o.split; inner = inner_front o.front o.end (inner (o.front ++ o.end) o.of is); end = b.end; deep = b.deep; is = b.is }
+
+  pub deep_part : (ts us : List Lexeme) → bare (f ts) ≡ Deep [] us → BegunDeep P f ts us
+  deep_part ts us e =
+      let o = of_deep p R ts us (f ts) e (s.at ts) in
+      let b = part (o.front ++ o.token ∷ []) o.end o.of (subst (λ w. R w o.of end_lexeme) (sym (append_assoc o.front (o.token ∷ []) o.end)) (o.is end_lexeme end_friendly)) in
+      record { front = o.front; split = o.split; token = o.token; behind = o.behind; first = o.first; end = b.end; deep = b.deep; is = subst (λ w. P w b.deep) (append_assoc o.front (o.token ∷ []) b.end) b.is }
+
+-- a friendly lexeme may stand behind in place of another
+pub stands_friendly : (ps : List Piece) (w : List Marked) (x y : Lexeme) → Friendly y → Stands ps w x → Stands ps w y
+stands_friendly [] [] x y f h = tt
+stands_friendly [] (t ∷ w) x y f h = absurd h
+stands_friendly (At s ∷ ps) [] x y f h = absurd h
+stands_friendly (At s ∷ ps) (t ∷ w) x y f h = (h.0, h.1, stands_friendly ps w x y f h.2)
+stands_friendly (Gap e ∷ ps) [] x y f h = (friendly_omits e y f, stands_friendly ps [] x y f h.1)
+stands_friendly (Gap e ∷ ps) (t ∷ w) x y f h = (h.0, stands_friendly ps (t ∷ w) x y f h.1)
+stands_friendly (Pass ∷ ps) w x y f h = (h.0, h.1, h.2, h.3, h.4, stands_friendly ps h.1 x y f h.5)
+
+-- what stands at places whose brackets match is inside a text
+pub nested_inner : (ps : List Piece) → Nested ps → (w : List Lexeme) (n : Lexeme) → Fits ps w n → AllInner w
+nested_inner ps x w n h = inner_open w [] [] (x.at w n h [])
+
+-- a part that ends where its lexemes do
+pub cuts_end : {A : Type 0} (P : Part) (f : Parser A) (ps : List Piece) (w : List Lexeme) (n : Lexeme) (h : Fits ps w n) (deep : List ℕ) (a : A) → deep ≡ depths ps w n h → ((m : List Marked) → Stands ps m end_lexeme → Parses depth_limit f m [] a) → Cuts P f w deep
+cuts_end P f ps w n h deep a e c =
+    let s = fits_standing ps w n h in
+    record {
+      marked = s.marked;
+      lexemes_are = s.lexemes_are;
+      depths_are = s.depths_are ∙ sym e;
+      of = a;
+      left = [];
+      cuts = ap (λ x. bare (f x)) (sym s.lexemes_are ∙ sym (append-nil (lexemes s.marked))) ∙ (c s.marked (stands_friendly ps s.marked n end_lexeme end_friendly s.stands)).by;
+    }
+
+-- Depths within the limit.
+
+abbrev pub NoneDeep : List ℕ → Type 0
+NoneDeep ds = (j : ℕ) → get_or ds j 0 ≤ depth_limit
+
+pub cut_read : {A : Type 0} (m : List Marked) (rest : List Lexeme) (r : Reply A) (a : A) (v : List Lexeme) → cut depth_limit m rest r ≡ Read a [] v → NoneDeep (marks m) × (r ≡ Read a [] v)
+cut_read [] rest r a v e = (λ j. omega arith, e)
+cut_read {A = A} (x ∷ m) rest r a v e = by (nat_lt depth_limit x.depth) refl (λ k. cut_read m rest r a v k) e
+  where
+    here : nat_lt depth_limit x.depth ≡ false → NoneDeep (marks m) → (j : ℕ) → get_or (x.depth ∷ marks m) j 0 ≤ depth_limit
+    here k h zero = ltb-false depth_limit x.depth k
+    here k h (suc j) = h j
+
+    by : (b : Bool) → nat_lt depth_limit x.depth ≡ b → (cut depth_limit m rest r ≡ Read a [] v → NoneDeep (marks m) × (r ≡ Read a [] v)) → cond b (Deep [] (x.lexeme ∷ (lexemes m ++ rest))) (cut depth_limit m rest r) ≡ Read a [] v → NoneDeep (marks (x ∷ m)) × (r ≡ Read a [] v)
+    by true k i h = absurd (cc)
+    by false k i h = let q = i h in (here k q.0, q.1)
+
+pub cut_none : {A : Type 0} (m : List Marked) (rest : List Lexeme) (r : Reply A) → NoneDeep (marks m) → cut depth_limit m rest r ≡ r
+cut_none [] rest r h = refl
+cut_none (x ∷ m) rest r h = ap (λ b. cond b (Deep [] (x.lexeme ∷ (lexemes m ++ rest))) (cut depth_limit m rest r)) (le-ltb depth_limit x.depth (h 0)) ∙ cut_none m rest r (λ j. h (suc j))

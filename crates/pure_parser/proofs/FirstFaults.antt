@@ -50,7 +50,7 @@ pub record Whole (ts : List Lexeme) : Type 0 where
   pub split : ts ≡ inner ++ last ∷ []
   pub ends : IsInner last.kind → ⊥
 
-not_inner : (u : List Lexeme) (t : Lexeme) → (IsInner t.kind → ⊥) → AllInner (u ++ t ∷ []) → ⊥
+pub not_inner : (u : List Lexeme) (t : Lexeme) → (IsInner t.kind → ⊥) → AllInner (u ++ t ∷ []) → ⊥
 not_inner [] t e h = e h.0
 not_inner (x ∷ u) t e h = not_inner u t e h.1
 
@@ -174,15 +174,15 @@ up_to (t ∷ front) x r = ap (λ y. t ∷ y) (up_to front x r)
 
 module _ {A : Type 0} (P : Part) (f : Parser A) (d : Decides P f) where
   -- a deep lexeme is found at the latest there
-  record DeepBefore (ts : List Lexeme) (j : ℕ) : Type 0 where
-    before : List Lexeme
-    at : Lexeme
-    rest : List Lexeme
-    split : ts ≡ before ++ at ∷ rest
-    soon : length before ≤ j
-    found : bare (f ts) ≡ Deep [] (at ∷ rest)
+  pub record DeepBefore (ts : List Lexeme) (j : ℕ) : Type 0 where
+    pub before : List Lexeme
+    pub at : Lexeme
+    pub rest : List Lexeme
+    pub split : ts ≡ before ++ at ∷ rest
+    pub soon : length before ≤ j
+    pub found : bare (f ts) ≡ Deep [] (at ∷ rest)
 
-  deep_before : (ts : List Lexeme) (j : ℕ) → j < length ts → IsDeep P ts j → DeepBefore ts j
+  pub deep_before : (ts : List Lexeme) (j : ℕ) → j < length ts → IsDeep P ts j → DeepBefore ts j
   deep_before ts j l b =
       let c = d.reads (take (suc j) ts ++ b.end) b.deep b.is in
       let q = cut_early depth_limit c.marked (Read c.of [] c.left) j (subst (λ x. depth_limit < get_or x j 0) (sym c.depths_are) b.above) in

@@ -50,6 +50,7 @@ pub mod PartLaws
 pub mod Partnered
 pub mod Refuse
 pub mod Rows
+pub mod ScriptLaws
 pub mod Sound
 pub mod SoundArrows
 pub mod SoundCalls

@@ -1,6 +1,7 @@
 mod CornerRows
 mod DepthRows
 pub mod Agrees
+pub mod AloneLaws
 pub mod ArrowFronts
 pub mod Begins
 pub mod Bracketed

@@ -176,7 +176,7 @@ mutual
   nested_initializer m d no_expr p = nested_none
   nested_initializer m d (some_expr e) p = mark_cons mark.ASSIGN d _ (omega arith) (nested_expr m (suc d) e p.1)
 
-  nested_body : (m : Bodies) (d end : ℕ) (form : FuncForm) (b : Body) → ProperBody m form b → Nested (Print.print_body m d end b)
+  pub nested_body : (m : Bodies) (d end : ℕ) (form : FuncForm) (b : Body) → ProperBody m form b → Nested (Print.print_body m d end b)
   nested_body whole d end form (tree.BracedBody items) p = braces _ _ (Print.print_stmts whole d items) [] refl refl (nested_stmts whole d true items p) nested_none
   nested_body passed d end form (tree.BracedBody items) p = braces _ _ _ [] refl refl nested_pass nested_none
   nested_body whole d end form (tree.ShortBody value) p = until_nested end (Print.print whole (suc d) value) (nested_expr whole (suc d) value p.3)

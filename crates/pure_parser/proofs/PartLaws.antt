@@ -1,6 +1,6 @@
 -- From the three laws of a parser to the first fault of the parts that it reads: what its soundness says of faults, and its
 -- completeness of parts before no lexeme.
-use Rattle.std.proofs.Common.{◌≡◌, ℕ, zero, suc, ◌≤◌, ◌<◌, List, [], ◌∷◌, ◌++◌, length, get_or, refl, sym, ap, ◌∙◌, subst, arith, append_assoc, append-nil, cond, nat_lt, Bool, true, false}
+use Rattle.std.proofs.Common.{◌≡◌, ℕ, zero, suc, ◌+◌, ◌≤◌, ◌<◌, List, [], ◌∷◌, ◌++◌, length, get_or, refl, sym, ap, ◌∙◌, subst, arith, append_assoc, append-nil, cond, nat_lt, Bool, true, false}
 use Rattle.std.proofs.lemmas.Bool.{le-ltb, ltb-false}
 use Rattle.script_grammar.specs.Lexeme.{Lexeme}
 use Rattle.script_grammar.specs.Pieces.{Piece, At, Gap, Pass, Fits, depths, may_omit}
@@ -107,3 +107,49 @@ cut_read {A = A} (x ∷ m) rest r a v e = by (nat_lt depth_limit x.depth) refl (
 pub cut_none : {A : Type 0} (m : List Marked) (rest : List Lexeme) (r : Reply A) → NoneDeep (marks m) → cut depth_limit m rest r ≡ r
 cut_none [] rest r h = refl
 cut_none (x ∷ m) rest r h = ap (λ b. cond b (Deep [] (x.lexeme ∷ (lexemes m ++ rest))) (cut depth_limit m rest r)) (le-ltb depth_limit x.depth (h 0)) ∙ cut_none m rest r (λ j. h (suc j))
+
+-- With room enough nothing is too deep, so a parser reads one value at most.
+
+abbrev pub total : List ℕ → ℕ
+total [] = 0
+total (d ∷ ds) = d + total ds
+
+pub cut_total : {A : Type 0} (limit : ℕ) (m : List Marked) (rest : List Lexeme) (r : Reply A) → total (marks m) ≤ limit → cut limit m rest r ≡ r
+cut_total limit [] rest r h = refl
+cut_total limit (x ∷ m) rest r h = ap (λ b. cond b (Deep [] (x.lexeme ∷ (lexemes m ++ rest))) (cut limit m rest r)) (le-ltb limit x.depth (omega (arith, h))) ∙ cut_total limit m rest r (omega (arith, h))
+
+pub one_value : {A : Type 0} (limit : ℕ) (f : Parser A) (m n : List Marked) (a b : A) → total (marks m) ≤ limit → total (marks n) ≤ limit → lexemes m ≡ lexemes n → Parses limit f m [] a → Parses limit f n [] b → a ≡ b
+one_value {A = A} limit f m n a b h k e x y = same (sym (cut_total limit m [] (Read a [] []) h) ∙ sym x.by ∙ ap (λ z. bare (f (z ++ []))) e ∙ y.by ∙ cut_total limit n [] (Read b [] []) k)
+  where
+    same : ◌≡◌ {A = Reply A} (Read a [] []) (Read b [] []) → a ≡ b
+    same e = cc
+
+-- two lists of places at which the same lexemes stand
+pub record BothStand (ps qs : List Piece) (w : List Lexeme) : Type 0 where
+  pub left : List Marked
+  pub right : List Marked
+  pub left_are : lexemes left ≡ w
+  pub right_are : lexemes right ≡ w
+  pub left_stand : Stands ps left end_lexeme
+  pub right_stand : Stands qs right end_lexeme
+
+pub both_stand : (ps qs : List Piece) (w : List Lexeme) (x y : Lexeme) → Fits ps w x → Fits qs w y → BothStand ps qs w
+both_stand ps qs w x y h k =
+    let s = fits_standing ps w x h in
+    let t = fits_standing qs w y k in
+    record {
+      left = s.marked;
+      right = t.marked;
+      left_are = s.lexemes_are;
+      right_are = t.lexemes_are;
+      left_stand = stands_friendly ps s.marked x end_lexeme end_friendly s.stands;
+      right_stand = stands_friendly qs t.marked y end_lexeme end_friendly t.stands;
+    }
+
+-- the room that both need
+abbrev pub room_of : {ps qs : List Piece} {w : List Lexeme} → BothStand ps qs w → ℕ
+room_of s = total (marks s.left) + total (marks s.right)
+
+-- a parser that is complete with this room reads one value
+pub one_read : {A : Type 0} (extra : ℕ) (f : Parser A) (ps qs : List Piece) (w : List Lexeme) (a b : A) (s : BothStand ps qs w) → Parses (room_of s + extra) f s.left [] a → Parses (room_of s + extra) f s.right [] b → a ≡ b
+one_read extra f ps qs w a b s x y = one_value (room_of s + extra) f s.left s.right a b (omega arith) (omega arith) (s.left_are ∙ sym s.right_are) x y

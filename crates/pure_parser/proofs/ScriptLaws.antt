@@ -27,7 +27,7 @@ use Rattle.pure_parser.proofs.CompleteEverything.{read_script_complete}
 use Rattle.pure_parser.proofs.Bracketed.{IsInner, AllInner}
 use Rattle.pure_parser.proofs.NestedTrees.{nested_stmts}
 use Rattle.pure_parser.proofs.FirstFaults.{Whole, Decides, Cuts, first_bad, first_deep, not_inner, deep_before, fault_place, fault_kind}
-use Rattle.pure_parser.proofs.PartLaws.{of_read, bad_part, deep_part, stands_friendly, nested_inner, NoneDeep, cut_read, cut_none}
+use Rattle.pure_parser.proofs.PartLaws.{of_read, bad_part, deep_part, stands_friendly, nested_inner, NoneDeep, cut_read, cut_none, both_stand, one_read, room_of}
 
 -- the parser, with all room for depth
 abbrev pub Reads : List Lexeme → Reply Stmts
@@ -217,3 +217,12 @@ fault_is_found ts k why t l f = by (read_script depth_limit ts) refl
     by (Deep rs us) e =
         let g = script_too_deep ts us (ap bare e) in
         (fault_kind (ScriptPart whole 0) ts k (length ts - length us) why TooDeep f g, fault_place (ScriptPart whole 0) ts k (length ts - length us) why TooDeep f g)
+
+-- One tree.
+
+pub one_script : (w : List Lexeme) (x y : Lexeme) (a b : Stmts) → IsScript w x a → IsScript w y b → a ≡ b
+one_script w x y a b s t =
+    let q = both_stand (print_stmts whole 0 a) (print_stmts whole 0 b) w x y s.fits t.fits in
+    one_read 0 (read_script (room_of q + 0)) (print_stmts whole 0 a) (print_stmts whole 0 b) w a b q
+    ((read_script_complete (room_of q + 0) a s.proper).at q.left [] q.left_stand refl)
+    ((read_script_complete (room_of q + 0) b t.proper).at q.right [] q.right_stand refl)

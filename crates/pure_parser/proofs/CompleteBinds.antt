@@ -52,7 +52,7 @@ abbrev pub binds_list : Binds → List Bind
 binds_list no_binds = []
 binds_list (more_binds n value bs) = bound n (option_of value) ∷ binds_list bs
 
-of_maybe : (o : MaybeExpr) → maybe_expr_of (option_of o) ≡ o
+pub of_maybe : (o : MaybeExpr) → maybe_expr_of (option_of o) ≡ o
 of_maybe no_expr = refl
 of_maybe (some_expr e) = refl
 

@@ -29,6 +29,15 @@ use Rattle.pure_parser.proofs.CompleteEach.{stmt_complete}
 use Rattle.pure_parser.proofs.CompleteCalls.{case_complete, no_calls_complete}
 use Rattle.pure_parser.proofs.DeepFronts.{stmt_deep, place_opens, c_no_room}
 
+-- up to the End token
+
+end_here : {A : Type 0} (a : A) (rest : List Lexeme) → is_end (head_of rest).kind ≡ true → bare (parser.end_of a rest) ≡ Read a [] rest
+unfolding parser.end_of
+end_here a rest h = ap (λ b. bare (when b (ret a) bad rest)) h
+
+pub end_complete : (limit : ℕ) {A : Type 0} (a : A) → Completes limit [] (λ t. is_end t.kind ≡ true) (parser.end_of a) a
+end_complete limit a = c_look limit (end_here a)
+
 -- a braced body that is read in place
 
 module _ (limit d : ℕ) (low : d ≤ limit) (stmt : StmtCalls) (c : CompleteStmts limit whole d stmt) where
@@ -51,16 +60,12 @@ module _ (limit d : ℕ) (low : d ≤ limit) (stmt : StmtCalls) (c : CompleteStm
 
   -- statements up to the End token
 
-  end_here : {A : Type 0} (a : A) (rest : List Lexeme) → is_end (head_of rest).kind ≡ true → bare (parser.end_of a rest) ≡ Read a [] rest
-  unfolding parser.end_of
-  end_here a rest h = ap (λ b. bare (when b (ret a) bad rest)) h
-
   ends_list : (t : Lexeme) → is_end t.kind ≡ true → EndsList t
   ends_list t h = at_kind EndsList kind.End t (end_known t.kind h) refl
 
   pub script_complete : (items : Stmts) → ProperStmts whole false items → Completes limit (print_stmts whole d items) (λ t. is_end t.kind ≡ true) (parser.script_of stmt) items
   unfolding parser.script_of
-  script_complete items h = c_value (of_list items) (c_pieces limit (append-nil (print_stmts whole d items)) (c_bind limit (λ ss. parser.end_of (stmts_of ss)) (stmts_complete limit whole d low stmt c false items h) (lead_map ends_list lead_none) (c_look limit (end_here (stmts_of (list_of items))))))
+  script_complete items h = c_value (of_list items) (c_pieces limit (append-nil (print_stmts whole d items)) (c_bind limit (λ ss. parser.end_of (stmts_of ss)) (stmts_complete limit whole d low stmt c false items h) (lead_map ends_list lead_none) (end_complete limit (stmts_of (list_of items)))))
 
 -- All calls.
 

@@ -35,7 +35,7 @@ module _ (limit : ℕ) (m : Bodies) (d : ℕ) (low : d ≤ limit) (v : Env) (c :
   abbrev pub HeadFor : ℕ → Params → Bool → Bool → Head → Type 0
   HeadFor start ps comma bare h = (h.start ≡ start) × (params_of h.params ≡ ps) × (h.comma ≡ comma) × (h.bare ≡ bare)
 
-  abbrev head_pieces : Bool → ℕ → Params → Bool → List Piece
+  abbrev pub head_pieces : Bool → ℕ → Params → Bool → List Piece
   head_pieces bare start ps comma = parenthesized bare start d (print_params m (if bare then d else suc d) d ps) comma
 
   pub record ArrowHeadOf (bare : Bool) (start : ℕ) (ps : Params) (comma : Bool) : Type 0 where
@@ -101,7 +101,7 @@ module _ (limit : ℕ) (m : Bodies) (d : ℕ) (low : d ≤ limit) (v : Env) (c :
   brace_some q ps [] n h = absurd h
   brace_some q ps (x ∷ w) n h = omega arith
 
-  abbrev read_body : ℕ → Body → BodyRead
+  abbrev pub read_body : ℕ → Body → BodyRead
   read_body end b = record { body = b; end = end }
 
   braced_complete : {F : Lexeme → Type 0} (w : Bool) (h : Head) (end : ℕ) (items : Stmts) → ProperBody m form.Arrow (BracedBody items) → Completes limit (print_body m d end (BracedBody items)) F (parser.arrow_body v w h) (read_body end (BracedBody items))

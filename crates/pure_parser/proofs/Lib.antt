@@ -35,6 +35,7 @@ pub mod ExprFronts
 pub mod FirstFaults
 pub mod Fitting
 pub mod Friendly
+pub mod FunctionAlone
 pub mod Fronts
 pub mod Local
 pub mod LocalArrows

@@ -37,6 +37,10 @@ pub local_semi : (e : Ending) → Local (parser.semi_of e)
 unfolding parser.semi_of
 local_semi e = local_peek (λ t. local_when (is_mark mark.SEMICOLON t.kind) (local_step (local_ret true)) (local_when (may_omit e t) (local_ret false) local_bad))
 
+pub local_end : {A : Type 0} (a : A) → Local (parser.end_of a)
+unfolding parser.end_of
+local_end a = local_peek (λ t. local_when (is_end t.kind) (local_ret a) local_bad)
+
 -- what statements use of expressions
 pub record LocalUses (v : Env) : Type 0 where
   pub assign : (w : Bool) → Local (v.sub (AnAssign w))
@@ -85,10 +89,6 @@ module _ (stmt : StmtCalls) (s : LocalStmts stmt) where
   pub local_reading : (f : FuncForm) (start : ℕ) (simple : Bool) → Local (parser.reading stmt f start simple)
   unfolding parser.reading
   local_reading f start simple = local_bind (local_expect mark.OPEN_BRACE) (λ _. local_bind (local_stmts true) local_close_body)
-
-  local_end : {A : Type 0} (a : A) → Local (parser.end_of a)
-  unfolding parser.end_of
-  local_end a = local_peek (λ t. local_when (is_end t.kind) (local_ret a) local_bad)
 
   pub local_script : Local (parser.script_of stmt)
   unfolding parser.script_of

@@ -272,7 +272,7 @@ in_place_sound room d = everything_sound whole parser.in_place (λ room2 e stmt 
 
 -- A script: its statements up to the End token.
 
-end_sound : {A : Type 0} (a : A) → SoundNext AtFront (λ w x n. (w ≡ []) × (x ≡ a)) (parser.end_of a)
+pub end_sound : {A : Type 0} (a : A) → SoundNext AtFront (λ w x n. (w ≡ []) × (x ≡ a)) (parser.end_of a)
 unfolding parser.end_of
 end_sound a = next_peek
     (λ t. at_when (is_end t.kind)

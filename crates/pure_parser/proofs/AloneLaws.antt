@@ -1,27 +1,29 @@
--- What the parsers of parts that are read alone answer, by the definitions alone: an AssignmentExpression, an Expression and
--- a braced body. Each reads a part where its lexemes stand and no token is too deep, with its one tree, and where it faults
+-- What the parsers of parts that are read alone answer, by the definitions alone: an AssignmentExpression, an Expression, a
+-- braced body and a function. Each reads a part where its lexemes stand and no token is too deep, with its one tree, and where it faults
 -- there is the first fault of such a part. Bodies are read in place.
-use Rattle.std.proofs.Common.{◌≡◌, ℕ, zero, suc, ◌+◌, ◌-◌, ◌≤◌, List, [], ◌∷◌, ◌++◌, length, refl, sym, ap, ◌∙◌, subst, arith, Bool, true, false}
+use Rattle.std.proofs.Common.{◌≡◌, ℕ, zero, suc, ◌+◌, ◌-◌, ◌≤◌, List, [], ◌∷◌, ◌++◌, length, refl, sym, ap, ◌∙◌, subst, arith, Bool, true, false, None}
 use Rattle.script_grammar.specs.declared.token.FuncForm.{FuncForm}
+use Rattle.script_grammar.specs.declared.token.FuncForm.TheVariants as form
 use Rattle.script_grammar.specs.Lexeme.{Lexeme}
-use Rattle.script_grammar.specs.Tree.{Expr, Stmts}
+use Rattle.script_grammar.specs.Kinds.{is_end}
+use Rattle.script_grammar.specs.Tree.{Expr, Stmts, Function}
 use Rattle.script_grammar.specs.Tree as tree
 use Rattle.script_grammar.specs.Endings.{ending}
 use Rattle.script_grammar.specs.Pieces.{whole, depths, Fits}
 use Rattle.script_grammar.specs.Print.{print, print_body}
-use Rattle.script_grammar.specs.Script.{IsAssign, IsExpression, IsBody, print_braced}
-use Rattle.script_grammar.specs.Fault.{depth_limit, Part, AssignPart, ExpressionPart, BodyPart, Begins, Unexpected, TooDeep, FirstFault}
-use Rattle.pure_parser.specs.Parser.{Reply, Read, Bad, Deep, Parser, end_lexeme}
-use Rattle.pure_parser.specs.Exprs.{Env, AnAssign, BodyRead, expr_of}
+use Rattle.script_grammar.specs.Script.{IsAssign, IsExpression, IsBody, IsFunction, print_braced, print_alone}
+use Rattle.script_grammar.specs.Fault.{depth_limit, Part, AssignPart, ExpressionPart, BodyPart, FunctionPart, Begins, Unexpected, TooDeep, FirstFault}
+use Rattle.pure_parser.specs.Parser.{Reply, Read, Bad, Deep, Parser, head_of, when, end_lexeme}
+use Rattle.pure_parser.specs.Exprs.{Env, AnAssign, BodyRead, expr_of, function_of}
 use Rattle.pure_parser.specs.Stmts as parser
-use Rattle.pure_parser.specs.Stmts.{StmtCalls, env_of, everything, in_place, reading}
+use Rattle.pure_parser.specs.Stmts.{StmtCalls, env_of, everything, in_place, reading, read_alone}
 use Rattle.pure_parser.specs.Follow.{continues_assign, continues_expr}
 use Rattle.pure_parser.proofs.Friendly.{AtFront, Inside}
 use Rattle.pure_parser.proofs.Complete.{Parses, bare}
 use Rattle.pure_parser.proofs.Stops.{stop_end, stop_assign}
 use Rattle.pure_parser.proofs.SoundParts.{IsExpr, IsBraced, SoundEnv}
 use Rattle.pure_parser.proofs.SoundLists.{expr_sound}
-use Rattle.pure_parser.proofs.SoundNext.{Plain, next_of}
+use Rattle.pure_parser.proofs.SoundNext.{Plain, next_of, stands}
 use Rattle.pure_parser.proofs.SoundEverything.{in_place_sound, reading_sound}
 use Rattle.pure_parser.proofs.LocalExprs.{expr_local}
 use Rattle.pure_parser.proofs.LocalStmts.{local_reading}
@@ -30,9 +32,11 @@ use Rattle.pure_parser.proofs.Completes.{Completes}
 use Rattle.pure_parser.proofs.CompleteParts.{CompleteEnv, expr_complete}
 use Rattle.pure_parser.proofs.CompleteEverything.{in_place_complete, reading_complete, own_complete}
 use Rattle.pure_parser.proofs.Bracketed.{AllInner}
-use Rattle.pure_parser.proofs.NestedTrees.{nested_expr, nested_body}
-use Rattle.pure_parser.proofs.FirstFaults.{Whole, Decides, Cuts, first_bad, first_deep}
-use Rattle.pure_parser.proofs.PartLaws.{bad_part, deep_part, nested_inner, cuts_end, both_stand, one_read, room_of}
+use Rattle.pure_parser.proofs.NestedTrees.{nested_expr, nested_body, nested_function}
+use Rattle.pure_parser.proofs.Nested.{Nested}
+use Rattle.pure_parser.proofs.FunctionAlone.{IsAlone, alone_print, proper_alone, alone_sound, alone_local, alone_complete}
+use Rattle.pure_parser.proofs.FirstFaults.{Whole, Decides, Cuts, first_bad, first_deep, read_shallow}
+use Rattle.pure_parser.proofs.PartLaws.{bad_part, deep_part, nested_inner, of_read, cuts_end, part_is_read, NoneDeep, both_stand, one_read, room_of, ends_there}
 
 -- the parsers, with so much room for depth
 
@@ -137,9 +141,43 @@ one_expression w d u x y a b s t =
     ((expression_complete (room_of q + d) (room_of q) d refl w x u a s).at q.left [] q.left_stand (no_expr w a))
     ((expression_complete (room_of q + d) (room_of q) d refl w y u b t).at q.right [] q.right_stand (no_expr w b))
 
+-- where an assignment or an expression is read, it is one
+
+pub record AssignRead (w : Bool) (d : ℕ) (ts us : List Lexeme) (e : Expr) : Type 0 where
+  pub front : List Lexeme
+  pub split : ts ≡ front ++ us
+  pub is : IsAssign whole w d front (head_of us) e
+  pub shallow : NoneDeep (depths (print whole (suc d) e) front (head_of us) is.fits)
+
+pub read_is_assign : (room d : ℕ) → room + d ≡ depth_limit → (w : Bool) (ts us : List Lexeme) (e : Expr) → bare (read_assign room w ts) ≡ Read e [] us → AssignRead w d ts us e
+read_is_assign room d q w ts us e h =
+    let o = of_read AtFront (Plain (IsExpr whole w (suc d) 20)) ts us e (read_assign room w ts) h ((next_of ((in_place_sound room d).exprs.assign w)).at ts) in
+    let p = o.is (head_of us) (stands refl) in
+    let is : IsAssign whole w d o.front (head_of us) e = record { level = p.rank_le; proper = p.proper; in_if = p.in_if; fits = p.fits.before (head_of us) } in
+    record { front = o.front; split = o.split; is = is; shallow = read_shallow (AssignPart whole w d) (read_assign room w) (assign_decides room d q w) o.front us e _ (ap (λ x. bare (read_assign room w x)) (sym o.split) ∙ h) (record { next = head_of us; tree = e; is = is; deep_is = refl }) }
+
+pub assign_is_read : (room d : ℕ) → room + d ≡ depth_limit → (w : Bool) (u rest : List Lexeme) (e : Expr) (s : IsAssign whole w d u (head_of rest) e) → NoneDeep (depths (print whole (suc d) e) u (head_of rest) s.fits) → continues_assign w (ending e) (head_of rest) ≡ false → bare (read_assign room w (u ++ rest)) ≡ Read e [] rest
+assign_is_read room d q w u rest e s h g = part_is_read (read_assign room w) (print whole (suc d) e) u rest s.fits e h (λ m k. (assign_complete depth_limit room d q w (head_of rest) u e s).at m rest k g)
+
+pub record ExpressionRead (w : Bool) (d : ℕ) (ts us : List Lexeme) (e : Expr) : Type 0 where
+  pub front : List Lexeme
+  pub split : ts ≡ front ++ us
+  pub is : IsExpression whole w d front (head_of us) e
+  pub shallow : NoneDeep (depths (print whole (suc d) e) front (head_of us) is.fits)
+
+pub read_is_expression : (room d : ℕ) → room + d ≡ depth_limit → (w : Bool) (ts us : List Lexeme) (e : Expr) → bare (read_expression room w ts) ≡ Read e [] us → ExpressionRead w d ts us e
+read_is_expression room d q w ts us e h =
+    let o = of_read AtFront (Plain (IsExpr whole w (suc d) 21)) ts us e (read_expression room w ts) h ((next_of (expr_sound whole d (env_with room) (env_sound room d) w)).at ts) in
+    let p = o.is (head_of us) (stands refl) in
+    let is : IsExpression whole w d o.front (head_of us) e = record { proper = p.proper; in_if = p.in_if; fits = p.fits.before (head_of us) } in
+    record { front = o.front; split = o.split; is = is; shallow = read_shallow (ExpressionPart whole w d) (read_expression room w) (expression_decides room d q w) o.front us e _ (ap (λ x. bare (read_expression room w x)) (sym o.split) ∙ h) (record { next = head_of us; tree = e; is = is; deep_is = refl }) }
+
+pub expression_is_read : (room d : ℕ) → room + d ≡ depth_limit → (w : Bool) (u rest : List Lexeme) (e : Expr) (s : IsExpression whole w d u (head_of rest) e) → NoneDeep (depths (print whole (suc d) e) u (head_of rest) s.fits) → continues_expr w (ending e) (head_of rest) ≡ false → bare (read_expression room w (u ++ rest)) ≡ Read e [] rest
+expression_is_read room d q w u rest e s h g = part_is_read (read_expression room w) (print whole (suc d) e) u rest s.fits e h (λ m k. (expression_complete depth_limit room d q w (head_of rest) u e s).at m rest k g)
+
 -- a braced body
 
-abbrev body_is : Stmts → ℕ → BodyRead
+abbrev pub body_is : Stmts → ℕ → BodyRead
 body_is items end = record { body = tree.BracedBody items; end = end }
 
 braced_complete : (limit room d : ℕ) → room + d ≡ limit → (form : FuncForm) (start : ℕ) (simple : Bool) (end : ℕ) (x : Lexeme) (u : List Lexeme) (items : Stmts) → IsBody whole d end u x items → Completes limit (print_braced whole d end items) (λ t. Unit {0}) (read_braced room form start simple) (body_is items end)
@@ -168,3 +206,95 @@ body_unexpected room d q form start simple ts us t e = first_bad (BodyPart whole
 
 pub body_too_deep : (room d : ℕ) → room + d ≡ depth_limit → (form : FuncForm) (start : ℕ) (simple : Bool) (ts us : List Lexeme) → bare (read_braced room form start simple ts) ≡ Deep [] us → FirstFault (BodyPart whole d) ts (length ts - length us) TooDeep
 body_too_deep room d q form start simple ts us e = first_deep (BodyPart whole d) (read_braced room form start simple) (body_decides room d q form start simple) ts us e
+
+pub record BodyReads (d : ℕ) (ts us : List Lexeme) (b : BodyRead) : Type 0 where
+  pub front : List Lexeme
+  pub split : ts ≡ front ++ us
+  pub items : Stmts
+  pub body_are : b ≡ body_is items b.end
+  pub is : IsBody whole d b.end front (head_of us) items
+  pub shallow : NoneDeep (depths (print_braced whole d b.end items) front (head_of us) is.fits)
+
+pub read_is_body : (room d : ℕ) → room + d ≡ depth_limit → (form : FuncForm) (start : ℕ) (simple : Bool) (ts us : List Lexeme) (b : BodyRead) → bare (read_braced room form start simple ts) ≡ Read b [] us → BodyReads d ts us b
+read_is_body room d q form start simple ts us b h =
+    let o = of_read Inside (Plain (IsBraced whole d form)) ts us b (read_braced room form start simple ts) h ((next_of ((reading_sound d (stmts_with room) (in_place_sound room d).stmts).braced form start simple)).at ts) in
+    let p = o.is (head_of us) (stands refl) in
+    let is : IsBody whole d b.end o.front (head_of us) p.items = record { proper = p.proper; fits = p.fits.before (head_of us) } in
+    record { front = o.front; split = o.split; items = p.items; body_are = ap (λ x. record { body = x; end = b.end }) p.is; is = is; shallow = read_shallow (BodyPart whole d) (read_braced room form start simple) (body_decides room d q form start simple) o.front us b _ (ap (λ x. bare (read_braced room form start simple x)) (sym o.split) ∙ h) (record { next = head_of us; end = b.end; items = p.items; is = is; deep_is = refl }) }
+
+pub body_is_read : (room d : ℕ) → room + d ≡ depth_limit → (form : FuncForm) (start : ℕ) (simple : Bool) (end : ℕ) (u rest : List Lexeme) (items : Stmts) (s : IsBody whole d end u (head_of rest) items) → NoneDeep (depths (print_braced whole d end items) u (head_of rest) s.fits) → bare (read_braced room form start simple (u ++ rest)) ≡ Read (body_is items end) [] rest
+body_is_read room d q form start simple end u rest items s h = part_is_read (read_braced room form start simple) (print_braced whole d end items) u rest s.fits (body_is items end) h (λ m k. (braced_complete depth_limit room d q form start simple end (head_of rest) u items s).at m rest k tt)
+
+abbrev items_in : tree.Body → Stmts
+items_in (tree.BracedBody items) = items
+items_in (tree.ShortBody value) = tree.no_stmts
+
+body_read_items : (a b : Stmts) (x y : ℕ) → body_is a x ≡ body_is b y → a ≡ b
+body_read_items a b x y e = ap (λ z. items_in z.body) e
+
+pub one_body : (d x y : ℕ) (u : List Lexeme) (n m : Lexeme) (a b : Stmts) → IsBody whole d x u n a → IsBody whole d y u m b → a ≡ b
+one_body d x y u n m a b s t =
+    let q = both_stand (print_braced whole d x a) (print_braced whole d y b) u n m s.fits t.fits in
+    body_read_items a b x y (one_read d (read_braced (room_of q) form.Method 0 true) (print_braced whole d x a) (print_braced whole d y b) u (body_is a x) (body_is b y) q
+    ((braced_complete (room_of q + d) (room_of q) d refl form.Method 0 true x n u a s).at q.left [] q.left_stand tt)
+    ((braced_complete (room_of q + d) (room_of q) d refl form.Method 0 true y m u b t).at q.right [] q.right_stand tt))
+
+-- A function, up to the End token, without its name.
+
+abbrev pub read_function : ℕ → FuncForm → Parser Function
+read_function room f = read_alone in_place room f
+
+function_inner : (d : ℕ) (f : FuncForm) (u : List Lexeme) (x : Function) → IsAlone d f u x → AllInner u
+function_inner d f u x s = nested_inner (print_alone whole d x) (subst Nested (alone_print d x) (nested_function whole d x (proper_alone x s.proper))) u end_lexeme (s.fits.before end_lexeme)
+
+function_part : (d : ℕ) (f : FuncForm) (u v : List Lexeme) (x : Function) → IsAlone d f (u ++ v) x → Begins (FunctionPart whole f None d) u
+function_part d f u v x s = record {
+  end = v;
+  deep = depths (print_alone whole d x) (u ++ v) end_lexeme (s.fits.before end_lexeme);
+  is = record { next = end_lexeme; tree = x; is = record { of = s.of; proper = s.proper; fits = s.fits.before end_lexeme }; deep_is = refl };
+}
+
+function_complete : (limit room d : ℕ) → room + d ≡ limit → (f : FuncForm) (n : Lexeme) (u : List Lexeme) (x : Function) → IsFunction whole f None d u n x → Completes limit (print_alone whole d x) (λ t. is_end t.kind ≡ true) (read_function room f) x
+function_complete limit room d q f n u x s = alone_complete limit d (omega (arith, q)) (env_with room) (env_complete limit room d q) f x s.of s.proper
+
+pub function_decides : (room d : ℕ) → room + d ≡ depth_limit → (f : FuncForm) → (f ≡ form.Script → ⊥) → Decides (FunctionPart whole f None d) (read_function room f)
+function_decides room d q f n = record {
+  local = alone_local (env_with room) (in_place_local room).room.env f;
+  bad_begins = bad_part (FunctionPart whole f None d) (read_function room f) Inside (λ w x k. IsAlone d f w x) (alone_sound d (env_with room) (env_sound room d) f n) (function_inner d f) (function_part d f);
+  deep_begins = deep_part (FunctionPart whole f None d) (read_function room f) Inside (λ w x k. IsAlone d f w x) (alone_sound d (env_with room) (env_sound room d) f n) (function_inner d f) (function_part d f);
+  reads = λ u deep p. cuts_end (FunctionPart whole f None d) (read_function room f) (print_alone whole d p.tree) u p.next p.is.fits deep p.tree p.deep_is (λ m s. (function_complete depth_limit room d q f p.next u p.tree p.is).at m [] s refl);
+}
+
+pub function_unexpected : (room d : ℕ) → room + d ≡ depth_limit → (f : FuncForm) → (f ≡ form.Script → ⊥) → (ts us : List Lexeme) → Whole ts → bare (read_function room f ts) ≡ Bad [] us → FirstFault (FunctionPart whole f None d) ts (length ts - length us) Unexpected
+function_unexpected room d q f n ts us t e = first_bad (FunctionPart whole f None d) (read_function room f) (function_decides room d q f n) ts us t e
+
+pub function_too_deep : (room d : ℕ) → room + d ≡ depth_limit → (f : FuncForm) → (f ≡ form.Script → ⊥) → (ts us : List Lexeme) → bare (read_function room f ts) ≡ Deep [] us → FirstFault (FunctionPart whole f None d) ts (length ts - length us) TooDeep
+function_too_deep room d q f n ts us e = first_deep (FunctionPart whole f None d) (read_function room f) (function_decides room d q f n) ts us e
+
+pub record FunctionReads (f : FuncForm) (d : ℕ) (ts us : List Lexeme) (x : Function) : Type 0 where
+  pub front : List Lexeme
+  pub split : ts ≡ front ++ us
+  pub ends : is_end (head_of us).kind ≡ true
+  pub is : IsFunction whole f None d front (head_of us) x
+  pub shallow : NoneDeep (depths (print_alone whole d x) front (head_of us) is.fits)
+
+function_ends : (v : Env) (f : FuncForm) (ts us : List Lexeme) (x : Function) → bare (parser.alone_of v f ts) ≡ Read x [] us → is_end (head_of us).kind ≡ true
+unfolding parser.alone_of
+function_ends v f ts us x e = ends_there (λ y. y) (when (parser.is_arrow_form f) (parser.arrow_alone v) (function_of v f None) ts) x us e
+
+pub read_is_function : (room d : ℕ) → room + d ≡ depth_limit → (f : FuncForm) → (f ≡ form.Script → ⊥) → (ts us : List Lexeme) (x : Function) → bare (read_function room f ts) ≡ Read x [] us → FunctionReads f d ts us x
+read_is_function room d q f n ts us x h =
+    let o = of_read Inside (λ w y k. IsAlone d f w y) ts us x (read_function room f ts) h ((alone_sound d (env_with room) (env_sound room d) f n).at ts) in
+    let p = o.is (head_of us) (stands refl) in
+    let is : IsFunction whole f None d o.front (head_of us) x = record { of = p.of; proper = p.proper; fits = p.fits.before (head_of us) } in
+    record { front = o.front; split = o.split; ends = function_ends (env_with room) f ts us x h; is = is; shallow = read_shallow (FunctionPart whole f None d) (read_function room f) (function_decides room d q f n) o.front us x _ (ap (λ y. bare (read_function room f y)) (sym o.split) ∙ h) (record { next = head_of us; tree = x; is = is; deep_is = refl }) }
+
+pub function_is_read : (room d : ℕ) → room + d ≡ depth_limit → (f : FuncForm) (u rest : List Lexeme) (x : Function) (s : IsFunction whole f None d u (head_of rest) x) → NoneDeep (depths (print_alone whole d x) u (head_of rest) s.fits) → is_end (head_of rest).kind ≡ true → bare (read_function room f (u ++ rest)) ≡ Read x [] rest
+function_is_read room d q f u rest x s h g = part_is_read (read_function room f) (print_alone whole d x) u rest s.fits x h (λ m k. (function_complete depth_limit room d q f (head_of rest) u x s).at m rest k g)
+
+pub one_function : (f : FuncForm) (d : ℕ) (u : List Lexeme) (n m : Lexeme) (a b : Function) → IsFunction whole f None d u n a → IsFunction whole f None d u m b → a ≡ b
+one_function f d u n m a b s t =
+    let q = both_stand (print_alone whole d a) (print_alone whole d b) u n m s.fits t.fits in
+    one_read d (read_function (room_of q) f) (print_alone whole d a) (print_alone whole d b) u a b q
+    ((function_complete (room_of q + d) (room_of q) d refl f n u a s).at q.left [] q.left_stand refl)
+    ((function_complete (room_of q + d) (room_of q) d refl f m u b t).at q.right [] q.right_stand refl)

@@ -271,6 +271,28 @@ module _ {A : Type 0} (P : Part) (f : Parser A) (d : Decides P f) where
       let b = d.deep_begins ts us e in
       subst (λ k. FirstFault P ts k TooDeep) (front_length ts b.front us b.split) (deep_at ts us e b)
 
+-- Of a part that is read, no lexeme is deep.
+module _ {A : Type 0} (P : Part) (f : Parser A) (d : Decides P f) where
+  pub read_shallow : (front us : List Lexeme) (a : A) (deep : List ℕ) → bare (f (front ++ us)) ≡ Read a [] us → P front deep → (j : ℕ) → get_or deep j 0 ≤ depth_limit
+  read_shallow front us a deep e p j = by (bool_cases (nat_lt depth_limit (get_or deep j 0)))
+    where
+      found : depth_limit < get_or deep j 0 → ⊥
+      found h =
+          let c = d.reads front deep p in
+          let q = cut_early depth_limit c.marked (Read c.of [] c.left) j (subst (λ x. depth_limit < get_or x j 0) (sym c.depths_are) h) in
+          let before : List Lexeme = lexemes q.before in
+          let behind : List Lexeme = lexemes q.behind in
+          let split : front ≡ before ++ q.at.lexeme ∷ behind = sym c.lexemes_are ∙ ap lexemes q.split ∙ lexemes_append q.before (q.at ∷ q.behind) in
+          let here = deep_again f d.local before q.at.lexeme behind (behind ++ us) (ap (λ y. bare (f y)) (sym split) ∙ c.cuts ∙ q.cuts) in
+          not_both a us (q.at.lexeme ∷ (behind ++ us)) (sym e ∙ ap (λ y. bare (f (y ++ us))) split ∙ ap (λ y. bare (f y)) (append_assoc before (q.at.lexeme ∷ behind) us) ∙ here)
+        where
+          not_both : (a : A) (us vs : List Lexeme) → ◌≡◌ {A = Reply A} (Read a [] us) (Deep [] vs) → ⊥
+          not_both a us vs e = cc
+
+      by : (nat_lt depth_limit (get_or deep j 0) ≡ true) ⊎ (nat_lt depth_limit (get_or deep j 0) ≡ false) → get_or deep j 0 ≤ depth_limit
+      by (inl h) = absurd (found (ltb-true depth_limit (get_or deep j 0) h))
+      by (inr h) = ltb-false depth_limit (get_or deep j 0) h
+
 -- A text has one first fault at most.
 
 deep_viable : (P : Part) (ts : List Lexeme) (k : ℕ) → IsDeep P ts k → Viable P ts k

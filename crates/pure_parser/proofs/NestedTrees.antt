@@ -158,7 +158,7 @@ mutual
   nested_func : (m : Bodies) (d at : ℕ) (f : Function) → ProperFunction m f → Nested (Print.print_func m d at f)
   nested_func m d at (function form start end name ps comma bare body) p = nested_append (func_word_nested form at name d) (nested_append (parenthesized_nested bare start d _ comma (nested_params m (Print.param_depth form bare d) d ps p.3)) (nested_append (arrow_nested form d) (nested_body m d end form body p.4)))
 
-  nested_function : (m : Bodies) (d : ℕ) (f : Function) → ProperFunction m f → Nested (Print.print_function m d f)
+  pub nested_function : (m : Bodies) (d : ℕ) (f : Function) → ProperFunction m f → Nested (Print.print_function m d f)
   nested_function m d (function form start end name ps comma bare body) p = nested_append (parenthesized_nested bare start d _ comma (nested_params m (Print.param_depth form bare d) d ps p.3)) (nested_append (arrow_nested form d) (nested_body m d end form body p.4))
 
   nested_declared : (m : Bodies) (d : ℕ) (f : Function) → ProperFunction m f → Nested (Print.print_declared m d f)

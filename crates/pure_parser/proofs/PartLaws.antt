@@ -3,12 +3,14 @@
 use Rattle.std.proofs.Common.{◌≡◌, ℕ, zero, suc, ◌+◌, ◌≤◌, ◌<◌, List, [], ◌∷◌, ◌++◌, length, get_or, refl, sym, ap, ◌∙◌, subst, arith, append_assoc, append-nil, cond, nat_lt, Bool, true, false}
 use Rattle.std.proofs.lemmas.Bool.{le-ltb, ltb-false}
 use Rattle.script_grammar.specs.Lexeme.{Lexeme}
+use Rattle.script_grammar.specs.Kinds.{is_end}
 use Rattle.script_grammar.specs.Pieces.{Piece, At, Gap, Pass, Fits, depths, may_omit}
 use Rattle.script_grammar.specs.Fault.{depth_limit, Part, Begins}
-use Rattle.pure_parser.specs.Parser.{Reply, Read, Bad, Deep, Parser, end_lexeme}
+use Rattle.pure_parser.specs.Parser.{Reply, Read, Bad, Deep, Parser, head_of, after, ret, bad, when, end_lexeme}
+use Rattle.pure_parser.specs.Stmts.{end_of}
 use Rattle.pure_parser.proofs.Friendly.{Spot, Friendly, first_of, friendly_omits, end_friendly}
 use Rattle.pure_parser.proofs.Stands.{Marked, lexemes, marks, Stands, Standing, fits_standing, stands_fit}
-use Rattle.pure_parser.proofs.Complete.{Parses, bare, cut}
+use Rattle.pure_parser.proofs.Complete.{Parses, bare, bare_noted, cut}
 use Rattle.pure_parser.proofs.SoundNext.{SoundNext, Outcome, Ended, Sunk, Took}
 use Rattle.pure_parser.proofs.Bracketed.{AllInner}
 use Rattle.pure_parser.proofs.Nested.{Nested}
@@ -108,6 +110,12 @@ pub cut_none : {A : Type 0} (m : List Marked) (rest : List Lexeme) (r : Reply A)
 cut_none [] rest r h = refl
 cut_none (x ∷ m) rest r h = ap (λ b. cond b (Deep [] (x.lexeme ∷ (lexemes m ++ rest))) (cut depth_limit m rest r)) (le-ltb depth_limit x.depth (h 0)) ∙ cut_none m rest r (λ j. h (suc j))
 
+-- a part is read where it stands and no lexeme of it is deep
+pub part_is_read : {A : Type 0} (f : Parser A) (ps : List Piece) (u rest : List Lexeme) (h : Fits ps u (head_of rest)) (a : A) → NoneDeep (depths ps u (head_of rest) h) → ((m : List Marked) → Stands ps m (head_of rest) → Parses depth_limit f m rest a) → bare (f (u ++ rest)) ≡ Read a [] rest
+part_is_read f ps u rest h a k c =
+    let s = fits_standing ps u (head_of rest) h in
+    ap (λ x. bare (f (x ++ rest))) (sym s.lexemes_are) ∙ (c s.marked s.stands).by ∙ cut_none s.marked rest (Read a [] rest) (subst NoneDeep (sym s.depths_are) k)
+
 -- With room enough nothing is too deep, so a parser reads one value at most.
 
 abbrev pub total : List ℕ → ℕ
@@ -153,3 +161,18 @@ room_of s = total (marks s.left) + total (marks s.right)
 -- a parser that is complete with this room reads one value
 pub one_read : {A : Type 0} (extra : ℕ) (f : Parser A) (ps qs : List Piece) (w : List Lexeme) (a b : A) (s : BothStand ps qs w) → Parses (room_of s + extra) f s.left [] a → Parses (room_of s + extra) f s.right [] b → a ≡ b
 one_read extra f ps qs w a b s x y = one_value (room_of s + extra) f s.left s.right a b (omega arith) (omega arith) (s.left_are ∙ sym s.right_are) x y
+
+-- A parser that goes up to the End token stops before one.
+
+read_left : {A : Type 0} (a b : A) (us vs : List Lexeme) → ◌≡◌ {A = Reply A} (Read a [] us) (Read b [] vs) → us ≡ vs
+read_left a b us vs e = cc
+
+end_by : {B : Type 0} (a : B) (us vs : List Lexeme) (x : B) (b : Bool) → is_end (head_of vs).kind ≡ b → bare (when b (ret x) bad vs) ≡ Read a [] us → is_end (head_of us).kind ≡ true
+end_by a us vs x true k h = ap (λ y. is_end (head_of y).kind) (sym (read_left x a vs us h)) ∙ k
+end_by a us vs x false k h = absurd (cc)
+
+pub ends_there : {A B : Type 0} (g : A → B) (r : Reply A) (a : B) (us : List Lexeme) → bare (after r (λ x. end_of (g x))) ≡ Read a [] us → is_end (head_of us).kind ≡ true
+unfolding end_of
+ends_there g (Read x rs vs) a us e = end_by a us vs (g x) (is_end (head_of vs).kind) refl (sym (bare_noted rs (end_of (g x) vs)) ∙ e)
+ends_there g (Bad rs vs) a us e = absurd (cc)
+ends_there g (Deep rs vs) a us e = absurd (cc)

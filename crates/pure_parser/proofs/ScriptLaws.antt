@@ -19,7 +19,7 @@ use Rattle.pure_parser.specs.Stmts.{StmtCalls, read_script}
 use Rattle.pure_parser.proofs.Friendly.{AtFront, end_friendly}
 use Rattle.pure_parser.proofs.Tests.{false_true, end_known}
 use Rattle.pure_parser.proofs.Stands.{Marked, lexemes, marks, lexemes_append, Stands, Standing, fits_standing}
-use Rattle.pure_parser.proofs.Complete.{Parses, bare, bare_noted, cut, cut_append}
+use Rattle.pure_parser.proofs.Complete.{bare, cut, cut_append}
 use Rattle.pure_parser.proofs.SoundNext.{stands}
 use Rattle.pure_parser.proofs.SoundEverything.{read_script_sound}
 use Rattle.pure_parser.proofs.LocalEverything.{read_script_local}
@@ -27,7 +27,7 @@ use Rattle.pure_parser.proofs.CompleteEverything.{read_script_complete}
 use Rattle.pure_parser.proofs.Bracketed.{IsInner, AllInner}
 use Rattle.pure_parser.proofs.NestedTrees.{nested_stmts}
 use Rattle.pure_parser.proofs.FirstFaults.{Whole, Decides, Cuts, first_bad, first_deep, not_inner, deep_before, fault_place, fault_kind}
-use Rattle.pure_parser.proofs.PartLaws.{of_read, bad_part, deep_part, stands_friendly, nested_inner, NoneDeep, cut_read, cut_none, both_stand, one_read, room_of}
+use Rattle.pure_parser.proofs.PartLaws.{of_read, bad_part, deep_part, stands_friendly, nested_inner, NoneDeep, cut_read, cut_none, both_stand, one_read, room_of, ends_there}
 
 -- the parser, with all room for depth
 abbrev pub Reads : List Lexeme → Reply Stmts
@@ -99,22 +99,9 @@ script_decides = record {
 
 -- What is read is a script.
 
-read_left : {A : Type 0} (a b : A) (us vs : List Lexeme) → ◌≡◌ {A = Reply A} (Read a [] us) (Read b [] vs) → us ≡ vs
-read_left a b us vs e = cc
-
-end_by : (a : Stmts) (us vs : List Lexeme) (x : Stmts) (b : Bool) → is_end (head_of vs).kind ≡ b → bare (when b (ret x) bad vs) ≡ Read a [] us → is_end (head_of us).kind ≡ true
-end_by a us vs x true k h = ap (λ y. is_end (head_of y).kind) (sym (read_left x a vs us h)) ∙ k
-end_by a us vs x false k h = absurd (cc)
-
-ends_there : (r : Reply (List Stmt)) (a : Stmts) (us : List Lexeme) → bare (after r (λ ss. parser.end_of (stmts_of ss))) ≡ Read a [] us → is_end (head_of us).kind ≡ true
-unfolding parser.end_of
-ends_there (Read ss rs vs) a us e = end_by a us vs (stmts_of ss) (is_end (head_of vs).kind) refl (sym (bare_noted rs (parser.end_of (stmts_of ss) vs)) ∙ e)
-ends_there (Bad rs vs) a us e = absurd (cc)
-ends_there (Deep rs vs) a us e = absurd (cc)
-
 script_ends : (stmt : StmtCalls) (ts us : List Lexeme) (a : Stmts) → bare (parser.script_of stmt ts) ≡ Read a [] us → is_end (head_of us).kind ≡ true
 unfolding parser.script_of
-script_ends stmt ts us a e = ends_there (parser.stmts_from stmt false ts) a us e
+script_ends stmt ts us a e = ends_there stmts_of (parser.stmts_from stmt false ts) a us e
 
 record Last (front inner : List Lexeme) (x last : Lexeme) (r : List Lexeme) : Type 0 where
   same_front : front ≡ inner

@@ -22,6 +22,23 @@ records (Read a rs us) = rs
 records (Bad rs us) = rs
 records (Deep rs us) = rs
 
+-- relations of what loops read
+
+abbrev pub TurnK : {A B X Y : Type 0} → (A → B → Type 0) → (X → Y → Type 0) → Turn A X → Turn B Y → Type 0
+TurnK K J (Again a) (Again b) = K a b
+TurnK K J (Again a) (Stop y) = ⊥
+TurnK K J (Stop x) (Again b) = ⊥
+TurnK K J (Stop x) (Stop y) = J x y
+
+abbrev pub ListK : {A B : Type 0} → (A → B → Type 0) → List A → List B → Type 0
+ListK K [] [] = Unit {0}
+ListK K [] (b ∷ bs) = ⊥
+ListK K (a ∷ as_) [] = ⊥
+ListK K (a ∷ as_) (b ∷ bs) = K a b × ListK K as_ bs
+
+abbrev pub ManyK : {A B X Y : Type 0} → (A → B → Type 0) → (X → Y → Type 0) → Many A X → Many B Y → Type 0
+ManyK K J m n = ListK K m.items n.items × J m.last n.last
+
 -- over how a recorded body is read in place
 module _ {C : Type 0} (judge : Recorded → Reply C) where
   abbrev pub judged : List Recorded → Verdict
@@ -157,21 +174,6 @@ module _ {C : Type 0} (judge : Recorded → Reply C) where
   agrees_made f g m h = agrees_bind m (λ a b k. agrees_ret (h a b k))
 
   -- loops
-
-  abbrev pub TurnK : {A B X Y : Type 0} → (A → B → Type 0) → (X → Y → Type 0) → Turn A X → Turn B Y → Type 0
-  TurnK K J (Again a) (Again b) = K a b
-  TurnK K J (Again a) (Stop y) = ⊥
-  TurnK K J (Stop x) (Again b) = ⊥
-  TurnK K J (Stop x) (Stop y) = J x y
-
-  abbrev pub ListK : {A B : Type 0} → (A → B → Type 0) → List A → List B → Type 0
-  ListK K [] [] = Unit {0}
-  ListK K [] (b ∷ bs) = ⊥
-  ListK K (a ∷ as_) [] = ⊥
-  ListK K (a ∷ as_) (b ∷ bs) = K a b × ListK K as_ bs
-
-  abbrev pub ManyK : {A B X Y : Type 0} → (A → B → Type 0) → (X → Y → Type 0) → Many A X → Many B Y → Type 0
-  ManyK K J m n = ListK K m.items n.items × J m.last n.last
 
   agrees_turned : {A B X Y : Type 0} (K : A → B → Type 0) (J : X → Y → Type 0) (f : Parser (Many A X)) (g : Parser (Many B Y)) → Agrees (ManyK K J) f g → (t : Turn A X) (u : Turn B Y) → TurnK K J t u → Agrees (ManyK K J) (turned f t) (turned g u)
   agrees_turned K J f g h (Again a) (Again b) k = agrees_bind h (λ m n q. agrees_ret ((k, q.0), q.1))

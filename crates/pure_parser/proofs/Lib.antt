@@ -1,6 +1,8 @@
 mod CornerRows
 mod DepthRows
 pub mod Agrees
+pub mod AgreesExprs
+pub mod Alike
 pub mod AloneLaws
 pub mod ArrowFronts
 pub mod Begins

@@ -1,6 +1,7 @@
 mod CornerRows
 mod DepthRows
 pub mod Agrees
+pub mod AgreesCalls
 pub mod AgreesExprs
 pub mod Alike
 pub mod AloneLaws

@@ -3,6 +3,7 @@ mod DepthRows
 pub mod Agrees
 pub mod AgreesCalls
 pub mod AgreesExprs
+pub mod AgreesStmts
 pub mod Alike
 pub mod AloneLaws
 pub mod ArrowFronts

@@ -3,6 +3,7 @@ mod DepthRows
 pub mod Agrees
 pub mod AgreesCalls
 pub mod AgreesExprs
+pub mod AgreesScripts
 pub mod AgreesStmts
 pub mod Alike
 pub mod AloneLaws
@@ -53,6 +54,7 @@ pub mod Lone
 pub mod Nested
 pub mod NestedTrees
 pub mod PartLaws
+pub mod Passing
 pub mod Partnered
 pub mod Refuse
 pub mod Rows

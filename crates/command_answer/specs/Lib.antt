@@ -2,6 +2,5 @@ pub mod Answer
 pub mod Counted
 pub mod Generated
 pub mod Images
-pub mod Lexemes
 pub mod Refusals
 pub mod Sources

@@ -11,7 +11,7 @@ use Rattle.parse_track.specs.Notes.{early_error}
 use Rattle.command_words.specs.Asked.{Wanted}
 use Rattle.command_words.specs.Asked as asked
 use Rattle.command_answer.specs.Counted.{HasFunctions}
-use Rattle.command_answer.specs.Lexemes.{lexemes}
+use Rattle.script_scanner.specs.Lexemes.{lexemes}
 use Rattle.command_answer.specs.Refusals.{Refusal}
 use Rattle.command_answer.specs.Refusals as refusal
 

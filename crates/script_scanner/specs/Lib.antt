@@ -4,6 +4,7 @@ pub mod Blanks
 pub mod Braces
 pub mod Escapes
 pub mod Fits
+pub mod Lexemes
 pub mod Marks
 pub mod Names
 pub mod Numbers

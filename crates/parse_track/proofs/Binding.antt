@@ -1,7 +1,7 @@
 -- Names are bound one by one, in an environment that is known name by name.
-use Rattle.std.proofs.Common.{◌≡◌, ℕ, ◌+◌, ◌<◌, Bool, true, false, cond, nat_eq, nat_lt, Option, None, Some, List, [], ◌∷◌, ◌++◌, length, drop, get_or, refl, sym, ap, subst, ◌∙◌, arith, add-one, drop-cons}
+use Rattle.std.proofs.Common.{◌≡◌, ℕ, ◌+◌, ◌<◌, Bool, cond, nat_eq, Option, Some, List, [], ◌∷◌, ◌++◌, length, drop, get_or, refl, sym, ap, ◌∙◌, arith, add-one, drop-cons}
 use Rattle.parse_track.specs.declared.closed.Top.{Top}
-use Rattle.parse_track.specs.Told.{Name, Region, Leaf, Declared, Used, Jumped, Told, nothing, leaf, inner, KnownNames}
+use Rattle.parse_track.specs.Told.{Declared, Used, Jumped, Told, nothing, leaf, inner, KnownNames}
 use Rattle.parse_track.specs.RegionNames.{is_lambda}
 use Rattle.parse_track.specs.ClosedNames.{names, begins}
 use Rattle.parse_track.specs.Walk.{Tops, put, bind_all, hit, deeper, size, walk}

@@ -1,9 +1,9 @@
 -- A visit of items one by one finds the first clash.
-use Rattle.std.proofs.Common.{◌≡◌, ℕ, ◌+◌, ◌-◌, ◌<◌, Bool, true, false, cond, Option, None, Some, List, [], ◌∷◌, ◌++◌, length, map, drop, get_or, slice_get, refl, sym, ap, subst, ◌∙◌, arith, nat_eq, min, add-one, drop-cons}
+use Rattle.std.proofs.Common.{◌≡◌, ℕ, ◌+◌, ◌-◌, ◌<◌, Bool, true, false, cond, Option, None, Some, List, [], ◌∷◌, ◌++◌, length, map, drop, get_or, slice_get, refl, sym, ap, ◌∙◌, nat_eq, add-one, drop-cons}
 use Rattle.script_grammar.specs.declared.tree.Ident.{Ident}
 use Rattle.parse_track.specs.declared.track.Item as row
-use Rattle.parse_track.specs.Told.{Name, Region, Leaf, Told, nothing, leaf, inner}
-use Rattle.parse_track.specs.RegionNames.{is_lexical, is_var, is_head, stops_vars, declared_by, directly, vars}
+use Rattle.parse_track.specs.Told.{Name, Told, nothing, leaf, inner}
+use Rattle.parse_track.specs.RegionNames.{is_lexical, is_var, stops_vars, declared_by, directly}
 use Rattle.parse_track.specs.EarlyErrors.{has, smaller}
 use Rattle.parse_track.specs.ClosedNames.{names_of}
 use Rattle.parse_track.specs.Log as log

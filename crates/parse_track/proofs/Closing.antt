@@ -1,5 +1,5 @@
 -- What a walk over a whole script marks are the names that inner functions close over.
-use Rattle.std.proofs.Common.{◌≡◌, ℕ, ◌+◌, Bool, false, nat_eq, Option, None, List, [], ◌∷◌, ◌++◌, length, refl, sym, ap, ◌∙◌}
+use Rattle.std.proofs.Common.{◌≡◌, ℕ, Bool, false, nat_eq, None, List, [], ◌++◌, length, ap, ◌∙◌}
 use Rattle.parse_track.specs.Told.{Told, KnownNames}
 use Rattle.parse_track.specs.ClosedNames.{Bound, bindings, flags, kept, closed}
 use Rattle.parse_track.specs.Walk.{no_tops, size, walk, marks}

@@ -1,9 +1,9 @@
 -- A region is entered: a row is pushed, and its number told to the present region.
-use Rattle.std.proofs.Common.{◌≡◌, ℕ, ◌+◌, ◌-◌, ◌^◌, ◌<◌, ◌≤◌, List, [], ◌∷◌, ◌++◌, length, map, refl, sym, ap, subst, ◌∙◌, arith, Option, Some, None, IfSome, ◌⊎◌, inl, inr}
+use Rattle.std.proofs.Common.{◌≡◌, ℕ, ◌-◌, ◌^◌, ◌<◌, List, [], ◌∷◌, ◌++◌, length, map, sym, ap, subst, ◌∙◌, arith, Option, Some, ◌⊎◌, inl, inr}
 use Rattle.std.proofs.lemmas.List.{map-append, length-map}
 use Rattle.parse_track.specs.declared.region.Region.{Region}
 use Rattle.parse_track.specs.declared.track.Row.{Row}
-use Rattle.parse_track.specs.Log.{Item, Inner, Part, tell}
+use Rattle.parse_track.specs.Log.{Inner, Part, tell}
 use Rattle.parse_track.specs.Rows.{row_of, IsInOrder}
 use Rattle.parse_track.proofs.Order.{inner_in_order, entered_in_order, tell_append}
 

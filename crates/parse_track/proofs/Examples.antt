@@ -1,10 +1,10 @@
 -- Short scripts, what they tell, and what follows: computed from the definitions.
-use Rattle.std.proofs.Common.{◌≡◌, ℕ, Option, Some, None, List, [], ◌∷◌, refl, nat_eq}
+use Rattle.std.proofs.Common.{◌≡◌, ℕ, Option, Some, None, [], ◌∷◌, refl, nat_eq}
 use Rattle.parse_track.specs.declared.region.Declare.{Declare}
 use Rattle.parse_track.specs.declared.region.Declare.TheVariants as how
 use Rattle.parse_track.specs.declared.region.Jump.TheVariants as word
 use Rattle.parse_track.specs.declared.region.Early.{Early}
-use Rattle.parse_track.specs.Told.{Name, Region, Script, Function, Arrow, Lambda, Block, Switch, ForHead, Catch, Loop, Label, VarBody, Leaf, Declared, Used, Jumped, Told, nothing, leaf, inner, KnownNames}
+use Rattle.parse_track.specs.Told.{Name, Script, Function, Arrow, Lambda, Block, ForHead, Catch, Loop, Label, Declared, Used, Jumped, Told, nothing, leaf, inner, KnownNames}
 use Rattle.parse_track.specs.EarlyErrors.{first_error}
 use Rattle.parse_track.specs.ClosedNames.{Bound, closed}
 
@@ -50,10 +50,14 @@ head : error (inner Script 0 (inner Loop 0 (inner ForHead 0 (declared how.Lexica
 unfolding error declared name known at_rule
 head = refl
 
--- a: { continue a }, and a: for(;;) continue a
-continue_block : error (inner Script 0 (inner (Label (name 1 0)) 0 (inner Block 3 (leaf (Jumped word.Continue 5 (Some (name 1 14))) nothing) nothing) nothing) nothing) ≡ at_rule 14 11
+-- a: { continue a }, a: { for(;;) continue a }, and a: for(;;) continue a
+continue_block : error (inner Script 0 (inner (Label (name 1 0)) 0 (inner Block 3 (leaf (Jumped word.Continue 5 (Some (name 1 14))) nothing) nothing) nothing) nothing) ≡ at_rule 5 11
 unfolding error name known at_rule
 continue_block = refl
+
+continue_inside : error (inner Script 0 (inner (Label (name 1 0)) 0 (inner Block 3 (inner Loop 5 (inner ForHead 5 (leaf (Jumped word.Continue 13 (Some (name 1 22))) nothing) nothing) nothing) nothing) nothing) nothing) ≡ at_rule 22 11
+unfolding error name known at_rule
+continue_inside = refl
 
 continue_loop : error (inner Script 0 (inner (Label (name 1 0)) 0 (inner Loop 3 (inner ForHead 3 (leaf (Jumped word.Continue 11 (Some (name 1 20))) nothing) nothing) nothing) nothing) nothing) ≡ None
 unfolding error name known

@@ -1,7 +1,7 @@
 -- The walk finds the first clash of a var name with a lexical name.
-use Rattle.std.proofs.Common.{◌≡◌, ℕ, ◌+◌, ◌≤◌, max, min, Bool, true, false, cond, not, ◌||◌, Option, None, Some, List, [], ◌∷◌, ◌++◌, refl, sym, ap, ◌∙◌, arith, nat_eq}
+use Rattle.std.proofs.Common.{◌≡◌, ℕ, max, Bool, true, false, cond, not, ◌||◌, Option, None, Some, List, [], ◌∷◌, ◌++◌, refl, sym, ap, ◌∙◌, arith, nat_eq}
 use Rattle.std.proofs.lemmas.Bool.{eqb-true, eq-eqb}
-use Rattle.parse_track.specs.Told.{Name, Region, Script, Function, Arrow, Lambda, Block, Switch, ForHead, Catch, Loop, Label, VarBody, Leaf, Told, nothing, leaf, inner}
+use Rattle.parse_track.specs.Told.{Name, Told, nothing, leaf, inner}
 use Rattle.parse_track.specs.RegionNames.{is_lexical, is_var, is_head, stops_vars, declared_by, directly, vars}
 use Rattle.parse_track.specs.EarlyErrors.{has_name, smaller, smallest, later, later_of, also_in, at_regions, lexical_and_var, head_and_var}
 use Rattle.parse_track.specs.Clashes.{Firsts, no_firsts, put_first, open_all, clash_at, clash_all, opens, base, opened, clashes, pairs, clash_rule}

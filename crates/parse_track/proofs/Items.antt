@@ -1,6 +1,6 @@
 -- What items tell, one by one.
-use Rattle.std.proofs.Common.{◌≡◌, ℕ, ◌+◌, ◌-◌, ◌<◌, zero, suc, Bool, true, false, cond, ◌||◌, Option, None, Some, List, [], ◌∷◌, ◌++◌, length, map, get_or, drop, refl, sym, ap, subst, ◌∙◌, arith, append_assoc, append-nil, slice_get}
-use Rattle.parse_track.specs.Told.{Name, Region, Leaf, Declared, Used, Jumped, Told, nothing, leaf, inner}
+use Rattle.std.proofs.Common.{◌≡◌, ℕ, ◌-◌, zero, suc, Bool, true, false, cond, ◌||◌, None, Some, List, [], ◌∷◌, ◌++◌, map, refl, sym, ap, ◌∙◌, arith, append_assoc, append-nil, slice_get}
+use Rattle.parse_track.specs.Told.{Name, Told, nothing}
 use Rattle.parse_track.specs.RegionNames.{is_var, stops_vars, is_body, declared_by, directly, vars}
 use Rattle.std.specs.List.{filter_map, list_any, cons_option}
 use Rattle.script_grammar.specs.declared.tree.Ident.{Ident}

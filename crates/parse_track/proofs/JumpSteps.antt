@@ -1,8 +1,8 @@
 -- A visit of items one by one finds the first wrong jump.
-use Rattle.std.proofs.Common.{◌≡◌, ℕ, ◌+◌, ◌-◌, ◌<◌, Bool, true, false, cond, Option, None, Some, List, [], ◌∷◌, ◌++◌, length, map, drop, get_or, slice_get, take, refl, sym, ap, subst, ◌∙◌, arith, nat_eq, append-nil, append_assoc, length-append}
+use Rattle.std.proofs.Common.{◌≡◌, ℕ, ◌+◌, ◌-◌, Bool, false, Option, None, Some, List, [], ◌∷◌, ◌++◌, map, drop, slice_get, refl, sym, ap, ◌∙◌, nat_eq, append-nil, append_assoc}
 use Rattle.parse_track.specs.declared.track.Row.{Row}
 use Rattle.parse_track.specs.declared.track.Item as row
-use Rattle.parse_track.specs.Told.{Name, Region, Script, Function, Arrow, Lambda, Block, Switch, ForHead, Catch, Loop, Label, VarBody, Leaf, Told, nothing, leaf, inner}
+use Rattle.parse_track.specs.Told.{Region, Script, Function, Arrow, Lambda, Block, Switch, ForHead, Catch, Loop, Label, VarBody, Told, inner}
 use Rattle.parse_track.specs.EarlyErrors.{Around, nothing_around, within, is_loop, smaller, smallest, wrong_jump, wrong_label, wrong_jumps}
 use Rattle.parse_track.specs.Log as log
 use Rattle.parse_track.specs.Log.{Part, Item, kind_of, told_items, told_region}

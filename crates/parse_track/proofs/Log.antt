@@ -1,12 +1,12 @@
 -- What a step of the code does to the rows is what the log's definitions say.
-use Rattle.std.proofs.Common.{◌≡◌, ℕ, ◌+◌, ◌<◌, ◌≤◌, zero, suc, List, [], ◌∷◌, ◌++◌, length, map, get_or, refl, sym, ap, subst, ◌∙◌, arith, Option, Some, None}
+use Rattle.std.proofs.Common.{◌≡◌, ℕ, ◌<◌, zero, suc, List, [], ◌∷◌, ◌++◌, length, map, get_or, refl, sym, ap, subst, ◌∙◌, arith}
 use Rattle.std.proofs.Math.ListN.{set}
 use Rattle.std.proofs.lemmas.List.{map-set, map-append, set-get_or}
 use Rattle.std.specs.declared.vec.Vec.{Vec}
 use Rattle.std.specs.declared.alloc.Global.{Global}
 use Rattle.parse_track.specs.declared.track.Item.{Item as Told}
 use Rattle.parse_track.specs.declared.track.Row.{Row}
-use Rattle.parse_track.specs.Log.{Item, Part, add, tell}
+use Rattle.parse_track.specs.Log.{Item, Part, add}
 use Rattle.parse_track.specs.Rows.{item_of, row_of}
 
 pub set-add : (item : Item) (n : ℕ) (parts : List Part) (p : Part) → n < length parts → p ≡ get_or parts n p

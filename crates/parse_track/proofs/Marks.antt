@@ -1,13 +1,12 @@
 -- The flags of all bindings, read off the places that the walk hits.
-use Rattle.std.proofs.Common.{◌≡◌, ℕ, ◌+◌, ◌<◌, ◌≤◌, zero, suc, Bool, true, false, cond, not, ◌||◌, ◌&&◌, nat_eq, nat_lt, Option, None, Some, List, [], ◌∷◌, ◌++◌, length, map, refl, sym, ap, subst, ◌∙◌, arith, ◌⊎◌, inl, inr}
-use Rattle.std.proofs.lemmas.List.{map-append}
-use Rattle.parse_track.specs.Told.{Name, Region, Leaf, Declared, Used, Jumped, Told, nothing, leaf, inner, KnownNames}
+use Rattle.std.proofs.Common.{◌≡◌, ℕ, ◌+◌, ◌<◌, ◌≤◌, zero, suc, Bool, true, false, cond, not, ◌&&◌, nat_eq, Some, List, [], ◌∷◌, ◌++◌, length, refl, sym, ap, subst, ◌∙◌, arith, inl, inr}
+use Rattle.parse_track.specs.Told.{Region, Declared, Used, Jumped, Told, nothing, leaf, inner, KnownNames}
 use Rattle.parse_track.specs.RegionNames.{is_lambda}
 use Rattle.parse_track.specs.EarlyErrors.{has}
 use Rattle.parse_track.specs.ClosedNames.{names, begins, reaches, reached, flags}
 use Rattle.parse_track.specs.declared.closed.Top.{Top}
 use Rattle.parse_track.specs.Walk.{Tops, no_tops, put, bind_all, hit, deeper, size, walk, marks}
-use Rattle.parse_track.proofs.Walk.{hit_other, Clear, Only, Below, is_at, put_clear_at, put_clear, bind_clear, bind_keeps, bind_hides, untouched, found, has-append, or_first, or_second, tell_less, tell_more, not_less, same_self, false_is_true}
+use Rattle.parse_track.proofs.Walk.{hit_other, Clear, Only, Below, is_at, bind_keeps, bind_hides, untouched, found, has-append, or_first, or_second, tell_more, not_less, same_self, false_is_true}
 
 pub cons_same : (a b : Bool) (xs ys : List Bool) → a ≡ b → xs ≡ ys → a ∷ xs ≡ b ∷ ys
 cons_same a b xs ys e f = ap (λ (x : Bool). x ∷ xs) e ∙ ap (λ (zs : List Bool). b ∷ zs) f

@@ -1,5 +1,5 @@
 -- The regions stay in order when something is told.
-use Rattle.std.proofs.Common.{◌≡◌, ℕ, ◌+◌, ◌-◌, ◌^◌, ◌<◌, ◌≤◌, zero, suc, List, [], ◌∷◌, ◌++◌, length, slice_get, map, get_or, refl, sym, ap, subst, ◌∙◌, arith, Option, Some, None, IfSome, ◌⊎◌, inl, inr}
+use Rattle.std.proofs.Common.{◌≡◌, ℕ, ◌+◌, ◌-◌, ◌^◌, ◌<◌, ◌≤◌, zero, suc, List, [], ◌∷◌, ◌++◌, length, slice_get, refl, sym, ap, subst, ◌∙◌, arith, Option, Some, None, IfSome, ◌⊎◌, inl, inr}
 use Rattle.std.proofs.Common.{length-append}
 use Rattle.parse_track.specs.declared.region.Region.{Region}
 use Rattle.parse_track.specs.Told as told

@@ -1,10 +1,9 @@
 -- Early errors and closed names of small scripts, computed from their trees.
-use Rattle.std.proofs.Common.{◌≡◌, ℕ, Bool, true, false, codes, Option, Some, None, List, [], ◌∷◌, refl}
+use Rattle.std.proofs.Common.{◌≡◌, ℕ, true, false, codes, Option, Some, None, List, [], ◌∷◌, refl}
 use Rattle.script_grammar.specs.declared.token.FuncForm.TheVariants as form
 use Rattle.script_grammar.specs.declared.token.Decl.TheVariants as decl
-use Rattle.script_grammar.specs.Tree.{Named, Expr, This, Name, Number, Func, Paren, Chain, Unary, Binary, Stmts, no_stmts, more_stmts, Stmt, Block, Binding, Value, Try, Declared, Return, MaybeExpr, no_expr, some_expr, function, Params, no_params, more_params, BracedBody, ShortBody, Binds, no_binds, more_binds, Tails, no_tails, more_tails, Dot}
+use Rattle.script_grammar.specs.Tree.{Named, Name, Func, Paren, Unary, Stmts, no_stmts, more_stmts, Stmt, Block, Binding, Value, Try, Declared, Return, no_expr, some_expr, function, no_params, more_params, BracedBody, ShortBody, no_binds, more_binds}
 use Rattle.parse_track.specs.declared.region.Early.{Early}
-use Rattle.parse_track.specs.ClosedNames.{Bound}
 use Rattle.parse_track.specs.Notes.{early_error, closed_names}
 
 at_rule : ℕ → ℕ → Option Early

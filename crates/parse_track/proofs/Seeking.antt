@@ -1,9 +1,8 @@
 -- The smallest offset of a rule over all regions, found item by item.
-use Rattle.std.proofs.Common.{◌≡◌, ℕ, ◌+◌, ◌-◌, Option, None, Some, List, [], ◌∷◌, ◌++◌, length, map, drop, slice_get, refl, sym, ap, subst, ◌∙◌, append-nil, append_assoc}
-use Rattle.std.proofs.lemmas.List.{length-map}
+use Rattle.std.proofs.Common.{◌≡◌, ℕ, ◌+◌, ◌-◌, Option, None, Some, List, [], ◌∷◌, ◌++◌, map, drop, slice_get, refl, sym, ap, ◌∙◌, append-nil, append_assoc}
 use Rattle.parse_track.specs.declared.track.Row.{Row}
 use Rattle.parse_track.specs.declared.track.Item as row
-use Rattle.parse_track.specs.Told.{Region, Told, nothing, leaf, inner}
+use Rattle.parse_track.specs.Told.{Region, Told}
 use Rattle.parse_track.specs.EarlyErrors.{smaller, smallest, at_regions}
 use Rattle.parse_track.specs.Log as log
 use Rattle.parse_track.specs.Log.{Part, Item, kind_of, told_items, told_region}

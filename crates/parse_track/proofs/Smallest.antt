@@ -1,5 +1,5 @@
 -- The smallest offset of lists that are put together.
-use Rattle.std.proofs.Common.{◌≡◌, ℕ, ◌+◌, ◌<◌, ◌≤◌, min, Bool, true, false, cond, Option, None, Some, List, [], ◌∷◌, ◌++◌, length, take, drop, get_or, map, refl, sym, ap, ◌∙◌, arith, nat_eq, add-one, drop-cons}
+use Rattle.std.proofs.Common.{◌≡◌, ℕ, Bool, true, false, cond, Option, None, Some, List, [], ◌∷◌, ◌++◌, refl, sym, ap, ◌∙◌, arith}
 use Rattle.parse_track.specs.EarlyErrors.{smaller, smallest}
 
 pub smaller_assoc : (x y z : Option ℕ) → smaller x (smaller y z) ≡ smaller (smaller x y) z

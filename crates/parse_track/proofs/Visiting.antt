@@ -1,10 +1,10 @@
 -- A visit of items one by one, and of a region with its names, is the walk over what they tell.
-use Rattle.std.proofs.Common.{◌≡◌, ℕ, suc, ◌+◌, ◌-◌, ◌<◌, Bool, true, false, not, cond, ◌||◌, nat_eq, Option, None, Some, List, [], ◌∷◌, ◌++◌, length, map, drop, get_or, slice_get, refl, sym, ap, subst, ◌∙◌, arith, append-nil, append_assoc, length-append, add-zero, add_assoc}
+use Rattle.std.proofs.Common.{◌≡◌, ℕ, suc, ◌+◌, ◌-◌, Bool, true, false, cond, nat_eq, Option, None, Some, List, [], ◌∷◌, ◌++◌, length, map, drop, slice_get, refl, sym, ap, subst, ◌∙◌, arith, append-nil, append_assoc, length-append, add-zero, add_assoc}
 use Rattle.std.proofs.lemmas.List.{length-map}
 use Rattle.std.proofs.lemmas.Bool.{eqb-true, eq-eqb}
 use Rattle.parse_track.specs.declared.closed.Top.{Top}
 use Rattle.parse_track.specs.declared.track.Item as row
-use Rattle.parse_track.specs.Told.{Name, Region, Script, Function, Arrow, Lambda, Block, Switch, ForHead, Catch, Loop, Label, VarBody, Leaf, Declared, Used, Jumped, Told, nothing, leaf, inner, KnownNames}
+use Rattle.parse_track.specs.Told.{Region, Script, Function, Arrow, Lambda, Block, Switch, ForHead, Catch, Loop, Label, VarBody, Leaf, Declared, Used, Jumped, Told, nothing, leaf, inner, KnownNames}
 use Rattle.parse_track.specs.RegionNames.{is_lambda}
 use Rattle.parse_track.specs.EarlyErrors.{has}
 use Rattle.parse_track.specs.ClosedNames.{scopes, names, joined, begins, first_at, at_of, Bound, bound_in, bound_by, bindings, scope_count}

@@ -1,14 +1,13 @@
 -- The walk from the outside in hits the bindings that inner functions close over.
-use Rattle.std.proofs.Common.{◌≡◌, ℕ, ◌+◌, ◌<◌, ◌≤◌, ◌≢◌, zero, suc, Bool, true, false, cond, not, ◌||◌, ◌&&◌, nat_eq, nat_lt, Option, None, Some, List, [], ◌∷◌, ◌++◌, length, map, refl, sym, ap, subst, ◌∙◌, arith, ◌⊎◌, inl, inr}
+use Rattle.std.proofs.Common.{◌≡◌, ℕ, ◌+◌, ◌<◌, ◌≤◌, ◌≢◌, Bool, true, false, cond, not, ◌||◌, ◌&&◌, nat_eq, nat_lt, Option, None, Some, List, [], ◌∷◌, ◌++◌, length, refl, sym, ap, subst, ◌∙◌, arith, ◌⊎◌, inl, inr}
 use Rattle.std.proofs.lemmas.Bool.{eqb-true, eq-eqb, ltb-true, lt-ltb}
 use Rattle.std.proofs.lemmas.Bool.Decides.{eqb_tells}
-use Rattle.std.proofs.lemmas.List.{map-append}
-use Rattle.parse_track.specs.Told.{Name, Region, Leaf, Declared, Used, Jumped, Told, nothing, leaf, inner, KnownNames}
+use Rattle.parse_track.specs.Told.{Region, Declared, Used, Jumped, Told, nothing, leaf, inner, KnownNames}
 use Rattle.parse_track.specs.RegionNames.{is_lambda}
 use Rattle.parse_track.specs.EarlyErrors.{has}
-use Rattle.parse_track.specs.ClosedNames.{names, begins, reaches, reached, flags}
+use Rattle.parse_track.specs.ClosedNames.{names, begins, reaches}
 use Rattle.parse_track.specs.declared.closed.Top.{Top}
-use Rattle.parse_track.specs.Walk.{Tops, no_tops, put, bind_all, hit, deeper, size, walk}
+use Rattle.parse_track.specs.Walk.{Tops, put, bind_all, hit, deeper, size, walk}
 
 -- booleans
 or_none : (a b : Bool) → a ≡ false → b ≡ false → (a || b) ≡ false

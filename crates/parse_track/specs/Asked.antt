@@ -1,5 +1,5 @@
 -- The declarations that a search of the code asks for.
-use Rattle.std.specs.Prelude.{ℕ, Bool, true, cond, Option, Some, None}
+use Rattle.std.specs.Prelude.{Bool, true, cond, Option, Some, None}
 use Rattle.script_grammar.specs.declared.tree.Ident.{Ident}
 use Rattle.parse_track.specs.declared.region.Declare.{Declare}
 use Rattle.parse_track.specs.declared.names.Asked.{Asked}

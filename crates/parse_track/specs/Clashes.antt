@@ -1,8 +1,8 @@
 -- How var names clash with lexical names of the regions around them, from the outside in: the counterpart of the
 -- rules on lexical and var names for one walk, with the smallest offset of each lexical name. Only clauses of private
 -- functions cite it; that it gives those rules is proved.
-use Rattle.std.specs.Prelude.{ℕ, ◌≡◌, max, Bool, true, false, cond, not, nat_eq, Option, None, Some, List, [], ◌∷◌, ◌++◌}
-use Rattle.parse_track.specs.Told.{Name, Region, Leaf, Told, nothing, leaf, inner}
+use Rattle.std.specs.Prelude.{ℕ, ◌≡◌, max, Bool, true, false, cond, not, nat_eq, Option, None, Some, List, [], ◌∷◌}
+use Rattle.parse_track.specs.Told.{Name, Region, Told, nothing, leaf, inner}
 use Rattle.parse_track.specs.RegionNames.{is_lexical, is_var, is_head, stops_vars, declared_by, directly, vars}
 use Rattle.parse_track.specs.EarlyErrors.{smaller, later, also_in}
 

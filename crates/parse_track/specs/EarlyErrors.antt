@@ -1,9 +1,8 @@
 -- The early errors of ECMA-262's static semantics that speak of names, regions and jumps, each as the list of
 -- the offsets where a script has it, and the first early error.
-use Rattle.std.specs.Prelude.{ℕ, max, min, Bool, true, false, cond, not, ◌||◌, ◌&&◌, nat_eq, nat_lt, Option, None, Some, List, [], ◌∷◌, ◌++◌}
+use Rattle.std.specs.Prelude.{ℕ, max, min, Bool, true, false, cond, ◌||◌, ◌&&◌, nat_eq, nat_lt, Option, None, Some, List, [], ◌∷◌, ◌++◌}
 use Rattle.std.specs.List.{list_any}
 use Rattle.parse_track.specs.declared.region.Early.{Early}
-use Rattle.parse_track.specs.declared.region.Jump.{Jump}
 use Rattle.parse_track.specs.declared.region.Jump.TheVariants.{Break, Continue}
 use Rattle.parse_track.specs.Told.{Name, Region, Script, Function, Arrow, Lambda, Block, Switch, ForHead, Catch, Loop, Label, VarBody, Leaf, Declared, Used, Jumped, Told, nothing, leaf, inner, KnownNames}
 use Rattle.parse_track.specs.RegionNames.{is_lexical, is_param, is_catch_param, is_head, is_block, is_body, directly, vars, lexical_below}
@@ -112,15 +111,16 @@ within ForHead i around = around
 within Catch i around = around
 within VarBody i around = around
 
--- Rule 11: a jump without its target, at the keyword or at the label's name, and a label inside the same label, at the
--- inner name. ECMA-262, 14.8.1, 14.9.1, 14.13.1.
+-- Rule 11: at the keyword, a `break` without a label outside loop and switch, and a `continue` outside a loop; at the
+-- label's name, a `break` whose label is not around and a `continue` whose label is that of no loop around; and a label
+-- inside the same label, at the inner name. ECMA-262, 14.8.1, 14.9.1, 14.13.1.
 abbrev pub wrong_jump : {A : Type 0} → (A → A → Bool) → Around A → Leaf A → List ℕ
 wrong_jump same around (Declared _ _) = []
 wrong_jump same around (Used _) = []
 wrong_jump same around (Jumped Break at None) = cond around.leaves [] (at ∷ [])
 wrong_jump same around (Jumped Continue at None) = cond around.loop [] (at ∷ [])
 wrong_jump same around (Jumped Break at (Some label)) = cond (has same label.name around.labels) [] (label.at ∷ [])
-wrong_jump same around (Jumped Continue at (Some label)) = cond (has same label.name around.loops) [] (label.at ∷ [])
+wrong_jump same around (Jumped Continue at (Some label)) = cond around.loop [] (at ∷ []) ++ cond (has same label.name around.loops) [] (label.at ∷ [])
 
 abbrev pub wrong_label : {A : Type 0} → (A → A → Bool) → Around A → Region A → List ℕ
 wrong_label same around (Label name) = cond (has same name.name around.labels) (name.at ∷ []) []

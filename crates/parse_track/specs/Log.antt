@@ -1,5 +1,5 @@
 -- The log of a track: the regions by number, in the order of entering, each with what was told of it, and the present region.
-use Rattle.std.specs.Prelude.{ℕ, ◌+◌, ◌≡◌, Bool, true, false, cond, Option, None, Some, List, [], ◌∷◌, ◌++◌, length, zero, suc, slice_get}
+use Rattle.std.specs.Prelude.{ℕ, ◌+◌, Option, None, Some, List, [], ◌∷◌, ◌++◌, length, zero, suc, slice_get}
 use Rattle.script_grammar.specs.declared.tree.Ident.{Ident}
 use Rattle.parse_track.specs.declared.region.Known.{Known}
 use Rattle.parse_track.specs.declared.region.Region.{Region}

@@ -1,8 +1,7 @@
 -- The early errors of a tree that look at no region: those on targets of assignments, on `const` without an initializer, on
 -- `delete` of a name, on `__proto__` twice in an object literal, on too many parameters or arguments, and on `use strict`
 -- where a function has an initializer or a rest parameter. Each is its offset and the number of its rule.
-use Rattle.std.specs.Prelude.{ℕ, ◌+◌, ◌-◌, Bool, true, false, cond, codes, not, ◌||◌, ◌&&◌, nat_eq, bytes_eq, zero, suc, Option, None, Some, List, [], ◌∷◌, ◌++◌}
-use Rattle.script_grammar.specs.declared.token.FuncForm.{FuncForm}
+use Rattle.std.specs.Prelude.{ℕ, ◌-◌, Bool, true, false, cond, codes, not, ◌||◌, ◌&&◌, nat_eq, bytes_eq, zero, suc, Option, None, Some, List, [], ◌∷◌, ◌++◌}
 use Rattle.script_grammar.specs.declared.token.Decl.{Decl}
 use Rattle.script_grammar.specs.declared.token.Decl.TheVariants as decl
 use Rattle.script_grammar.specs.declared.token.word.TheConstants as word

@@ -1,8 +1,8 @@
 -- The names that a region declares.
-use Rattle.std.specs.Prelude.{ℕ, Bool, true, false, cond, ◌||◌, List, [], ◌∷◌, ◌++◌}
+use Rattle.std.specs.Prelude.{Bool, true, false, cond, List, [], ◌∷◌, ◌++◌}
 use Rattle.parse_track.specs.declared.region.Declare.{Declare}
 use Rattle.parse_track.specs.declared.region.Declare.TheVariants.{Lexical, Var, Param, Catch as CatchParam}
-use Rattle.parse_track.specs.Told.{Name, Region, Script, Function, Arrow, Lambda, Block, Switch, ForHead, Catch, Loop, Label, VarBody, Leaf, Declared, Used, Jumped, Told, nothing, leaf, inner}
+use Rattle.parse_track.specs.Told.{Name, Region, Script, Function, Arrow, Lambda, Block, ForHead, VarBody, Leaf, Declared, Used, Jumped, Told, nothing, leaf, inner}
 
 -- how a name may be declared
 abbrev pub is_lexical : Declare → Bool

@@ -1,6 +1,6 @@
 -- What a tree tells: its regions, in the order of the source, with the names that are declared, used and jumped to in them.
 -- Each function puts what its part tells in front of what is told behind it.
-use Rattle.std.specs.Prelude.{ℕ, Bool, true, false, cond, codes, ◌||◌, bytes_eq, Option, None, Some, List, [], ◌∷◌}
+use Rattle.std.specs.Prelude.{ℕ, Bool, true, false, cond, codes, Option, None, Some, List}
 use Rattle.script_grammar.specs.declared.token.FuncForm.{FuncForm}
 use Rattle.script_grammar.specs.declared.token.Decl.{Decl}
 use Rattle.script_grammar.specs.declared.token.Decl.TheVariants as decl

@@ -48,22 +48,25 @@ fn is_among(names: &[u32], name: u32) -> bool
     names.iter().any(|other| name == *other)
 }
 
-/// Where a jump has no target.
+/// This offset, unless a target was found.
+fn unless(found: bool, at: u32) -> Option<u32>
+    ensures { result ≡ smallest (cond found [] (at ∷ [])) }
+{
+    if found { None } else { Some(at) }
+}
+
+/// Where a jump has no target: at its word, or at its label.
 fn wrong_jump(targets: &Targets, word: Jump, at: u32, label: Option<Ident>) -> Option<u32>
     ensures { result ≡ smallest (wrong_jump nat_eq (around_of targets.now) (Jumped word at (label_of label))) }
 {
-    let found = match (word, label) {
-        (Jump::Break, None) => targets.leaves,
-        (Jump::Continue, None) => targets.in_loop,
-        (Jump::Break, Some(label)) => is_among(&targets.labels, label.atom),
-        (Jump::Continue, Some(label)) => is_among(&targets.loops, label.atom),
-    };
-    if found {
-        return None;
-    }
-    match label {
-        None => Some(at),
-        Some(label) => Some(label.at),
+    match (word, label) {
+        (Jump::Break, None) => unless(targets.leaves, at),
+        (Jump::Continue, None) => unless(targets.in_loop, at),
+        (Jump::Break, Some(label)) => unless(is_among(&targets.labels, label.atom), label.at),
+        (Jump::Continue, Some(label)) => lesser(
+            unless(targets.in_loop, at),
+            unless(is_among(&targets.loops, label.atom), label.at),
+        ),
     }
 }
 

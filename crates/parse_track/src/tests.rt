@@ -97,7 +97,7 @@ fn an_arrow_closes_over_all_of_its_function(rt: HostRuntime) -> Result<(), Fail>
 #[test]
 fn a_label_of_a_block_is_no_target(rt: HostRuntime) -> Result<(), Fail> {
     let tracked = wrong_label(rt.alloc())?;
-    assert_eq!(rt; early_of(&tracked), Some((14, 11)));
+    assert_eq!(rt; early_of(&tracked), Some((5, 11)));
     Ok(())
 }
 

@@ -1,6 +1,5 @@
-use Rattle.std.proofs.Common.{List, nat_eq, ◌≡◌, ℕ, ◌+◌, ◌-◌, ◌<◌, ◌≤◌, ◌∷◌, Bool, true, false, cond, drop, length, map, arith, add-one, drop-cons, sym, ap, ◌∙◌}
+use Rattle.std.proofs.Common.{List, nat_eq, ◌≡◌, ℕ, ◌-◌, ◌<◌, drop, length, map, arith, add-one, drop-cons, sym, ap, ◌∙◌}
 use Rattle.std.proofs.lemmas.List.{drop_all}
-use Rattle.std.proofs.lemmas.Result.{IfOk-weaker}
 use Rattle.std.specs.Ordering.{nat_cmp}
 use Rattle.std.specs.BTreeMap.{get}
 use Rattle.parse_track.specs.Log.{told_region, name_of, region_of}

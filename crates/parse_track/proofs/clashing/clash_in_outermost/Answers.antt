@@ -1,4 +1,4 @@
-use Rattle.std.proofs.Common.{◌≡◌, ℕ, ◌∷◌, [], length, map, ◌∙◌}
+use Rattle.std.proofs.Common.{◌∷◌, [], length, map, ◌∙◌}
 use Rattle.std.specs.Ordering.{nat_cmp}
 use Rattle.std.specs.BTreeMap.{get}
 use Rattle.parse_track.specs.Log.{told_items, told_region, Inner}

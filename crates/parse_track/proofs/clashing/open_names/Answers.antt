@@ -1,9 +1,7 @@
-use Rattle.std.proofs.Common.{◌≡◌, ℕ, ◌+◌, ◌<◌, Bool, true, false, cond, Option, Some, length, arith, nat_eq, get_or, ap, sym, ◌∙◌, refl}
+use Rattle.std.proofs.Common.{arith, nat_eq, get_or, refl}
 use Rattle.std.proofs.lemmas.Grind.{common_steps}
-use Rattle.std.proofs.lemmas.Bool.{eqb-true}
 use Rattle.std.specs.Ordering.{nat_cmp}
 use Rattle.std.specs.BTreeMap.{get}
-use Rattle.parse_track.specs.EarlyErrors.{smaller}
 use Rattle.parse_track.proofs.ClashSteps.{open_step, put_at}
 use Rattle.parse_track.proofs.clashing.open_names.Goals as goal
 

@@ -1,4 +1,4 @@
-use Rattle.std.proofs.Common.{◌≡◌, ℕ, ◌+◌, ◌-◌, ◌*◌, drop, map}
+use Rattle.std.proofs.Common.{◌+◌, ◌-◌, ◌*◌, drop, map}
 use Rattle.parse_track.specs.Log.{known_names, told_items, told_region}
 use Rattle.parse_track.specs.Rows.{item_of, row_of}
 use Rattle.parse_track.specs.Visited.{Stand, Visits, stand_of}

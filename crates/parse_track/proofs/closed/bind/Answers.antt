@@ -1,8 +1,7 @@
-use Rattle.std.proofs.Common.{◌≡◌, ℕ, ◌+◌, ◌<◌, length, arith, slice_index_or}
+use Rattle.std.proofs.Common.{arith}
 use Rattle.std.proofs.lemmas.Grind.{common_steps}
 use Rattle.std.specs.Ordering.{nat_cmp}
 use Rattle.std.specs.BTreeMap.{get}
-use Rattle.parse_track.specs.Walk.{put, bind_all}
 use Rattle.parse_track.proofs.Binding.{bind_step}
 use Rattle.parse_track.proofs.closed.bind.Goals as goal
 

@@ -1,4 +1,4 @@
-use Rattle.std.proofs.Common.{◌≡◌, ℕ, ◌-◌, map, ◌∙◌, sym, true}
+use Rattle.std.proofs.Common.{◌-◌, map, ◌∙◌, sym}
 use Rattle.parse_track.specs.Log.{told_region}
 use Rattle.parse_track.specs.Rows.{row_of}
 use Rattle.parse_track.proofs.Visiting.{function_at_is}

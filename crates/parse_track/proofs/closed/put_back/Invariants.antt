@@ -1,4 +1,4 @@
-use Rattle.std.proofs.Common.{◌≡◌, ℕ, ◌+◌, Bool, false, Option, drop, length, map, nat_eq, List}
+use Rattle.std.proofs.Common.{◌≡◌, ℕ, false, Option, drop, length, map, nat_eq}
 use Rattle.std.specs.Ordering.{nat_cmp}
 use Rattle.std.specs.BTreeMap.{get}
 use Rattle.parse_track.specs.EarlyErrors.{has}

@@ -1,4 +1,4 @@
-use Rattle.std.proofs.Common.{◌≡◌, ℕ, Bool, List, ap, sym, ◌∙◌, length, map, refl, Vec, Global}
+use Rattle.std.proofs.Common.{ℕ, List, ap, sym, ◌∙◌, length, map, refl}
 use Rattle.std.proofs.lemmas.List.{length-map}
 use Rattle.std.proofs.lemmas.Result.{IfOk-weaker}
 use Rattle.parse_track.specs.ClosedNames.{kept}

@@ -1,4 +1,4 @@
-use Rattle.std.proofs.Common.{◌∙◌, sym, ap, arith, slice_index_or}
+use Rattle.std.proofs.Common.{◌∙◌, sym, arith}
 use Rattle.parse_track.proofs.Marking.{mark_step, marks_none}
 use Rattle.parse_track.proofs.closed_names.mark.Goals as goal
 

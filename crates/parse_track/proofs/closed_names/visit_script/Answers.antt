@@ -1,4 +1,4 @@
-use Rattle.std.proofs.Common.{◌≡◌, ℕ, ◌+◌, ◌<◌, ◌∷◌, None, false, drop, length, map, arith, add-one, drop-cons, suc, sym, ap, ◌∙◌}
+use Rattle.std.proofs.Common.{◌<◌, ◌∷◌, None, false, drop, length, map, arith, add-one, drop-cons, suc, sym, ap, ◌∙◌}
 use Rattle.std.proofs.lemmas.List.{drop_all}
 use Rattle.parse_track.specs.Log.{told_region, known_names}
 use Rattle.parse_track.specs.Rows.{row_of}

@@ -1,4 +1,4 @@
-use Rattle.std.proofs.Common.{◌≡◌, ℕ, None, false, drop, length, map}
+use Rattle.std.proofs.Common.{None, false, drop, length, map}
 use Rattle.parse_track.specs.Log.{known_names, told_items, told_region, outermost}
 use Rattle.parse_track.specs.Rows.{row_of}
 use Rattle.parse_track.specs.Visited.{Stand, Visits, stand_of}

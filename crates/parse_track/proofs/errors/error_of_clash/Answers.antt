@@ -1,4 +1,4 @@
-use Rattle.std.proofs.Common.{◌≡◌, ℕ, Bool, true, false, Option, map, ap, sym, ◌∙◌}
+use Rattle.std.proofs.Common.{Bool, map, ap, sym, ◌∙◌}
 use Rattle.parse_track.specs.EarlyErrors.{error_of}
 use Rattle.parse_track.specs.Errors.{clash_error}
 use Rattle.parse_track.specs.Clashes.{clashes, no_firsts}

@@ -1,4 +1,4 @@
-use Rattle.std.proofs.Common.{◌≡◌, ℕ, ◌+◌, ◌-◌, ◌<◌, ◌≤◌, ◌∷◌, drop, length, map, arith, add-one, drop-cons, sym, ap, ◌∙◌}
+use Rattle.std.proofs.Common.{◌-◌, ◌<◌, drop, length, map, arith, add-one, drop-cons}
 use Rattle.std.proofs.lemmas.List.{drop_all}
 use Rattle.parse_track.specs.Log.{told_region}
 use Rattle.parse_track.specs.Rows.{row_of}

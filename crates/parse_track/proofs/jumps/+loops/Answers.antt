@@ -1,5 +1,4 @@
-use Rattle.std.proofs.Common.{◌≡◌, ℕ, None, Some, map, sym, ap, ◌∙◌, ◌-◌}
-use Rattle.parse_track.specs.Log.{told_region}
+use Rattle.std.proofs.Common.{None, Some, map, ◌∙◌}
 use Rattle.parse_track.specs.Rows.{row_of}
 use Rattle.parse_track.proofs.JumpSteps.{region_loop}
 use Rattle.parse_track.proofs.jumps.+loops.Goals as goal

@@ -1,4 +1,4 @@
-use Rattle.std.proofs.Common.{◌≡◌, ℕ, suc, ◌+◌, ◌<◌, ◌∷◌, drop, length, map, arith, add-one, drop-cons, sym, ap, ◌∙◌}
+use Rattle.std.proofs.Common.{suc, ◌<◌, ◌∷◌, drop, length, map, arith, add-one, drop-cons, sym, ap, ◌∙◌}
 use Rattle.parse_track.specs.Log.{told_region}
 use Rattle.parse_track.specs.Rows.{row_of}
 use Rattle.parse_track.proofs.JumpSteps.{outer_jump_step}

@@ -1,4 +1,4 @@
-use Rattle.std.proofs.Common.{◌≡◌, ◌≤◌, drop, length, arith}
+use Rattle.std.proofs.Common.{arith}
 use Rattle.std.proofs.lemmas.List.{drop_all}
 use Rattle.parse_track.proofs.Items.{vars_done}
 use Rattle.parse_track.proofs.names.+hoisting.Goals as goal

@@ -1,4 +1,4 @@
-use Rattle.std.proofs.Common.{◌≡◌, ℕ, ◌+◌, ◌<◌, length, map, arith, ◌∙◌, get_or}
+use Rattle.std.proofs.Common.{map, arith, ◌∙◌, get_or}
 use Rattle.parse_track.specs.Log.{name_of}
 use Rattle.parse_track.proofs.Clashes.{also_step}
 use Rattle.parse_track.proofs.offsets.first_also.Goals as goal

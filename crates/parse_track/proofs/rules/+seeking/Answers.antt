@@ -1,8 +1,7 @@
-use Rattle.std.proofs.Common.{◌≡◌, ℕ, ◌+◌, ◌-◌, ◌<◌, ◌≤◌, ◌∷◌, drop, length, map, arith, add-one, drop-cons, sym, ap, ◌∙◌, slice_get, [], ◌++◌}
+use Rattle.std.proofs.Common.{◌-◌, ◌<◌, drop, length, map, arith, add-one, drop-cons, slice_get}
 use Rattle.std.proofs.lemmas.List.{drop_all}
-use Rattle.parse_track.specs.EarlyErrors.{smallest, at_regions}
-use Rattle.parse_track.specs.Log.{told_items, told_region, known_names, kind_of, region_of}
-use Rattle.parse_track.specs.Rows.{item_of, row_of}
+use Rattle.parse_track.specs.Log.{told_region, known_names, kind_of, region_of}
+use Rattle.parse_track.specs.Rows.{row_of}
 use Rattle.parse_track.specs.Rules.{rule_of}
 use Rattle.parse_track.proofs.Seeking.{seek_step, seek_inner, seek_end}
 use Rattle.parse_track.proofs.rules.+seeking.Goals as goal

@@ -1,4 +1,4 @@
-use Rattle.std.proofs.Common.{◌≤◌, length, drop, arith, refl, map}
+use Rattle.std.proofs.Common.{drop, arith, refl, map}
 use Rattle.std.proofs.lemmas.List.{drop_all}
 use Rattle.parse_track.specs.RegionNames.{lexical_below}
 use Rattle.parse_track.specs.Rules.{is_inner}

@@ -1,5 +1,4 @@
-use Rattle.std.proofs.Common.{◌≡◌, ℕ, suc, ◌+◌, ◌<◌, ◌∷◌, drop, length, map, arith, add-one, drop-cons, sym, ap, ◌∙◌}
-use Rattle.std.proofs.lemmas.List.{drop_all, length-map}
+use Rattle.std.proofs.Common.{suc, ◌<◌, ◌∷◌, drop, length, map, arith, add-one, drop-cons, sym, ap, ◌∙◌}
 use Rattle.parse_track.specs.Log.{told_region, known_names}
 use Rattle.parse_track.specs.Rows.{row_of}
 use Rattle.parse_track.specs.Rules.{rule_of}

@@ -1,7 +1,5 @@
-use Rattle.std.proofs.Common.{◌≡◌, ◌++◌, ◌∷◌, [], nat_eq, ℕ, ◌+◌, ◌<◌, List, length, take, drop, arith, slice_index_or, Bool, true, false, not, ap, sym, ◌∙◌, append-nil}
+use Rattle.std.proofs.Common.{arith, slice_index_or, true, false, ap, sym, ◌∙◌, append-nil}
 use Rattle.std.proofs.lemmas.Grind.{common_steps}
-use Rattle.std.specs.List.{list_any}
-use Rattle.parse_track.specs.ClosedNames.{distinct, without}
 use Rattle.parse_track.proofs.Distinct.{distinct_step, not_false, not_true}
 use Rattle.parse_track.proofs.scopes.distinct.Goals as goal
 use Rattle.parse_track.proofs.scopes.distinct.Goals.{then-branch+in_ok-push, else-branch}

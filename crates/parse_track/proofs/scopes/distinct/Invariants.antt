@@ -1,4 +1,4 @@
-use Rattle.std.proofs.Common.{◌≡◌, ℕ, ◌++◌, [], nat_eq, take, drop}
+use Rattle.std.proofs.Common.{◌≡◌, ℕ, ◌++◌, nat_eq, take, drop}
 use Rattle.std.specs.List.{list_any}
 use Rattle.std.specs.Ordering.{nat_cmp}
 use Rattle.std.specs.BTreeSet.{contains}

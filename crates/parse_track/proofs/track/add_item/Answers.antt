@@ -1,5 +1,4 @@
-use Rattle.std.proofs.Common.{◌≡◌, ◌<◌, length, subst, sym, ap, ◌∙◌, arith, rules, inl, inr}
-use Rattle.parse_track.specs.Log.{tell}
+use Rattle.std.proofs.Common.{◌<◌, length, inl, inr}
 use Rattle.parse_track.proofs.Log.{told_more, told_none}
 use Rattle.parse_track.proofs.track.add_item.Goals as goal
 

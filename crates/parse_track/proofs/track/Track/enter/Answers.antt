@@ -1,9 +1,8 @@
-use Rattle.std.proofs.Common.{◌≡◌, ℕ, ◌<◌, ap, sym, ◌∙◌, Some, List, [], ◌∷◌, ◌++◌, length, map, arith}
+use Rattle.std.proofs.Common.{ℕ, ap, sym, ◌∙◌, Some, List, [], ◌∷◌, ◌++◌, length, map}
 use Rattle.std.proofs.lemmas.List.{length-map}
-use Rattle.parse_track.specs.declared.track.Row.{Row}
-use Rattle.parse_track.specs.Log.{Part, Log, Inner, tell}
+use Rattle.parse_track.specs.Log.{Part, Inner, tell}
 use Rattle.parse_track.specs.Rows.{item_of, row_of}
-use Rattle.parse_track.proofs.Entering.{Pushed, still_in_order, now_in_order, now_parts}
+use Rattle.parse_track.proofs.Entering.{still_in_order, now_in_order, now_parts}
 use Rattle.parse_track.proofs.track.Track.enter.Goals as goal
 
 pub invariant_of-self-in_err-add_item : goal.invariant_of-self-in_err-add_item

@@ -1,4 +1,3 @@
-use Rattle.std.proofs.Common.{subst, sym}
 use Rattle.parse_track.proofs.Order.{around_in_order}
 use Rattle.parse_track.proofs.track.Track.leave.Goals as goal
 

@@ -18,6 +18,28 @@ fn is_bad(alloc: Global, line: &[&str]) -> Result<bool, AllocError> {
     }
 }
 
+fn wants(want: &Want, numbers: &[u32]) -> bool {
+    match want {
+        Want::Numbers(wanted) => wanted.as_slice() == numbers,
+        Want::All => false,
+        Want::Nothing => false,
+    }
+}
+
+fn is_large_scopes(options: &Options) -> bool {
+    match options {
+        Options::Files(job) => {
+            job.command == Command::Scopes
+                && job.order == Order::Large
+                && job.workers == 16
+                && job.files.len() == 2
+                && wants(&job.want, [2, 1].as_slice())
+        }
+        Options::Trial { .. } => false,
+        Options::Churn { .. } => false,
+    }
+}
+
 #[test]
 fn options_are_read(rt: HostRuntime) -> Result<(), Fail> {
     let line = [
@@ -32,19 +54,8 @@ fn options_are_read(rt: HostRuntime) -> Result<(), Fail> {
         "b",
     ];
     let words = words_of(rt.alloc(), line.as_slice())?;
-    match read_words(rt.alloc(), &words) {
-        Ok(Options::Files(job)) => {
-            assert_eq!(rt; job.command, Command::Scopes);
-            assert_eq!(rt; job.order, Order::Large);
-            assert_eq!(rt; job.workers, 16);
-            assert_eq!(rt; job.files.len(), 2);
-            match job.want {
-                Want::Numbers(numbers) => assert_eq!(rt; numbers.as_slice(), [2, 1].as_slice()),
-                _ => assert!(rt; false, "numbers are wanted"),
-            }
-        }
-        _ => assert!(rt; false, "the words are a command"),
-    }
+    let options = read_words(rt.alloc(), &words)?;
+    assert!(rt; is_large_scopes(&options));
     Ok(())
 }
 

@@ -9,8 +9,8 @@ use Rattle.bytecode_buf.specs.declared.opcode.Op.TheVariants as op
 use Rattle.parse_track.specs.Notes.{closed_names}
 use Rattle.emit_stmts.specs.Functions.{top_script}
 use Rattle.scope_analysis.proofs.RowTrees as row
-use Rattle.lazy_compile.specs.Eager.{Site, Compiles, no_sites, more_sites, compiled_at, sites_in, top_sites, IsEager}
-use Rattle.lazy_compile.specs.Shown.{Wanted, All, Numbers, shown}
+use Rattle.lazy_compile.specs.Eager.{Site, no_sites, more_sites, compiled_at, sites_in, top_sites, IsEager}
+use Rattle.lazy_compile.specs.Shown.{Wanted, All, Numbers, shown, initial, IsInitial}
 
 abbrev arrows : Stmts
 arrows = row.only (Declared row.returns_arrows)
@@ -38,9 +38,14 @@ functions = (compiled_at outer).part ∷ (compiled_at middle).part ∷ (compiled
 pub eager_row : IsEager arrows 37 top functions
 eager_row = record {
   script = refl;
-  each = more_sites outer [] ((compiled_at middle).part ∷ (compiled_at innermost).part ∷ []) []
-      (more_sites middle [] ((compiled_at innermost).part ∷ []) [] (more_sites innermost [] [] [] no_sites no_sites) no_sites) no_sites;
+  all = outer ∷ middle ∷ innermost ∷ [];
+  are = more_sites outer [] (middle ∷ innermost ∷ []) [] (more_sites middle [] (innermost ∷ []) [] (more_sites innermost [] [] [] no_sites no_sites) no_sites) no_sites;
+  each = refl;
 }
+
+-- before any of them is compiled
+pub initial_row : IsInitial arrows 37 (initial (closed_names arrows) top functions)
+initial_row = (top, functions, eager_row, refl)
 
 abbrev merged : Wanted → NamedMerged (List Command)
 merged wanted = shown wanted (closed_names arrows) top functions

@@ -1,6 +1,6 @@
 -- A script and every function of it, compiled from one tree. This project's own choice: it is what a full parse of the
 -- whole script gives, with no lazy step.
-use Rattle.std.specs.Prelude.{◌≡◌, ℕ, List, [], ◌∷◌, ◌++◌}
+use Rattle.std.specs.Prelude.{◌≡◌, ℕ, ◌-◌, List, [], ◌∷◌, ◌++◌, map, slice_get, Some}
 use Rattle.script_grammar.specs.Tree.{Stmts}
 use Rattle.stencil_data.specs.LinkView.{LinkView}
 use Rattle.stencil_data.specs.Named.{NamedFunction}
@@ -29,13 +29,25 @@ sites_in s = sites (inner_function s.inner.kind s.inner.name s.inner.func) (comp
 abbrev pub top_sites : Stmts → ℕ → List Site
 top_sites items end = sites (inner_script items) (top_script items end).chains
 
--- The functions at these sites, and all that are in them, compiled: in the order of the source, which is that of the
--- offsets where their parameters start, so each function stands before those in it.
-pub data Compiles : List Site → List (NamedFunction (List Command)) → Type 0 where
-  no_sites : Compiles [] []
-  more_sites : (s : Site) (rest : List Site) (inside after : List (NamedFunction (List Command))) → Compiles (sites_in s) inside → Compiles rest after → Compiles (s ∷ rest) ((compiled_at s).part ∷ (inside ++ after))
+-- The functions at these sites, and all that are in them: in the order of the source, which is that of the offsets where
+-- their parameters start, so each function stands before those in it.
+pub data AllSites : List Site → List Site → Type 0 where
+  no_sites : AllSites [] []
+  more_sites : (s : Site) (rest inside after : List Site) → AllSites (sites_in s) inside → AllSites rest after → AllSites (s ∷ rest) (s ∷ (inside ++ after))
+
+-- all functions of a script, in order of number, from 1
+abbrev pub AreFunctions : Stmts → ℕ → List Site → Type 0
+AreFunctions items end all = AllSites (top_sites items end) all
+
+-- the function of this number, and the chain that it gets
+pub record HasSite (items : Stmts) (end : ℕ) (number : ℕ) (s : Site) : Type 0 where
+  pub all : List Site
+  pub functions : AreFunctions items end all
+  pub is : slice_get all (number - 1) ≡ Some s
 
 -- a script compiled whole: itself, and its functions in order of number, from 1
 pub record IsEager (items : Stmts) (end : ℕ) (top : NamedFunction (List Command)) (functions : List (NamedFunction (List Command))) : Type 0 where
   pub script : top ≡ (top_script items end).part
-  pub each : Compiles (top_sites items end) functions
+  pub all : List Site
+  pub are : AreFunctions items end all
+  pub each : functions ≡ map (λ (s : Site). (compiled_at s).part) all

@@ -4,7 +4,7 @@ use Rattle.std.specs.Prelude.{◌≡◌, ℕ, ◌+◌, Bool, true, false, ◌&&�
 use Rattle.std.specs.List.{list_any}
 use Rattle.script_grammar.specs.Tree.{Stmts}
 use Rattle.stencil_data.specs.declared.functions.Extent.{Extent}
-use Rattle.stencil_data.specs.Named.{NamedFunction, NamedClosed, NamedRecord, NamedMerged}
+use Rattle.stencil_data.specs.Named.{NamedFunction, NamedClosed, NamedRecord, NamedInitial, NamedMerged}
 use Rattle.bytecode_buf.specs.declared.opcode.Op.{Op}
 use Rattle.bytecode_buf.specs.declared.opcode.Op.TheVariants as op
 use Rattle.bytecode_buf.specs.Command.{Operand, Number, Command}
@@ -85,3 +85,12 @@ shown wanted bound top functions = record {
 abbrev pub IsShown : Wanted → Stmts → ℕ → NamedMerged (List Command) → Type 0
 IsShown wanted items end merged =
     (top : NamedFunction (List Command)) × (functions : List (NamedFunction (List Command))) × IsEager items end top functions × (merged ≡ shown wanted (closed_names items) top functions)
+
+-- what a script is before any of its functions is compiled: its top, whose code names a function by its place, and the
+-- record of every function
+abbrev pub initial : List (Bound (List ℕ)) → NamedFunction (List Command) → List (NamedFunction (List Command)) → NamedInitial (List Command)
+initial bound top functions = record { top = top; records = map (record_of (starts_of functions) bound) functions }
+
+abbrev pub IsInitial : Stmts → ℕ → NamedInitial (List Command) → Type 0
+IsInitial items end parts =
+    (top : NamedFunction (List Command)) × (functions : List (NamedFunction (List Command))) × IsEager items end top functions × (parts ≡ initial (closed_names items) top functions)

@@ -29,6 +29,7 @@ use Rattle.bytecode_buf.specs.InRange.{InRange}
 use Rattle.bytecode_buf.specs.Layout.{Numbered, instructions, laid}
 use Rattle.bytecode_buf.specs.Table.{number_of}
 use Rattle.bytecode_buf.specs.Width.{shape_of}
+use Rattle.stencil_xdr.specs.Widths.{NumbersFit}
 
 -- bytes, or the number of a text in four bytes
 pub data Item : Type 0 where
@@ -170,6 +171,8 @@ bytes_by numbered m = magic ++ le_bytes 4 (length numbered) ++ flat_map text_byt
 abbrev pub image : MergedView → List ℕ
 image m = bytes_by (firsts (named m.texts (items m))) m
 
--- bytes are the image of a stencil in range
-abbrev pub IsImageOf : MergedView → List ℕ → Type 0
-IsImageOf m bytes = InRange m × (bytes ≡ image m)
+-- bytes are the image of a stencil in range, whose numbers fit
+pub record IsImageOf (m : MergedView) (bytes : List ℕ) : Type 0 where
+  pub range : InRange m
+  pub widths : NumbersFit m
+  pub is : bytes ≡ image m

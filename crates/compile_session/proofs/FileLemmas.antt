@@ -14,7 +14,8 @@ use Rattle.compile_session.specs.declared.file.Outcome.TheVariants as outcome
 use Rattle.compile_session.specs.declared.parser.Statement.{Statement}
 use Rattle.compile_session.specs.declared.refusal.Refusal.{Refusal}
 use Rattle.compile_session.specs.declared.refusal.Refusal.TheVariants as refusal
-use Rattle.compile_session.specs.FileTokens.{tokens_of, seen}
+use Rattle.script_scanner.specs.Lexemes.{lexemes}
+use Rattle.compile_session.specs.Seen.{seen}
 use Rattle.compile_session.specs.Built.{IsBuiltScript}
 use Rattle.compile_session.specs.ReadBuilt.{read_stmts}
 use Rattle.compile_session.specs.Statements.{IsRead, stmts_of}
@@ -84,8 +85,8 @@ never_both before file script refusal.NotBuilt h k = k.2 script h.2
 
 pub verdicts_equal : (before : ℕ) (file : List ℕ) (one two : Verdict) → IsVerdict before file one → IsVerdict before file two → one ≡ two
 verdicts_equal before file (IsListed script) (IsListed other) h k =
-    let first = read-complete (tokens_of file) script h.2 in
-    let second = read-complete (tokens_of file) other k.2 in
+    let first = read-complete (lexemes file) script h.2 in
+    let second = read-complete (lexemes file) other k.2 in
     let e : Some script ≡ Some other = sym first ∙ second in
     let same : script ≡ other = cc in
     ap IsListed same
@@ -100,9 +101,9 @@ pub seen_here : (texts seen_texts : List (List ℕ)) (tokens seen_tokens : List 
 seen_here texts seen_texts tokens seen_tokens all texts_same tokens_same is = ap (λ (ts : List (List ℕ)). seen ts seen_tokens) texts_same ∙ ap (λ (us : List Token). seen texts us) tokens_same ∙ is
 
 -- tokens that were not parsed
-pub outcome_not_built : (name bytes : List ℕ) (tokens : List Lexeme) (listed : Option (Vec ℕ Global)) → length bytes ≤ most_bytes → IsUtf8 bytes → tokens ≡ tokens_of bytes → IsListing name (length bytes) tokens listed → listed ≡ None → IsOutcome name bytes (outcome.Refused refusal.NotBuilt)
+pub outcome_not_built : (name bytes : List ℕ) (tokens : List Lexeme) (listed : Option (Vec ℕ Global)) → length bytes ≤ most_bytes → IsUtf8 bytes → tokens ≡ lexemes bytes → IsListing name (length bytes) tokens listed → listed ≡ None → IsOutcome name bytes (outcome.Refused refusal.NotBuilt)
 outcome_not_built name bytes tokens listed short utf8 same is_listing none =
-    let P : Option (Vec ℕ Global) → Type 0 = λ o. IsListing name (length bytes) (tokens_of bytes) o in
+    let P : Option (Vec ℕ Global) → Type 0 = λ o. IsListing name (length bytes) (lexemes bytes) o in
     let Q : List Lexeme → Type 0 = λ ts. IsListing name (length bytes) ts listed in
     (omega (arith, short), utf8, subst P none (subst Q same is_listing))
 

@@ -7,7 +7,7 @@ use Rattle.script_grammar.specs.Tree.{Expr, Operands, no_operands, more_operands
 use Rattle.script_grammar.specs.Tree as tree
 use Rattle.compile_session.specs.declared.parser.Operand.{Operand}
 use Rattle.compile_session.specs.declared.parser.Statement.{Statement}
-use Rattle.compile_session.specs.FileTokens.{seen_as, seen}
+use Rattle.compile_session.specs.Seen.{seen_as, seen}
 use Rattle.compile_session.specs.Atoms.{AtomsFit}
 use Rattle.compile_session.specs.ReadBuilt as read
 use Rattle.compile_session.specs.ReadBuilt.{Rest, added, finished, ended, sum_of, read_stmts, read_rest, read_operand, at_end, part_of}

@@ -9,7 +9,7 @@ use Rattle.script_grammar.specs.Tree.{Stmts, no_stmts, more_stmts, no_operands, 
 use Rattle.script_grammar.specs.Tree as tree
 use Rattle.script_scanner.specs.Tokens.{Lexed, Value, Text, Number, Nothing}
 use Rattle.compile_session.specs.declared.refusal.Refusal.TheVariants as refusal
-use Rattle.compile_session.specs.FileTokens.{lexeme_of}
+use Rattle.script_scanner.specs.Lexemes.{lexeme_of}
 use Rattle.compile_session.specs.ReadBuilt.{read_stmts}
 use Rattle.compile_session.specs.Verdict.{IsListed, IsRefused, file_text}
 use Rattle.compile_session.specs.Words.{files_of}

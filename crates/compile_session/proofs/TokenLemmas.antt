@@ -16,7 +16,8 @@ use Rattle.script_scanner.specs.Stands.{HasValue, StandsFor, StandFor}
 use Rattle.script_scanner.specs.Tokens.{Value, Text, Number, Nothing, Piece, Lexed, Front, IsBlank, IsToken, IsNeither, front_of, front_at, token_at, then_tokens, tokens_within, tokens, last_token, part, without_first_line, braces_after}
 use Rattle.script_scanner.proofs.KindLemmas.{IsText, IsNumber, IsNothing, Suits, PieceSuits, token_suits}
 use Rattle.compile_session.specs.Atoms.{AtomFits, AtomsFit}
-use Rattle.compile_session.specs.FileTokens.{text_in, number_in, lexeme_of, tokens_of, seen_as, seen}
+use Rattle.script_scanner.specs.Lexemes.{text_in, number_in, lexeme_of, lexemes}
+use Rattle.compile_session.specs.Seen.{seen_as, seen}
 
 -- Each token has a value that suits its kind.
 
@@ -187,8 +188,8 @@ tokens_carry ps to = let text = without_first_line 0 (part 0 to ps) in all_carry
 -- The scanned tokens of a file.
 
 pub file_tokens : (bytes : List ℕ) (ps seen_points : List Point) (to : ℕ) (texts made_texts : List (List ℕ)) (ts : List Token)
-    → ps ≡ points bytes → seen_points ≡ ps → to ≡ length bytes → StandFor texts ts (tokens seen_points 0 to) → made_texts ≡ texts → seen made_texts ts ≡ tokens_of bytes
-unfolding tokens_of
+    → ps ≡ points bytes → seen_points ≡ ps → to ≡ length bytes → StandFor texts ts (tokens seen_points 0 to) → made_texts ≡ texts → seen made_texts ts ≡ lexemes bytes
+unfolding lexemes
 file_tokens bytes ps seen_points to texts made_texts ts decoded same size stand made_same =
     ap (λ (xs : List (List ℕ)). seen xs ts) made_same
     ∙ seen_all texts ts (tokens seen_points 0 to) (tokens_carry seen_points to) stand

@@ -1,4 +1,4 @@
-pub mod FileTokens
+pub mod Seen
 pub mod Atoms
 pub mod Built
 pub mod ReadBuilt

@@ -11,7 +11,7 @@ use Rattle.compile_session.specs.declared.parser.Statement.{Statement}
 use Rattle.compile_session.specs.declared.parser.Statement.TheVariants as statement
 use Rattle.compile_session.specs.declared.parser.Part.{Part}
 use Rattle.compile_session.specs.declared.parser.Part.TheVariants as part
-use Rattle.compile_session.specs.FileTokens.{seen}
+use Rattle.compile_session.specs.Seen.{seen}
 use Rattle.compile_session.specs.ReadBuilt as read
 use Rattle.compile_session.specs.ReadBuilt.{Rest, added, sum_of, read_stmts, read_rest, read_operand}
 

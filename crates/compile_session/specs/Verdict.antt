@@ -9,7 +9,7 @@ use Rattle.compile_session.specs.declared.refusal.Refusal.{Refusal}
 use Rattle.compile_session.specs.declared.refusal.Refusal.TheVariants as refusal
 use Rattle.compile_session.specs.declared.status.Status.{Status}
 use Rattle.compile_session.specs.declared.status.Status.TheVariants as status
-use Rattle.compile_session.specs.FileTokens.{tokens_of}
+use Rattle.script_scanner.specs.Lexemes.{lexemes}
 use Rattle.compile_session.specs.Built.{IsBuiltScript}
 use Rattle.compile_session.specs.Code.{script_code}
 use Rattle.compile_session.specs.Listing.{listing}
@@ -29,11 +29,11 @@ pub data Verdict : Type 0 where
 abbrev pub IsRefusedAs : ℕ → List ℕ → Refusal → Type 0
 IsRefusedAs before file refusal.TooLong = most_bytes < before + length file
 IsRefusedAs before file (refusal.BadUtf8 offset) = (before + length file ≤ most_bytes) × (IsUtf8 file → ⊥) × (offset ≡ utf8_valid_len file)
-IsRefusedAs before file refusal.NotBuilt = (before + length file ≤ most_bytes) × IsUtf8 file × ((script : Stmts) → IsBuiltScript (tokens_of file) script → ⊥)
+IsRefusedAs before file refusal.NotBuilt = (before + length file ≤ most_bytes) × IsUtf8 file × ((script : Stmts) → IsBuiltScript (lexemes file) script → ⊥)
 
 -- the verdict of a file behind so many bytes of other files
 abbrev pub IsVerdict : ℕ → List ℕ → Verdict → Type 0
-IsVerdict before file (IsListed script) = (before + length file ≤ most_bytes) × IsUtf8 file × IsBuiltScript (tokens_of file) script
+IsVerdict before file (IsListed script) = (before + length file ≤ most_bytes) × IsUtf8 file × IsBuiltScript (lexemes file) script
 IsVerdict before file (IsRefused why) = IsRefusedAs before file why
 
 abbrev pub is_refused : Verdict → Bool

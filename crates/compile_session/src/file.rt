@@ -3,7 +3,7 @@
 ghost use Rattle.std.specs.Prelude.{◌≡◌, ◌≤◌, true, length, IfOk};
 ghost use Rattle.outside.specs.Loops.{HasAtMost};
 ghost use Rattle.compile_session.specs.Atoms.{AtomsFit};
-ghost use Rattle.compile_session.specs.FileTokens.{seen};
+ghost use Rattle.compile_session.specs.Seen.{seen};
 ghost use Rattle.compile_session.specs.Verdict as verdict;
 ghost use Rattle.compile_session.specs.Verdict.{most_bytes, head_text};
 ghost use Rattle.compile_session.specs.Answers.{IsListing, IsOutcome, SettlesRead};

@@ -4,7 +4,8 @@ ghost use Rattle.std.specs.Prelude.{◌≡◌, ◌≤◌, length, IfOk, IfErr, O
 ghost use Rattle.std.specs.Str.{IsUtf8};
 ghost use Rattle.unit_text.specs.Faults.{IsFaultOf};
 ghost use Rattle.compile_session.specs.Atoms.{AtomsFit};
-ghost use Rattle.compile_session.specs.FileTokens.{seen, tokens_of};
+ghost use Rattle.script_scanner.specs.Lexemes.{lexemes};
+ghost use Rattle.compile_session.specs.Seen.{seen};
 
 use parser_atoms::Atoms;
 use script_grammar::token::Token;
@@ -17,7 +18,7 @@ use unit_text::{DecodeFault, decode};
 pub(crate) fn tokens_of(alloc: Global, bytes: &[u8]) -> Result<(Vec<Token>, Vec<Text>), DecodeFault>
     requires { length bytes.now ≤ 16777215 }
     ensures utf8 { OnOk result (IsUtf8 bytes.now) }
-    ensures tokens { IfOk result (λ r. seen r.1.items r.0.items ≡ tokens_of bytes.now) }
+    ensures tokens { IfOk result (λ r. seen r.1.items r.0.items ≡ lexemes bytes.now) }
     ensures atoms { IfOk result (λ r. AtomsFit r.0.items) }
     ensures fault { IfErr result (IsFaultOf bytes.now) }
 {

@@ -3,7 +3,7 @@
 
 ghost use Rattle.std.specs.Prelude.{◌≡◌, ◌<◌, ℕ, List, [], length, map, IfOk, IfSome};
 ghost use Rattle.compile_session.specs.Atoms.{AtomFits, AtomsFit};
-ghost use Rattle.compile_session.specs.FileTokens.{seen_as};
+ghost use Rattle.compile_session.specs.Seen.{seen_as};
 ghost use Rattle.compile_session.specs.ReadBuilt.{part_of, mark_part};
 ghost use Rattle.compile_session.specs.Statements.{part_seen, ReadsOperand, ReadsRest, ReadsSum, IsRead};
 

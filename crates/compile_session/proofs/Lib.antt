@@ -1,3 +1,4 @@
+pub mod WordLemmas
 pub mod TokenLemmas
 pub mod ParseLemmas
 pub mod ScriptLemmas

@@ -1,5 +1,5 @@
--- The words of the command, this project's own choice: `code` and the name of one file. Further commands, options and
--- more files will be further equations.
+-- The words of the command that is built so far, this stage's own choice: `code` and the name of one file. What all words
+-- ask for is command_words' `asked_of`; of these it says the same (proofs/WordLemmas, `built_is_asked`).
 use Rattle.std.specs.Prelude.{ℕ, Bool, false, not, ◌&&◌, nat_eq, List, [], ◌∷◌, Option, Some, None, codes, if◌then◌else◌}
 use Rattle.std.specs.Str.{bytes_eq}
 

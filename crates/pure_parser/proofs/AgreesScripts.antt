@@ -1,5 +1,6 @@
 -- The parser that reads bodies in place, and the one that passes them over and records them: the first fault of the first is
--- that of the first recorded body that has one, read in place, and else that of the second.
+-- that of the first recorded body that has one, read in place, and else that of the second; where there is none, the second
+-- reads the tree of the first with the bodies that it is given.
 use Rattle.std.proofs.Common.{◌≡◌, ℕ, zero, suc, List, [], ◌∷◌, ◌++◌, refl, sym, ap, ◌∙◌, subst, Bool, true, false, ◌⊎◌, inl, inr}
 use Rattle.script_grammar.specs.declared.token.FuncForm.{FuncForm}
 use Rattle.script_grammar.specs.declared.token.mark.TheConstants as mark
@@ -22,10 +23,11 @@ use Rattle.pure_parser.proofs.SoundEverything.{in_place_sound, reading_sound}
 use Rattle.pure_parser.proofs.NestedTrees.{nested_stmts}
 use Rattle.pure_parser.proofs.Passing.{braced_pass, record_at, passed_reply, passing_here, passing_no}
 use Rattle.pure_parser.proofs.Agrees.{Verdict, fine, bad_at, deep_at, or_else, judged, records, MeetsAt, Meets, Agrees, agrees_no_room}
-use Rattle.pure_parser.proofs.Alike.{AnyK, BodyK, StmtK}
+use Rattle.pure_parser.proofs.Alike.{SameK, BodyK, StmtK}
+use Rattle.pure_parser.proofs.Filling.{fill_body, fill_stmts}
 use Rattle.pure_parser.proofs.AgreesExprs.{CallK, AgreesEnv, name_agrees}
 use Rattle.pure_parser.proofs.AgreesCalls.{case_agrees, no_calls_agrees}
-use Rattle.pure_parser.proofs.AgreesStmts.{AgreesBlock, stmt_agrees, reading_agrees, script_agrees}
+use Rattle.pure_parser.proofs.AgreesStmts.{AgreesBlock, StmtsK, OwnK, stmt_agrees, reading_agrees, script_agrees}
 
 -- how a recorded body is read in place: with the room that is left in it
 abbrev pub body_in_place : Recorded → Reply BodyRead
@@ -66,57 +68,57 @@ unfolding reading
 same_reading stmt f g x y p q ts = refl
 
 module _ (bodies : ℕ → Body) (braced : (n : ℕ) → body_ending (bodies n) ≡ BracedArrow) where
-  module _ (room : ℕ) (f : FuncForm) (start : ℕ) (simple : Bool) (start2 : ℕ) (simple2 : Bool) where
+  module _ (room : ℕ) (f : FuncForm) (start : ℕ) (simple : Bool) (simple2 : Bool) where
     abbrev own : Parser BodyRead
     own = reading (everything in_place room).stmts f start simple
 
     -- where a body was read in place, it is passed over
-    passed_at : (t : Lexeme) (ts : List Lexeme) (x : BodyRead) (us : List Lexeme) → Took Inside (IsBraced whole 0 f) (t ∷ ts) x us → passed_reply bodies room f start2 simple2 ts ≡ Read (passed_body (bodies start2) x.end) [] us
+    passed_at : (t : Lexeme) (ts : List Lexeme) (x : BodyRead) (us : List Lexeme) → Took Inside (IsBraced whole 0 f) (t ∷ ts) x us → passed_reply bodies room f start simple2 ts ≡ Read (passed_body (bodies start) x.end) [] us
     passed_at t ts x us o = by o.front o.split (o.is.fits.before end_lexeme)
       where
-        by : (front : List Lexeme) → (t ∷ ts) ≡ front ++ us → Fits (print_body whole 0 x.end (Rattle.script_grammar.specs.Tree.BracedBody o.is.items)) front end_lexeme → passed_reply bodies room f start2 simple2 ts ≡ Read (passed_body (bodies start2) x.end) [] us
+        by : (front : List Lexeme) → (t ∷ ts) ≡ front ++ us → Fits (print_body whole 0 x.end (Rattle.script_grammar.specs.Tree.BracedBody o.is.items)) front end_lexeme → passed_reply bodies room f start simple2 ts ≡ Read (passed_body (bodies start) x.end) [] us
         by [] e h = absurd h
-        by (y ∷ w) e h = ap (λ r. after r (λ end. ret (passed_body (bodies start2) end))) (ap (pass_over (brace ∷ [])) (tail e) ∙ braced_pass 0 x.end (print_stmts whole 0 o.is.items) (nested_stmts whole 0 true o.is.items o.is.proper) y w end_lexeme us h)
+        by (y ∷ w) e h = ap (λ r. after r (λ end. ret (passed_body (bodies start) end))) (ap (pass_over (brace ∷ [])) (tail e) ∙ braced_pass 0 x.end (print_stmts whole 0 o.is.items) (nested_stmts whole 0 true o.is.items o.is.proper) y w end_lexeme us h)
           where
             tail : (t ∷ ts) ≡ y ∷ (w ++ us) → ts ≡ w ++ us
             tail e = cc
 
-    by_reply : (t : Lexeme) (ts : List Lexeme) (b : Recorded) (r : Reply BodyRead) → Silent r → Outcome Inside (IsBraced whole 0 f) (IsBraced whole 0 f) (t ∷ ts) r → MeetsAt body_in_place BodyK (or_else r (judged body_in_place (records (passed_reply bodies room f start2 simple2 ts)))) r (put_before (b ∷ []) (passed_reply bodies room f start2 simple2 ts))
+    by_reply : (t : Lexeme) (ts : List Lexeme) (b : Recorded) (r : Reply BodyRead) → Silent r → Outcome Inside (IsBraced whole 0 f) (IsBraced whole 0 f) (t ∷ ts) r → MeetsAt body_in_place (BodyK bodies start) (or_else r (judged body_in_place (records (passed_reply bodies room f start simple2 ts)))) r (put_before (b ∷ []) (passed_reply bodies room f start simple2 ts))
     by_reply t ts b (Bad rs us) q o = q
     by_reply t ts b (Deep rs us) q o = q
-    by_reply t ts b (Read x rs us) q o = subst (λ s. MeetsAt body_in_place BodyK (judged body_in_place (records s)) (Read x rs us) (put_before (b ∷ []) s)) (sym (passed_at t ts x us o)) (x, q, record { endings = ap body_ending o.is.is ∙ sym (braced start2) })
+    by_reply t ts b (Read x rs us) q o = subst (λ s. MeetsAt body_in_place (BodyK bodies start) (judged body_in_place (records s)) (Read x rs us) (put_before (b ∷ []) s)) (sym (passed_at t ts x us o)) (x, q, record { endings = ap body_ending o.is.is ∙ sym (braced start); ends = refl; same = sym (ap (fill_body bodies start) o.is.is) })
 
-    body_at : (s : (ts : List Lexeme) → Silent (own ts)) (ts : List Lexeme) → Meets body_in_place BodyK (own ts) (passing bodies room f start2 simple2 ts)
-    body_at s [] = subst (λ z. Meets body_in_place BodyK (own []) z) (sym (passing_no bodies room f start2 simple2 [] refl)) (reading_no (everything in_place room).stmts f start simple [] refl)
+    body_at : (s : (ts : List Lexeme) → Silent (own ts)) (ts : List Lexeme) → Meets body_in_place (BodyK bodies start) (own ts) (passing bodies room f start simple2 ts)
+    body_at s [] = subst (λ z. Meets body_in_place (BodyK bodies start) (own []) z) (sym (passing_no bodies room f start simple2 [] refl)) (reading_no (everything in_place room).stmts f start simple [] refl)
     body_at s (t ∷ ts) = by (bool_cases (is_mark mark.OPEN_BRACE t.kind))
       where
         b : Recorded
-        b = record_at bodies room f start2 simple2 (t ∷ ts)
+        b = record_at bodies room f start simple2 (t ∷ ts)
 
         x : Reply BodyRead
-        x = passed_reply bodies room f start2 simple2 ts
+        x = passed_reply bodies room f start simple2 ts
 
-        verdict : judged body_in_place (records (put_before (record_at bodies room f start2 simple2 (t ∷ ts) ∷ []) (passed_reply bodies room f start2 simple2 ts))) ≡ or_else (own (t ∷ ts)) (judged body_in_place (records (passed_reply bodies room f start2 simple2 ts)))
-        verdict = ap (judged body_in_place) (records_put (record_at bodies room f start2 simple2 (t ∷ ts)) (passed_reply bodies room f start2 simple2 ts)) ∙ ap (λ r. or_else r (judged body_in_place (records (passed_reply bodies room f start2 simple2 ts)))) (same_reading (everything in_place room).stmts f f 0 start simple2 simple (t ∷ ts))
+        verdict : judged body_in_place (records (put_before (record_at bodies room f start simple2 (t ∷ ts) ∷ []) (passed_reply bodies room f start simple2 ts))) ≡ or_else (own (t ∷ ts)) (judged body_in_place (records (passed_reply bodies room f start simple2 ts)))
+        verdict = ap (judged body_in_place) (records_put (record_at bodies room f start simple2 (t ∷ ts)) (passed_reply bodies room f start simple2 ts)) ∙ ap (λ r. or_else r (judged body_in_place (records (passed_reply bodies room f start simple2 ts)))) (same_reading (everything in_place room).stmts f f 0 start simple2 simple (t ∷ ts))
 
-        by : (is_mark mark.OPEN_BRACE t.kind ≡ true) ⊎ (is_mark mark.OPEN_BRACE t.kind ≡ false) → Meets body_in_place BodyK (own (t ∷ ts)) (passing bodies room f start2 simple2 (t ∷ ts))
-        by (inl h) = subst (λ z. Meets body_in_place BodyK (own (t ∷ ts)) z) (sym (passing_here bodies room f start2 simple2 t ts h)) (subst (λ v. MeetsAt body_in_place BodyK v (own (t ∷ ts)) (put_before (record_at bodies room f start2 simple2 (t ∷ ts) ∷ []) (passed_reply bodies room f start2 simple2 ts))) (sym verdict) (by_reply t ts (record_at bodies room f start2 simple2 (t ∷ ts)) (own (t ∷ ts)) (s (t ∷ ts)) (((reading_sound 0 (everything in_place room).stmts (in_place_sound room 0).stmts).braced f start simple).at (t ∷ ts))))
-        by (inr h) = subst (λ z. Meets body_in_place BodyK (own (t ∷ ts)) z) (sym (passing_no bodies room f start2 simple2 (t ∷ ts) h)) (reading_no (everything in_place room).stmts f start simple (t ∷ ts) h)
+        by : (is_mark mark.OPEN_BRACE t.kind ≡ true) ⊎ (is_mark mark.OPEN_BRACE t.kind ≡ false) → Meets body_in_place (BodyK bodies start) (own (t ∷ ts)) (passing bodies room f start simple2 (t ∷ ts))
+        by (inl h) = subst (λ z. Meets body_in_place (BodyK bodies start) (own (t ∷ ts)) z) (sym (passing_here bodies room f start simple2 t ts h)) (subst (λ v. MeetsAt body_in_place (BodyK bodies start) v (own (t ∷ ts)) (put_before (record_at bodies room f start simple2 (t ∷ ts) ∷ []) (passed_reply bodies room f start simple2 ts))) (sym verdict) (by_reply t ts (record_at bodies room f start simple2 (t ∷ ts)) (own (t ∷ ts)) (s (t ∷ ts)) (((reading_sound 0 (everything in_place room).stmts (in_place_sound room 0).stmts).braced f start simple).at (t ∷ ts))))
+        by (inr h) = subst (λ z. Meets body_in_place (BodyK bodies start) (own (t ∷ ts)) z) (sym (passing_no bodies room f start simple2 (t ∷ ts) h)) (reading_no (everything in_place room).stmts f start simple (t ∷ ts) h)
 
-    body_agrees : ((ts : List Lexeme) → Silent (own ts)) → Agrees body_in_place BodyK own (passing bodies room f start2 simple2)
+    body_agrees : ((ts : List Lexeme) → Silent (own ts)) → Agrees body_in_place (BodyK bodies start) own (passing bodies room f start simple2)
     body_agrees s = record { at = body_at s }
 
   -- all calls
 
   pub record AgreesAll (a l : All) : Type 0 where
-    pub exprs : (c : Call) → Agrees body_in_place (CallK c) (a.exprs c) (l.exprs c)
-    pub stmts : (p : Place) → Agrees body_in_place StmtK (a.stmts p) (l.stmts p)
-    pub label : Agrees body_in_place AnyK a.label l.label
+    pub exprs : (c : Call) → Agrees body_in_place (CallK bodies c) (a.exprs c) (l.exprs c)
+    pub stmts : (p : Place) → Agrees body_in_place (StmtK bodies) (a.stmts p) (l.stmts p)
+    pub label : Agrees body_in_place SameK a.label l.label
 
   pub everything_agrees : (room : ℕ) → AgreesAll (everything in_place room) (everything (passed_over bodies) room)
   unfolding everything
   everything_agrees zero = record {
-    exprs = no_calls_agrees body_in_place;
+    exprs = no_calls_agrees bodies body_in_place;
     stmts = λ p. agrees_no_room body_in_place (begins_stmt p);
     label = agrees_no_room body_in_place is_name;
   }
@@ -124,24 +126,24 @@ module _ (bodies : ℕ → Body) (braced : (n : ℕ) → body_ending (bodies n) 
       let a = everything_agrees room in
       let e : All = everything in_place room in
       let l : All = everything (passed_over bodies) room in
-      let v : AgreesEnv body_in_place (env_of (in_place room e.stmts) e) (env_of (passed_over bodies room l.stmts) l) = record {
+      let v : AgreesEnv bodies body_in_place (env_of (in_place room e.stmts) e) (env_of (passed_over bodies room l.stmts) l) = record {
         sub = a.exprs;
-        body = λ f start simple start2 simple2. body_agrees room f start simple start2 simple2 (λ ts. silent (reading_agrees body_in_place e.stmts l.stmts a.stmts f f start start2 simple simple2) ts);
+        body = λ f start simple simple2. body_agrees room f start simple simple2 (λ ts. silent (reading_agrees bodies body_in_place e.stmts l.stmts a.stmts f f start start simple simple2) ts);
       } in
-      let k : AgreesBlock body_in_place (block_of (in_place room e.stmts) e) (block_of (passed_over bodies room l.stmts) l) = record { exprs = v; stmt = a.stmts; label = a.label } in
+      let k : AgreesBlock bodies body_in_place (block_of (in_place room e.stmts) e) (block_of (passed_over bodies room l.stmts) l) = record { exprs = v; stmt = a.stmts; label = a.label } in
       record {
-        exprs = case_agrees body_in_place (env_of (in_place room e.stmts) e) (env_of (passed_over bodies room l.stmts) l) v;
-        stmts = λ p. stmt_agrees body_in_place (block_of (in_place room e.stmts) e) (block_of (passed_over bodies room l.stmts) l) k p;
-        label = name_agrees body_in_place;
+        exprs = case_agrees bodies body_in_place (env_of (in_place room e.stmts) e) (env_of (passed_over bodies room l.stmts) l) v;
+        stmts = λ p. stmt_agrees bodies body_in_place (block_of (in_place room e.stmts) e) (block_of (passed_over bodies room l.stmts) l) k p;
+        label = name_agrees bodies body_in_place;
       }
 
   -- scripts
-  pub scripts_agree : (room : ℕ) → Agrees body_in_place AnyK (read_script room) (script_of (everything (passed_over bodies) room).stmts)
-  scripts_agree room = script_agrees body_in_place (everything in_place room).stmts (everything (passed_over bodies) room).stmts (everything_agrees room).stmts
+  pub scripts_agree : (room : ℕ) → Agrees body_in_place (StmtsK bodies) (read_script room) (script_of (everything (passed_over bodies) room).stmts)
+  scripts_agree room = script_agrees bodies body_in_place (everything in_place room).stmts (everything (passed_over bodies) room).stmts (everything_agrees room).stmts
 
   -- a body whose own statements are read by both
-  pub own_bodies_agree : (room : ℕ) (f : FuncForm) (start : ℕ) (simple : Bool) → Agrees body_in_place BodyK (reading (everything in_place room).stmts f start simple) (reading (everything (passed_over bodies) room).stmts f start simple)
-  own_bodies_agree room f start simple = reading_agrees body_in_place (everything in_place room).stmts (everything (passed_over bodies) room).stmts (everything_agrees room).stmts f f start start simple simple
+  pub own_bodies_agree : (room : ℕ) (f : FuncForm) (start : ℕ) (simple : Bool) → Agrees body_in_place (OwnK bodies) (reading (everything in_place room).stmts f start simple) (reading (everything (passed_over bodies) room).stmts f start simple)
+  own_bodies_agree room f start simple = reading_agrees bodies body_in_place (everything in_place room).stmts (everything (passed_over bodies) room).stmts (everything_agrees room).stmts f f start start simple simple
 
 -- The calls for expressions are those that pass over by themselves.
 pub calls_are : (bodies : ℕ → BodyParser) (room : ℕ) (c : Call) → (everything (λ r stmt. bodies r) room).exprs c ≡ calls bodies room c

@@ -37,6 +37,7 @@ pub mod Completes
 pub mod DeepFronts
 pub mod ExprEnds
 pub mod ExprFronts
+pub mod Filling
 pub mod FirstFaults
 pub mod Fitting
 pub mod Friendly

@@ -55,6 +55,7 @@ pub mod Lone
 pub mod Nested
 pub mod NestedTrees
 pub mod PartLaws
+pub mod PassedLaws
 pub mod Passing
 pub mod Partnered
 pub mod Refuse

@@ -57,6 +57,7 @@ pub mod NestedTrees
 pub mod PartLaws
 pub mod PassedLaws
 pub mod Passing
+pub mod PassingLaws
 pub mod Partnered
 pub mod Refuse
 pub mod Rows

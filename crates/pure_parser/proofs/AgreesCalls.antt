@@ -1,22 +1,20 @@
 -- Parsers of expressions that differ in how they read braced bodies agree: over calls and bodies that agree, operators,
 -- conditionals, arrows and assignments, and so all calls.
-use Rattle.std.proofs.Common.{◌≡◌, ℕ, zero, suc, ◌-◌, List, [], ◌∷◌, ◌++◌, length, take, refl, sym, ap, ◌∙◌, subst, Bool, true, false, ◌&&◌, ◌||◌, not, nat_le, Option, Some, None, if◌then◌else◌}
+use Rattle.std.proofs.Common.{◌≡◌, ℕ, zero, suc, ◌-◌, List, length, take, refl, sym, ap, ◌∙◌, subst, Bool, true, false, ◌&&◌, nat_le, Option, Some, None, if◌then◌else◌}
 use Rattle.script_grammar.specs.declared.token.FuncForm.TheVariants as form
 use Rattle.script_grammar.specs.declared.token.mark.TheConstants as mark
 use Rattle.script_grammar.specs.Lexeme.{Lexeme}
 use Rattle.script_grammar.specs.Kinds.{is_mark, is_name, is_assign_mark}
-use Rattle.script_grammar.specs.Pieces as pieces
-use Rattle.script_grammar.specs.Endings.{body_ending}
 use Rattle.script_grammar.specs.Proper.{rank, left_rank, update_rank}
 use Rattle.script_grammar.specs.Tree.{Named, Expr, Body}
 use Rattle.script_grammar.specs.Tree as tree
-use Rattle.script_grammar.specs.TreeLists.{Operand, Param}
-use Rattle.pure_parser.specs.Parser.{Recorded, Reply, Read, Bad, Deep, Parser, head_of, ret, bad, bind, peek, step, when, Turn, Again, Stop, Many, stopped, loop}
+use Rattle.script_grammar.specs.TreeLists.{Operand}
+use Rattle.pure_parser.specs.Parser.{Recorded, Reply, Read, Bad, Deep, Parser, ret, bind, Turn, Again, Stop, stopped}
 use Rattle.pure_parser.specs.Exprs as parser
 use Rattle.pure_parser.specs.Exprs.{Env, Call, Calls, AnAssign, APrefix, ANew, AParam, ARest, BodyRead, ParamsEnd, Plain, Trailing, Rest, Head, Spanned, spanned, spanned_reply, last_end, expect, name_of, binary_case, with_last, operand, is_update_expr, is_op, head_case, is_arrow_head, is_arrow, call_case, no_calls, begins_call}
-use Rattle.pure_parser.proofs.Agrees.{Verdict, fine, bad_at, deep_at, judged, records, MeetsAt, Meets, Agrees, TurnK, ListK, ManyK, agrees_bind, agrees_ret, agrees_bad, agrees_peek, agrees_step, agrees_when, agrees_if, agrees_map, agrees_made, agrees_loop, agrees_no_room}
-use Rattle.pure_parser.proofs.Alike.{AnyK, SameK, OptionK, EndK, ExprK, FunctionK, BodyK, OperandK, ParamK, HeadK, list_last, head_alike, function_alike, binary_alike}
-use Rattle.pure_parser.proofs.Filling.{fill, fill_function}
+use Rattle.pure_parser.proofs.Agrees.{Verdict, fine, bad_at, deep_at, judged, records, MeetsAt, Agrees, TurnK, agrees_bind, agrees_ret, agrees_bad, agrees_peek, agrees_step, agrees_when, agrees_if, agrees_made, agrees_loop, agrees_no_room}
+use Rattle.pure_parser.proofs.Alike.{AnyK, SameK, OptionK, ExprK, BodyK, OperandK, ParamK, HeadK, list_last, head_alike, function_alike, binary_alike}
+use Rattle.pure_parser.proofs.Filling.{fill}
 use Rattle.pure_parser.proofs.AgreesExprs.{CallK, AgreesEnv, ParamTurn, ParamsK, done, agrees_two, expect_agrees, own_body_agrees, name_agrees, param_agrees, params_led_agrees, items_agrees, doomed_agrees, new_agrees, unary_agrees, prefix_agrees}
 
 module _ (bodies : ℕ → Body) where

@@ -1,6 +1,6 @@
 -- Parsers of expressions that differ in how they read braced bodies agree: over calls and bodies that agree, from lists to
 -- operators.
-use Rattle.std.proofs.Common.{◌≡◌, ℕ, zero, suc, List, [], ◌∷◌, ◌++◌, refl, sym, ap, ◌∙◌, subst, Bool, true, false, ◌&&◌, ◌||◌, not, nat_le, nat_eq, Option, Some, None, if◌then◌else◌}
+use Rattle.std.proofs.Common.{◌≡◌, ℕ, List, [], ◌∷◌, ◌++◌, refl, sym, ap, ◌∙◌, subst, Bool, true, false, ◌&&◌, ◌||◌, not, nat_le, nat_eq, Option, Some, None, if◌then◌else◌}
 use Rattle.script_grammar.specs.declared.token.Kind.{Kind}
 use Rattle.script_grammar.specs.declared.token.Kind.TheVariants as kind
 use Rattle.script_grammar.specs.declared.token.FuncForm.{FuncForm}
@@ -9,14 +9,13 @@ use Rattle.script_grammar.specs.declared.token.mark.TheConstants as mark
 use Rattle.script_grammar.specs.declared.token.word.TheConstants as word
 use Rattle.script_grammar.specs.Lexeme.{Lexeme}
 use Rattle.script_grammar.specs.Kinds.{is_mark, is_word, is_name, is_number, is_str, is_head, is_middle, is_tail, is_any_word, is_get, is_set, is_prefix, is_update}
-use Rattle.script_grammar.specs.Proper.{rank, update_rank}
 use Rattle.script_grammar.specs.Tree.{Named, Expr, Key, Prop, Tail, Body, Function}
 use Rattle.script_grammar.specs.Tree as tree
-use Rattle.script_grammar.specs.TreeLists.{Args, Operand, Part, Param, exprs_of, maybe_args_of, parts_of, props_of}
-use Rattle.pure_parser.specs.Parser.{Recorded, Reply, Parser, head_of, rest_of, ret, bad, bind, peek, step, when, Turn, Again, Stop, Many, stopped, loop, led}
+use Rattle.script_grammar.specs.TreeLists.{Part, Param, exprs_of, maybe_args_of, parts_of, props_of}
+use Rattle.pure_parser.specs.Parser.{Recorded, Reply, Parser, head_of, rest_of, ret, bind, step, when, Turn, Again, Stop, Many, stopped}
 use Rattle.pure_parser.specs.Exprs as parser
 use Rattle.pure_parser.specs.Exprs.{Env, Call, Result, AnAssign, APrefix, ANew, AParam, ARest, BodyRead, ParamsEnd, Plain, Trailing, Rest, Head, expect, name_of, peek_two, comma_case, list_case, chain_case, binary_case, function_case, head_case, param, operand, is_chain_head, is_update_expr}
-use Rattle.pure_parser.proofs.Agrees.{Agrees, TurnK, ListK, ManyK, agrees_bind, agrees_ret, agrees_bad, agrees_peek, agrees_step, agrees_when, agrees_if, agrees_map, agrees_made, agrees_loop, agrees_led}
+use Rattle.pure_parser.proofs.Agrees.{Agrees, TurnK, ListK, ManyK, agrees_bind, agrees_ret, agrees_bad, agrees_peek, agrees_step, agrees_when, agrees_if, agrees_made, agrees_loop, agrees_led}
 use Rattle.pure_parser.proofs.Alike.{AnyK, SameK, OptionK, EndK, ExprK, FunctionK, BodyK, TailK, ArgsK, PartK, ParamK, HeadK, KeyK, PropK, list_append, exprs_same, parts_same, props_same, comma_alike, paren_alike, array_alike, head_alike, function_alike, chain_alike, new_alike}
 use Rattle.pure_parser.proofs.Filling.{fill, fill_exprs, fill_key, fill_prop, fill_props, fill_function}
 

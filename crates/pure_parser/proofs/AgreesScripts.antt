@@ -11,11 +11,11 @@ use Rattle.script_grammar.specs.Pieces.{whole, brace, BracedArrow, Fits}
 use Rattle.script_grammar.specs.Print.{print_body, print_stmts}
 use Rattle.script_grammar.specs.Endings.{body_ending}
 use Rattle.pure_parser.specs.Parser.{Recorded, Reply, Read, Bad, Deep, Parser, head_of, put_before, after, ret, bad, bind, step, when, end_lexeme}
-use Rattle.pure_parser.specs.Exprs.{Env, Call, Calls, BodyParser, BodyRead, expect, pass_over, passed_body, passing, call_case, calls, no_calls}
+use Rattle.pure_parser.specs.Exprs.{Call, BodyParser, BodyRead, expect, pass_over, passed_body, passing, call_case, calls}
 use Rattle.pure_parser.specs.Stmts as parser
 use Rattle.pure_parser.specs.Stmts.{Place, StmtCalls, All, env_of, block_of, everything, in_place, reading, script_of, read_script, begins_stmt}
 use Rattle.pure_parser.proofs.Friendly.{Inside}
-use Rattle.pure_parser.proofs.Tests.{true_false, bool_cases}
+use Rattle.pure_parser.proofs.Tests.{bool_cases}
 use Rattle.pure_parser.proofs.Complete.{bare}
 use Rattle.pure_parser.proofs.Sound.{Outcome, Took}
 use Rattle.pure_parser.proofs.SoundParts.{IsBraced}
@@ -24,7 +24,7 @@ use Rattle.pure_parser.proofs.NestedTrees.{nested_stmts}
 use Rattle.pure_parser.proofs.Passing.{braced_pass, record_at, passed_reply, passing_here, passing_no}
 use Rattle.pure_parser.proofs.Agrees.{Verdict, fine, bad_at, deep_at, or_else, judged, records, MeetsAt, Meets, Agrees, agrees_no_room}
 use Rattle.pure_parser.proofs.Alike.{SameK, BodyK, StmtK}
-use Rattle.pure_parser.proofs.Filling.{fill_body, fill_stmts}
+use Rattle.pure_parser.proofs.Filling.{fill_body}
 use Rattle.pure_parser.proofs.AgreesExprs.{CallK, AgreesEnv, name_agrees}
 use Rattle.pure_parser.proofs.AgreesCalls.{case_agrees, no_calls_agrees}
 use Rattle.pure_parser.proofs.AgreesStmts.{AgreesBlock, StmtsK, OwnK, stmt_agrees, reading_agrees, script_agrees}

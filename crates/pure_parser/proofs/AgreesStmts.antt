@@ -1,26 +1,25 @@
 -- Parsers of statements that differ in how they read braced bodies agree, over calls that agree.
-use Rattle.std.proofs.Common.{◌≡◌, ℕ, zero, suc, List, [], ◌∷◌, ◌++◌, refl, sym, ap, ◌∙◌, Bool, true, false, ◌&&◌, ◌||◌, not, nat_le, Option, Some, None}
+use Rattle.std.proofs.Common.{◌≡◌, ℕ, List, [], ◌∷◌, ◌++◌, refl, sym, ap, ◌∙◌, Bool, true, false, ◌&&◌, ◌||◌, not, nat_le, Option, Some, None}
 use Rattle.script_grammar.specs.declared.token.FuncForm.{FuncForm}
 use Rattle.script_grammar.specs.declared.token.FuncForm.TheVariants as form
 use Rattle.script_grammar.specs.declared.token.mark.TheConstants as mark
 use Rattle.script_grammar.specs.declared.token.word.TheConstants as word
 use Rattle.script_grammar.specs.declared.token.Decl.{Decl}
 use Rattle.script_grammar.specs.declared.token.Decl.TheVariants as decl
-use Rattle.script_grammar.specs.Lexeme.{Lexeme}
 use Rattle.script_grammar.specs.Kinds.{is_mark, is_word, is_name, is_end}
 use Rattle.script_grammar.specs.Pieces.{Ending, BareBinding, Keyword, DoWhile, may_omit}
 use Rattle.script_grammar.specs.Endings.{ending, return_ending, binds_ending}
-use Rattle.script_grammar.specs.Proper.{rank, left_rank, takes_else, else_takes}
+use Rattle.script_grammar.specs.Proper.{rank, left_rank, takes_else}
 use Rattle.script_grammar.specs.Tree.{Named, Expr, Init, Each, Stmt, Stmts, Body}
 use Rattle.script_grammar.specs.Tree as tree
 use Rattle.script_grammar.specs.TreeLists.{Bind, Clause, maybe_expr_of, maybe_stmt_of, binds_of, stmts_of, clauses_of}
-use Rattle.pure_parser.specs.Parser.{Recorded, Reply, Parser, head_of, ret, bad, bind, peek, step, when, Turn, Again, Stop, Many, stopped, loop, led}
-use Rattle.pure_parser.specs.Exprs.{Env, AnAssign, BodyRead, expect, name_of, named, expr_of, function_of, again}
+use Rattle.pure_parser.specs.Parser.{Recorded, Reply, ret, bind, Turn, Again, Stop}
+use Rattle.pure_parser.specs.Exprs.{Env, AnAssign, BodyRead, named}
 use Rattle.pure_parser.specs.Stmts as parser
 use Rattle.pure_parser.specs.Stmts.{Place, AnItem, AStmt, StmtCalls, Block, is_item, is_inside, bound, clause}
 use Rattle.pure_parser.proofs.Agrees.{Agrees, TurnK, ListK, ManyK, agrees_bind, agrees_ret, agrees_bad, agrees_peek, agrees_step, agrees_when, agrees_if, agrees_made, agrees_loop, agrees_led}
 use Rattle.pure_parser.proofs.Alike.{AnyK, SameK, OptionK, ExprK, BindK, StmtK, ClauseK, list_append, maybe_same, binds_same, stmts_same, clauses_same, else_same, all_binds, return_alike, else_alike}
-use Rattle.pure_parser.proofs.Filling.{fill, fill_maybe, fill_binds, fill_init, fill_each, fill_stmt, fill_stmts, fill_clauses}
+use Rattle.pure_parser.proofs.Filling.{fill, fill_maybe, fill_init, fill_each, fill_stmt, fill_stmts}
 use Rattle.pure_parser.proofs.AgreesExprs.{AgreesEnv, done, agrees_two, expect_agrees, name_agrees, expr_agrees, function_agrees}
 
 module _ (bodies : ℕ → Body) where

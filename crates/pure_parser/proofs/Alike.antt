@@ -1,7 +1,7 @@
 -- What two parsers read that differ in how they read braced bodies: the second reads the first's tree with other bodies. What
 -- a parser looks at of a tree is the same in both: of an expression how loosely it binds and how it ends, and of a statement
 -- whether it would take an `else`.
-use Rattle.std.proofs.Common.{◌≡◌, ℕ, zero, suc, ◌+◌, List, [], ◌∷◌, ◌++◌, refl, sym, ap, ◌∙◌, subst, Bool, true, false, ◌&&◌, Option, Some, None, nat_le, is_none, if◌then◌else◌}
+use Rattle.std.proofs.Common.{◌≡◌, ℕ, List, [], ◌∷◌, ◌++◌, refl, sym, ap, ◌∙◌, ◌&&◌, Option, Some, None, is_none, if◌then◌else◌}
 use Rattle.script_grammar.specs.declared.token.FuncForm.{FuncForm}
 use Rattle.script_grammar.specs.Kinds.{is_arrow_form, op_level}
 use Rattle.script_grammar.specs.Tree.{Named, Expr, Exprs, more_exprs, more_operands, more_tails, more_items, more_parts, more_props, more_params, more_binds, more_stmts, more_clauses, some_expr, some_args, some_stmt, MaybeExpr, Tail, Key, Prop, Function, function, Body, Stmt}
@@ -11,9 +11,8 @@ use Rattle.script_grammar.specs.Pieces.{Ending}
 use Rattle.script_grammar.specs.Pieces as pieces
 use Rattle.script_grammar.specs.Endings.{ending, last_ending, operands_ending, function_ending, body_ending, bind_ending, binds_ending, return_ending}
 use Rattle.script_grammar.specs.Proper.{rank, function_rank, new_rank, level_rank, is_member_tail, are_member_tails, takes_else, else_takes}
-use Rattle.pure_parser.specs.Exprs.{BodyRead, Head, ParamsEnd, Plain, Trailing, Rest, function_case, head_case, comma_case, list_case, chain_case, binary_case, with_last, ended_params, is_trailing, rest_param, some_last, has_items, array_case}
-use Rattle.pure_parser.specs.Parser.{Many}
-use Rattle.pure_parser.proofs.Agrees.{ListK, ManyK}
+use Rattle.pure_parser.specs.Exprs.{BodyRead, Head, ParamsEnd, Plain, Trailing, Rest, function_case, head_case, comma_case, list_case, chain_case, binary_case, with_last, rest_param, some_last, has_items, array_case}
+use Rattle.pure_parser.proofs.Agrees.{ListK}
 use Rattle.pure_parser.proofs.Filling.{fill, fill_exprs, fill_maybe, fill_args, fill_parts, fill_items, fill_operands, fill_tails, fill_tail, fill_key, fill_prop, fill_props, fill_function, fill_params, fill_body, fill_binds, fill_stmt, fill_stmts, fill_else, fill_clauses}
 
 abbrev pub AnyK : {A B : Type 0} → A → B → Type 0

@@ -1,7 +1,7 @@
 -- What the parsers of parts that are read alone answer, by the definitions alone: an AssignmentExpression, an Expression, a
 -- braced body and a function. Each reads a part where its lexemes stand and no token is too deep, with its one tree, and where it faults
 -- there is the first fault of such a part. Bodies are read in place.
-use Rattle.std.proofs.Common.{◌≡◌, ℕ, zero, suc, ◌+◌, ◌-◌, ◌≤◌, List, [], ◌∷◌, ◌++◌, length, refl, sym, ap, ◌∙◌, subst, arith, Bool, true, false, None}
+use Rattle.std.proofs.Common.{◌≡◌, ℕ, suc, ◌+◌, ◌-◌, List, [], ◌++◌, length, refl, sym, ap, ◌∙◌, subst, arith, Bool, true, false, None}
 use Rattle.script_grammar.specs.declared.token.FuncForm.{FuncForm}
 use Rattle.script_grammar.specs.declared.token.FuncForm.TheVariants as form
 use Rattle.script_grammar.specs.Lexeme.{Lexeme}
@@ -9,17 +9,17 @@ use Rattle.script_grammar.specs.Kinds.{is_end}
 use Rattle.script_grammar.specs.Tree.{Expr, Stmts, Function}
 use Rattle.script_grammar.specs.Tree as tree
 use Rattle.script_grammar.specs.Endings.{ending}
-use Rattle.script_grammar.specs.Pieces.{whole, depths, Fits}
+use Rattle.script_grammar.specs.Pieces.{whole, depths}
 use Rattle.script_grammar.specs.Print.{print, print_body}
 use Rattle.script_grammar.specs.Script.{IsAssign, IsExpression, IsBody, IsFunction, print_braced, print_alone}
-use Rattle.script_grammar.specs.Fault.{depth_limit, Part, AssignPart, ExpressionPart, BodyPart, FunctionPart, Begins, Unexpected, TooDeep, FirstFault}
-use Rattle.pure_parser.specs.Parser.{Reply, Read, Bad, Deep, Parser, head_of, when, end_lexeme}
+use Rattle.script_grammar.specs.Fault.{depth_limit, AssignPart, ExpressionPart, BodyPart, FunctionPart, Begins, Unexpected, TooDeep, FirstFault}
+use Rattle.pure_parser.specs.Parser.{Read, Bad, Deep, Parser, head_of, when, end_lexeme}
 use Rattle.pure_parser.specs.Exprs.{Env, AnAssign, BodyRead, expr_of, function_of}
 use Rattle.pure_parser.specs.Stmts as parser
 use Rattle.pure_parser.specs.Stmts.{StmtCalls, env_of, everything, in_place, reading, read_alone}
 use Rattle.pure_parser.specs.Follow.{continues_assign, continues_expr}
 use Rattle.pure_parser.proofs.Friendly.{AtFront, Inside}
-use Rattle.pure_parser.proofs.Complete.{Parses, bare}
+use Rattle.pure_parser.proofs.Complete.{bare}
 use Rattle.pure_parser.proofs.Stops.{stop_end, stop_assign}
 use Rattle.pure_parser.proofs.SoundParts.{IsExpr, IsBraced, SoundEnv}
 use Rattle.pure_parser.proofs.SoundLists.{expr_sound}
@@ -35,7 +35,7 @@ use Rattle.pure_parser.proofs.Bracketed.{AllInner}
 use Rattle.pure_parser.proofs.NestedTrees.{nested_expr, nested_body, nested_function}
 use Rattle.pure_parser.proofs.Nested.{Nested}
 use Rattle.pure_parser.proofs.FunctionAlone.{IsAlone, alone_print, proper_alone, alone_sound, alone_local, alone_complete}
-use Rattle.pure_parser.proofs.FirstFaults.{Whole, Decides, Cuts, first_bad, first_deep, read_shallow}
+use Rattle.pure_parser.proofs.FirstFaults.{Whole, Decides, first_bad, first_deep, read_shallow}
 use Rattle.pure_parser.proofs.PartLaws.{bad_part, deep_part, nested_inner, of_read, cuts_end, part_is_read, NoneDeep, both_stand, one_read, room_of, ends_there}
 
 -- the parsers, with so much room for depth

@@ -1,31 +1,31 @@
 -- Where an arrow begins: at the lexemes of an arrow its mark is found behind the name or the partner of the parenthesis; at
 -- those of any other AssignmentExpression none is found there.
-use Rattle.std.proofs.Common.{◌≡◌, ℕ, zero, suc, ◌+◌, ◌≤◌, ◌<◌, List, [], ◌∷◌, ◌++◌, length, refl, sym, ap, ◌∙◌, subst, arith, append_assoc, Bool, true, false, not, ◌&&◌, ◌||◌, nat_eq, Option, Some, None, if◌then◌else◌, ◌⊎◌, inl, inr}
+use Rattle.std.proofs.Common.{◌≡◌, ℕ, zero, suc, ◌+◌, ◌≤◌, ◌<◌, List, [], ◌∷◌, ◌++◌, refl, sym, ap, ◌∙◌, subst, arith, append_assoc, Bool, true, false, not, ◌&&◌, ◌||◌, nat_eq, Option, Some, None, if◌then◌else◌, ◌⊎◌, inl, inr}
 use Rattle.std.proofs.lemmas.Bool.{eqb-true}
 use Rattle.script_grammar.specs.declared.token.Kind.{Kind}
 use Rattle.script_grammar.specs.declared.token.Kind.TheVariants as kind
 use Rattle.script_grammar.specs.declared.token.FuncForm.TheVariants as form
 use Rattle.script_grammar.specs.declared.token.mark.TheConstants as mark
 use Rattle.script_grammar.specs.Lexeme.{Lexeme}
-use Rattle.script_grammar.specs.Kinds.{is_mark, is_name, is_assign_op, op_kind, op_level, mark_level, is_prefix_op, is_update, is_arrow_form}
+use Rattle.script_grammar.specs.Kinds.{is_mark, is_name, is_assign_op, op_kind, op_level, mark_level, is_prefix_op, is_arrow_form}
 use Rattle.script_grammar.specs.Tree.{Named, Expr, Params, no_params, more_params, MaybeExpr, no_expr, some_expr, Function, function, Body, Tails, no_tails, more_tails, Operands, no_operands, more_operands, Parts, no_parts, more_parts}
 use Rattle.script_grammar.specs.Tree as tree
-use Rattle.script_grammar.specs.Pieces.{Bodies, Piece, At, Gap, Pass, Slot, Opener, paren, open_behind, open_at_end, comma_piece, mark_piece, name_piece, glued_mark, placed, from}
-use Rattle.script_grammar.specs.Endings.{ending, body_ending}
+use Rattle.script_grammar.specs.Pieces.{Bodies, Piece, At, Gap, Pass, Opener, paren, open_behind, open_at_end, comma_piece, mark_piece, name_piece, glued_mark, placed, from}
+use Rattle.script_grammar.specs.Endings.{ending}
 use Rattle.script_grammar.specs.Print.{print, print_params, print_tails, print_operands, print_body, first_kind}
-use Rattle.script_grammar.specs.Proper.{rank, Proper, ProperFunction, BareIf, HasTails, HasOperands, operands_level, function_rank, first_rank, operand_rank, level_rank}
-use Rattle.pure_parser.specs.Parser.{head_of, rest_of}
-use Rattle.pure_parser.specs.Exprs.{is_arrow, is_arrow_head, arrow_behind, closed_case, begins_assign}
+use Rattle.script_grammar.specs.Proper.{rank, Proper, HasTails, HasOperands, operands_level, first_rank}
+use Rattle.pure_parser.specs.Parser.{head_of}
+use Rattle.pure_parser.specs.Exprs.{is_arrow, is_arrow_head, arrow_behind, closed_case}
 use Rattle.pure_parser.specs.Follow.{continues_assign}
 use Rattle.pure_parser.proofs.Friendly.{first_of}
 use Rattle.pure_parser.proofs.Fitting.{head_first}
 use Rattle.pure_parser.proofs.Tests.{false_true, true_false, bool_cases, and_both, not_true, neither_left, neither_right, or_cases}
 use Rattle.pure_parser.proofs.Stands.{Marked, lexemes, Stands, stands_split, stands_fit}
 use Rattle.pure_parser.proofs.Complete.{joined}
-use Rattle.pure_parser.proofs.Completes.{Leads, at_kind, lead_none, lead_at, lead_any}
+use Rattle.pure_parser.proofs.Completes.{Leads, at_kind, lead_at}
 use Rattle.pure_parser.proofs.Nested.{Nested, deeper_behind, nested_append, comma_nested}
 use Rattle.pure_parser.proofs.NestedTrees.{nested_expr, nested_params}
-use Rattle.pure_parser.proofs.ExprFronts.{Opens, opens_append, opens_first, opens_some, update_is}
+use Rattle.pure_parser.proofs.ExprFronts.{Opens, opens_first, opens_some, update_is}
 use Rattle.pure_parser.proofs.CompletePlain.{IsArrow}
 
 -- the walk behind a parenthesis

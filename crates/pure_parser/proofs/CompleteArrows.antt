@@ -1,22 +1,22 @@
 -- Completeness of an arrow's parameters.
-use Rattle.std.proofs.Common.{◌≡◌, ℕ, zero, suc, ◌≤◌, ◌<◌, List, [], ◌∷◌, ◌++◌, length, refl, sym, ap, ◌∙◌, subst, arith, append_assoc, append-nil, Bool, true, false, not, ◌&&◌, ◌||◌, Option, Some, None}
+use Rattle.std.proofs.Common.{◌≡◌, ℕ, suc, ◌≤◌, ◌<◌, List, [], ◌∷◌, ◌++◌, length, refl, sym, ap, ◌∙◌, subst, arith, append_assoc, Bool, true, false, ◌||◌, Option, Some, None}
 use Rattle.script_grammar.specs.declared.token.Kind.TheVariants as kind
 use Rattle.script_grammar.specs.declared.token.mark.TheConstants as mark
 use Rattle.script_grammar.specs.Lexeme.{Lexeme}
 use Rattle.script_grammar.specs.Kinds.{is_mark, is_name}
 use Rattle.script_grammar.specs.Tree.{Named, Expr, MaybeExpr, no_expr, some_expr, Params, no_params, more_params}
-use Rattle.script_grammar.specs.TreeLists.{Param, params_of, maybe_expr_of}
-use Rattle.script_grammar.specs.Pieces.{Bodies, Piece, mark_piece, name_piece, comma_piece, glued_mark, placed}
-use Rattle.script_grammar.specs.Print.{print, print_params, print_more_params, print_initializer}
+use Rattle.script_grammar.specs.TreeLists.{Param, maybe_expr_of}
+use Rattle.script_grammar.specs.Pieces.{Bodies, Piece, mark_piece, name_piece, comma_piece}
+use Rattle.script_grammar.specs.Print.{print_params, print_more_params, print_initializer}
 use Rattle.script_grammar.specs.Proper.{ProperMaybe, ProperParams, AreParams}
-use Rattle.pure_parser.specs.Parser.{Read, Parser, head_of, rest_of, ret, bad, bind, peek, step, when, Turn, Again, Stop, loop, stopped, begun, Many}
+use Rattle.pure_parser.specs.Parser.{Read, head_of, rest_of, ret, bind, step, when, Turn, Again, Stop, loop, stopped, begun, Many}
 use Rattle.pure_parser.specs.Exprs as parser
 use Rattle.pure_parser.specs.Exprs.{Env, AParam, ARest, expect, param, ParamsEnd, Plain, Trailing, Rest, Head, head_case, is_param_form}
 use Rattle.pure_parser.proofs.Friendly.{first_of}
 use Rattle.pure_parser.proofs.Tests.{true_false, and_both, or_left, or_right, or_cases, mark_known}
 use Rattle.pure_parser.proofs.Stands.{Marked, lexemes, Stands}
-use Rattle.pure_parser.proofs.Complete.{Parses, bare, AllK, flat}
-use Rattle.pure_parser.proofs.Completes.{Completes, Leads, Any, at_kind, lead_none, lead_at, lead_any, lead_map, c_ret, c_bind, c_made, c_at, c_front, c_look, c_weaken, c_pieces, c_mark}
+use Rattle.pure_parser.proofs.Complete.{Parses, bare}
+use Rattle.pure_parser.proofs.Completes.{Completes, Leads, Any, lead_none, lead_at, lead_any, lead_map, c_ret, c_bind, c_made, c_at, c_front, c_look, c_weaken, c_pieces, c_mark}
 use Rattle.pure_parser.proofs.CompleteLoops.{c_loop, LastLeads}
 use Rattle.pure_parser.proofs.CompleteStmts.{c_value}
 use Rattle.pure_parser.proofs.CompleteBinds.{option_of}

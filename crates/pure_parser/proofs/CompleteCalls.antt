@@ -1,40 +1,40 @@
 -- Completeness of an AssignmentExpression, and of all calls that count for the depth: over the calls one deeper, and where
 -- no room for depth is left.
-use Rattle.std.proofs.Common.{◌≡◌, ℕ, suc, ◌≤◌, ◌<◌, List, [], ◌∷◌, ◌++◌, refl, sym, ap, ◌∙◌, subst, arith, Bool, true, false, Option, Some, None, ◌⊎◌, inl, inr}
+use Rattle.std.proofs.Common.{◌≡◌, ℕ, suc, ◌≤◌, List, [], ◌∷◌, ◌++◌, refl, ap, ◌∙◌, subst, arith, Bool, true, false, ◌⊎◌, inl, inr}
 use Rattle.script_grammar.specs.declared.token.Kind.TheVariants as kind
 use Rattle.script_grammar.specs.declared.token.FuncForm.TheVariants as form
 use Rattle.script_grammar.specs.declared.token.mark.TheConstants as mark
 use Rattle.script_grammar.specs.Lexeme.{Lexeme}
-use Rattle.script_grammar.specs.Kinds.{is_mark, is_name, is_arrow_form}
+use Rattle.script_grammar.specs.Kinds.{is_mark, is_arrow_form}
 use Rattle.script_grammar.specs.Tree.{Named, Expr, MaybeExpr, no_expr, some_expr, Function, function}
 use Rattle.script_grammar.specs.Tree as tree
 use Rattle.script_grammar.specs.TreeLists.{Param, maybe_expr_of}
-use Rattle.script_grammar.specs.Pieces.{Bodies, Piece, mark_piece, name_piece}
-use Rattle.script_grammar.specs.Endings.{ending, body_ending}
+use Rattle.script_grammar.specs.Pieces.{Bodies, mark_piece, name_piece}
+use Rattle.script_grammar.specs.Endings.{ending}
 use Rattle.script_grammar.specs.Print.{print}
 use Rattle.script_grammar.specs.Proper.{rank, Proper, ProperMaybe, free_of_in, InIf, assign_rank}
-use Rattle.pure_parser.specs.Parser.{Parser, head_of, bad, step, when}
+use Rattle.pure_parser.specs.Parser.{head_of, bad, step, when}
 use Rattle.pure_parser.specs.Exprs as parser
 use Rattle.pure_parser.specs.Exprs.{Env, Calls, AnAssign, APrefix, ANew, AParam, ARest, BodyParser, name_of, param, is_arrow_head, no_calls, call_case, begins_call, begins_assign}
 use Rattle.pure_parser.specs.Follow.{continues_assign}
 use Rattle.pure_parser.proofs.Tests.{false_true}
-use Rattle.pure_parser.proofs.Stands.{Marked, lexemes, Stands}
-use Rattle.pure_parser.proofs.Complete.{Parses, bare, deep_at}
+use Rattle.pure_parser.proofs.Stands.{lexemes}
+use Rattle.pure_parser.proofs.Complete.{bare, deep_at}
 use Rattle.pure_parser.proofs.SoundParts.{print_param}
-use Rattle.pure_parser.proofs.Completes.{Completes, Any, at_kind, c_at}
-use Rattle.pure_parser.proofs.CompleteStmts.{c_value, name_complete}
+use Rattle.pure_parser.proofs.Completes.{Completes, Any, c_at}
+use Rattle.pure_parser.proofs.CompleteStmts.{name_complete}
 use Rattle.pure_parser.proofs.CompleteBinds.{option_of}
 use Rattle.pure_parser.proofs.CompleteParts.{CompleteEnv, CompleteCalls, ParamFollow, UnaryStops, NewFollow, IsPrefixed, IsNew}
 use Rattle.pure_parser.proofs.CompletePrims.{prim_complete}
 use Rattle.pure_parser.proofs.CompleteUnary.{new_complete}
-use Rattle.pure_parser.proofs.CompletePrefix.{unary_complete, unary_prefix, update_prefix, has_op, prefixed_opens}
+use Rattle.pure_parser.proofs.CompletePrefix.{unary_complete, unary_prefix, update_prefix, prefixed_opens}
 use Rattle.pure_parser.proofs.CompletePlain.{IsArrow, plain_complete}
 use Rattle.pure_parser.proofs.CompleteFunctions.{param_complete}
 use Rattle.pure_parser.proofs.CompleteArrows.{same_param}
 use Rattle.pure_parser.proofs.CompleteHeads.{arrow_complete}
 use Rattle.pure_parser.proofs.ArrowFronts.{arrow_found, lone_follows, no_head}
 use Rattle.pure_parser.proofs.DeepFronts.{expr_deep, unary_deep, update_deep, new_deep, c_no_room}
-use Rattle.pure_parser.proofs.ExprFronts.{Opens, expr_opens}
+use Rattle.pure_parser.proofs.ExprFronts.{expr_opens}
 
 -- an expression is an arrow or none
 

@@ -1,28 +1,27 @@
 -- Completeness of all calls of the parser of scripts, with whatever room for depth; of scripts; and of parts that are read
 -- alone.
-use Rattle.std.proofs.Common.{◌≡◌, ℕ, zero, suc, ◌+◌, ◌≤◌, ◌<◌, List, [], ◌∷◌, ◌++◌, refl, sym, ap, ◌∙◌, subst, arith, append-nil, Bool, true, false, Some}
+use Rattle.std.proofs.Common.{◌≡◌, ℕ, zero, suc, ◌+◌, ◌≤◌, List, [], ◌∷◌, ◌++◌, refl, sym, ap, ◌∙◌, subst, arith, append-nil, Bool, true, false, Some}
 use Rattle.script_grammar.specs.declared.token.Kind.TheVariants as kind
 use Rattle.script_grammar.specs.declared.token.FuncForm.{FuncForm}
 use Rattle.script_grammar.specs.declared.token.FuncForm.TheVariants as form
 use Rattle.script_grammar.specs.declared.token.mark.TheConstants as mark
 use Rattle.script_grammar.specs.Lexeme.{Lexeme}
-use Rattle.script_grammar.specs.Kinds.{is_mark, is_name, is_end}
+use Rattle.script_grammar.specs.Kinds.{is_name, is_end}
 use Rattle.script_grammar.specs.Tree.{Named, Expr, Stmt, Stmts, Function, function}
 use Rattle.script_grammar.specs.Tree as tree
 use Rattle.script_grammar.specs.TreeLists.{stmts_of}
-use Rattle.script_grammar.specs.Pieces.{Bodies, whole, Piece, Is, mark_piece, closing_mark, name_piece}
-use Rattle.script_grammar.specs.Print.{print, print_stmts, print_stmt, print_function, print_body}
-use Rattle.script_grammar.specs.Proper.{Proper, ProperStmt, ProperStmts, ProperBody, ProperFunction, is_statement}
+use Rattle.script_grammar.specs.Pieces.{Bodies, whole, mark_piece, closing_mark, name_piece}
+use Rattle.script_grammar.specs.Print.{print_stmts, print_stmt, print_function}
+use Rattle.script_grammar.specs.Proper.{ProperStmts, ProperFunction}
 use Rattle.script_grammar.specs.Script.{IsOf}
-use Rattle.pure_parser.specs.Parser.{Read, Parser, head_of, ret, bad, bind, peek, step, when}
-use Rattle.pure_parser.specs.Exprs.{Env, Calls, BodyParser, BodyRead, expect, name_of, named, function_of, no_calls}
+use Rattle.pure_parser.specs.Parser.{Read, head_of, ret, bad, bind, when}
+use Rattle.pure_parser.specs.Exprs.{Env, BodyParser, function_of}
 use Rattle.pure_parser.specs.Stmts as parser
 use Rattle.pure_parser.specs.Stmts.{Place, StmtCalls, Block, All, env_of, block_of, all_case, is_item, is_inside, begins_stmt, ends_items}
 use Rattle.pure_parser.proofs.Tests.{end_known}
-use Rattle.pure_parser.proofs.Stands.{Marked, lexemes, Stands}
-use Rattle.pure_parser.proofs.Complete.{Parses, bare, deep_at}
-use Rattle.pure_parser.proofs.Completes.{Completes, Leads, Any, at_kind, lead_none, lead_at, lead_any, lead_map, c_ret, c_bind, c_made, c_at, c_look, c_weaken, c_pieces, c_mark}
-use Rattle.pure_parser.proofs.CompleteStmts.{Follows, EndsList, CompleteUses, CompleteStmts, CompleteBlock, c_value, name_complete, list_of, of_list, stmts_complete}
+use Rattle.pure_parser.proofs.Complete.{bare, deep_at}
+use Rattle.pure_parser.proofs.Completes.{Completes, Leads, Any, at_kind, lead_none, lead_at, lead_any, lead_map, c_ret, c_bind, c_at, c_look, c_pieces, c_mark}
+use Rattle.pure_parser.proofs.CompleteStmts.{EndsList, CompleteUses, CompleteStmts, CompleteBlock, c_value, name_complete, list_of, of_list, stmts_complete}
 use Rattle.pure_parser.proofs.CompleteParts.{CompleteEnv, CompleteCalls, CompleteBody, expr_complete}
 use Rattle.pure_parser.proofs.CompleteFunctions.{function_complete}
 use Rattle.pure_parser.proofs.CompleteEach.{stmt_complete}

@@ -1,38 +1,28 @@
 -- Completeness of functions that are no arrows: at their lexemes they are read.
-use Rattle.std.proofs.Common.{◌≡◌, ℕ, zero, suc, ◌+◌, ◌≤◌, ◌<◌, List, [], ◌∷◌, ◌++◌, length, refl, sym, ap, ◌∙◌, subst, arith, append_assoc, append-nil, Bool, true, false, not, ◌&&◌, ◌||◌, Option, Some, None, is_none, if◌then◌else◌}
-use Rattle.script_grammar.specs.declared.token.Kind.{Kind}
+use Rattle.std.proofs.Common.{◌≡◌, ℕ, ◌≤◌, ◌<◌, List, [], ◌∷◌, ◌++◌, length, refl, sym, ap, ◌∙◌, subst, arith, append_assoc, append-nil, Bool, true, false, Option, Some, None}
 use Rattle.script_grammar.specs.declared.token.Kind.TheVariants as kind
 use Rattle.script_grammar.specs.declared.token.mark.TheConstants as mark
 use Rattle.script_grammar.specs.declared.token.FuncForm.{FuncForm}
 use Rattle.script_grammar.specs.declared.token.FuncForm.TheVariants as form
 use Rattle.script_grammar.specs.Lexeme.{Lexeme}
-use Rattle.script_grammar.specs.Kinds.{is_mark, is_name, is_any_word, is_arrow_form}
+use Rattle.script_grammar.specs.Kinds.{is_mark, is_name}
 use Rattle.script_grammar.specs.Tree.{Named, Expr, MaybeExpr, no_expr, some_expr, Params, no_params, more_params, Function, function, Body, BracedBody, ShortBody, Stmts}
 use Rattle.script_grammar.specs.Tree as tree
 use Rattle.script_grammar.specs.TreeLists.{Param, params_of, maybe_expr_of}
-use Rattle.script_grammar.specs.Pieces.{Bodies, Ending, Piece, At, Slot, Is, mark_piece, name_piece, comma_piece, placed}
-use Rattle.script_grammar.specs.Endings.{ending}
-use Rattle.script_grammar.specs.Print.{print, print_params, print_more_params, print_initializer, print_body, print_function, print_func, parenthesized, print_name, ellipsis, arrow_pieces, param_depth}
-use Rattle.script_grammar.specs.Proper.{rank, Proper, ProperMaybe, ProperParams, ProperFunction, ProperBody, AreParams, SuitsForm, IsOneParam, BareIf}
-use Rattle.pure_parser.specs.Parser.{Reply, Read, Parser, head_of, ret, bad, bind, peek, step, when, Turn, Again, Stop, loop, Many, stopped, begun, led}
+use Rattle.script_grammar.specs.Pieces.{Bodies, Piece, mark_piece, name_piece, comma_piece, placed}
+use Rattle.script_grammar.specs.Print.{print_params, print_initializer, print_body, print_function, parenthesized, print_name}
+use Rattle.script_grammar.specs.Proper.{ProperMaybe, ProperParams, ProperFunction, ProperBody, AreParams, SuitsForm, IsOneParam}
+use Rattle.pure_parser.specs.Parser.{Read, head_of, ret, bind, step, when, Turn, Again, Stop, stopped}
 use Rattle.pure_parser.specs.Exprs as parser
 use Rattle.pure_parser.specs.Exprs.{Env, AnAssign, ParamsEnd, Plain, Trailing, Rest, Head, BodyRead, expect, name_of, named, param, rest_param, ended_params, is_trailing, head_case, function_case, is_simple}
-use Rattle.pure_parser.specs.Follow.{continues_assign}
-use Rattle.pure_parser.proofs.Friendly.{first_of}
 use Rattle.pure_parser.proofs.Tests.{false_true, true_false}
 use Rattle.pure_parser.proofs.Stands.{Marked, lexemes, Stands}
-use Rattle.pure_parser.proofs.Complete.{bare, AllK, flat}
-use Rattle.pure_parser.proofs.SoundParts.{print_param}
-use Rattle.pure_parser.proofs.Completes.{Completes, Leads, Any, of_kind, at_kind, lead_none, lead_at, lead_any, lead_map, c_ret, c_bind, c_made, c_at, c_front, c_look, c_weaken, c_pieces, c_mark}
-use Rattle.pure_parser.proofs.CompleteLoops.{c_loop, LastLeads}
+use Rattle.pure_parser.proofs.Complete.{bare}
+use Rattle.pure_parser.proofs.Completes.{Completes, Any, at_kind, lead_at, lead_any, c_ret, c_bind, c_made, c_at, c_front, c_look, c_weaken, c_pieces, c_mark}
 use Rattle.pure_parser.proofs.CompleteStmts.{c_value, name_complete, named_is}
 use Rattle.pure_parser.proofs.CompleteBinds.{option_of}
-use Rattle.pure_parser.proofs.Stops.{stop_comma, stop_assign, stop_close}
 use Rattle.pure_parser.proofs.CompleteParts.{CompleteEnv, ParamFollow}
-use Rattle.script_grammar.specs.Print.{func_word}
-use Rattle.script_grammar.specs.declared.token.word.TheConstants as word
-use Rattle.script_grammar.specs.Proper.{IsFuncExpression}
-use Rattle.pure_parser.proofs.CompleteParams.{singles, ends_as, ended_more, params_complete, single_pieces, end_pieces, IsSingle, Closes, comma_follows, close_follows}
+use Rattle.pure_parser.proofs.CompleteParams.{singles, ends_as, ended_more, params_complete, single_pieces, end_pieces, IsSingle, Closes, close_follows}
 
 -- the forms with the word `function` or in an object
 abbrev pub PlainForm : FuncForm → Type 0

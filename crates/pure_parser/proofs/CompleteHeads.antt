@@ -1,33 +1,32 @@
 -- Completeness of arrows: their parameters, the mark and the body.
-use Rattle.std.proofs.Common.{◌≡◌, ℕ, zero, suc, ◌≤◌, ◌<◌, List, [], ◌∷◌, ◌++◌, length, refl, sym, ap, ◌∙◌, subst, arith, append_assoc, append-nil, Bool, true, false, not, ◌&&◌, ◌||◌, Option, Some, None, if◌then◌else◌}
+use Rattle.std.proofs.Common.{◌≡◌, ℕ, suc, ◌≤◌, ◌<◌, List, [], ◌∷◌, ◌++◌, length, refl, sym, ap, ◌∙◌, subst, arith, Bool, true, false, not, Option, None, if◌then◌else◌}
 use Rattle.script_grammar.specs.declared.token.Kind.TheVariants as kind
 use Rattle.script_grammar.specs.declared.token.mark.TheConstants as mark
 use Rattle.script_grammar.specs.declared.token.FuncForm.TheVariants as form
 use Rattle.script_grammar.specs.Lexeme.{Lexeme}
-use Rattle.script_grammar.specs.Kinds.{is_mark, is_name}
+use Rattle.script_grammar.specs.Kinds.{is_mark}
 use Rattle.script_grammar.specs.Tree.{Named, Expr, MaybeExpr, no_expr, some_expr, Params, no_params, more_params, Function, function, Body, BracedBody, ShortBody, Stmts}
 use Rattle.script_grammar.specs.Tree as tree
-use Rattle.script_grammar.specs.TreeLists.{Param, params_of}
-use Rattle.script_grammar.specs.Pieces.{Bodies, whole, Piece, mark_piece, name_piece, comma_piece, glued_mark, placed, until}
+use Rattle.script_grammar.specs.TreeLists.{params_of}
+use Rattle.script_grammar.specs.Pieces.{Bodies, whole, Piece, mark_piece, glued_mark, until}
 use Rattle.script_grammar.specs.Endings.{ending, body_ending}
 use Rattle.script_grammar.specs.Print.{print, print_params, print_body, parenthesized}
-use Rattle.script_grammar.specs.Proper.{rank, Proper, ProperParams, ProperBody, ProperFunction, AreParams, IsBare, BareIf, free_of_in, body_free, InIf, assign_rank, begins_brace}
-use Rattle.pure_parser.specs.Parser.{Read, Parser, head_of, ret, bad, bind, peek, step, when}
+use Rattle.script_grammar.specs.Proper.{rank, Proper, ProperParams, ProperBody, AreParams, IsBare, BareIf, free_of_in, body_free, InIf, assign_rank, begins_brace}
+use Rattle.pure_parser.specs.Parser.{Read, head_of, ret, bad, bind, step, when}
 use Rattle.pure_parser.specs.Exprs as parser
 use Rattle.pure_parser.specs.Exprs.{Env, AnAssign, Head, BodyRead, Spanned, spanned, named, param, is_simple, is_arrow, arrow_case, bare_head, begins_assign, last_end, head_case}
 use Rattle.pure_parser.specs.Follow.{continues_assign}
 use Rattle.pure_parser.proofs.Begins.{begins_same}
-use Rattle.pure_parser.proofs.Tests.{and_both, mark_known}
+use Rattle.pure_parser.proofs.Tests.{and_both}
 use Rattle.pure_parser.proofs.Stands.{Marked, lexemes, Stands}
 use Rattle.pure_parser.proofs.Spanned.{parses_spanned}
 use Rattle.pure_parser.proofs.Complete.{Parses, bare, parses_map}
-use Rattle.pure_parser.proofs.Completes.{Completes, Leads, Any, at_kind, lead_none, lead_at, lead_any, lead_map, c_ret, c_bind, c_made, c_at, c_front, c_look, c_weaken, c_pieces, c_mark}
+use Rattle.pure_parser.proofs.Completes.{Completes, Any, at_kind, lead_any, c_ret, c_bind, c_made, c_at, c_front, c_weaken, c_pieces}
 use Rattle.pure_parser.proofs.CompleteStmts.{c_value, named_is}
 use Rattle.pure_parser.proofs.CompleteParts.{CompleteEnv}
-use Rattle.pure_parser.proofs.CompleteParams.{singles, ends_as, ended_more}
+use Rattle.pure_parser.proofs.CompleteParams.{ended_more}
 use Rattle.pure_parser.proofs.CompleteArrows.{listed_complete, many_of}
-use Rattle.pure_parser.proofs.CompletePlain.{IsArrow}
-use Rattle.pure_parser.proofs.ExprFronts.{Opens, opens_first, opens_some, expr_opens, not_begun}
+use Rattle.pure_parser.proofs.ExprFronts.{opens_some, expr_opens, not_begun}
 use Rattle.pure_parser.proofs.ExprEnds.{expr_ends, until_stands}
 
 module _ (limit : ℕ) (m : Bodies) (d : ℕ) (low : d ≤ limit) (v : Env) (c : CompleteEnv limit m d v) where

@@ -1,22 +1,21 @@
 -- Completeness of arrays and templates: at their lexemes they are read.
-use Rattle.std.proofs.Common.{◌≡◌, ℕ, zero, suc, ◌+◌, ◌≤◌, ◌<◌, List, [], ◌∷◌, ◌++◌, length, refl, sym, ap, ◌∙◌, subst, arith, append_assoc, append-nil, Bool, true, false, not, ◌&&◌, ◌||◌, Option, Some, None, nat_le, is_none}
+use Rattle.std.proofs.Common.{◌≡◌, ℕ, suc, ◌≤◌, ◌<◌, List, [], ◌∷◌, ◌++◌, length, refl, sym, ap, ◌∙◌, subst, arith, append_assoc, append-nil, Bool, true, false, Option, Some, None}
 use Rattle.script_grammar.specs.declared.token.Kind.{Kind}
 use Rattle.script_grammar.specs.declared.token.Kind.TheVariants as kind
 use Rattle.script_grammar.specs.declared.token.mark.TheConstants as mark
 use Rattle.script_grammar.specs.Lexeme.{Lexeme}
-use Rattle.script_grammar.specs.Kinds.{is_mark, is_middle, is_tail}
+use Rattle.script_grammar.specs.Kinds.{is_mark}
 use Rattle.script_grammar.specs.Tree.{Expr, MaybeExpr, no_expr, some_expr, Items, no_items, more_items, Parts, no_parts, more_parts}
 use Rattle.script_grammar.specs.Tree as tree
 use Rattle.script_grammar.specs.TreeLists.{Part, items_of, parts_of, maybe_expr_of}
-use Rattle.script_grammar.specs.Pieces.{Bodies, Ending, BracedArrow, Postfix, Operand, BareBinding, Keyword, DoWhile, Piece, At, Slot, Is, mark_piece, comma_piece, template_piece}
+use Rattle.script_grammar.specs.Pieces.{Bodies, Ending, BracedArrow, Postfix, Operand, BareBinding, Keyword, DoWhile, Piece, mark_piece, comma_piece, template_piece}
 use Rattle.script_grammar.specs.Endings.{ending}
-use Rattle.script_grammar.specs.Print.{print, print_maybe, print_items, print_more_items, print_parts, part_kind}
+use Rattle.script_grammar.specs.Print.{print, print_maybe, print_items, print_parts}
 use Rattle.script_grammar.specs.Proper.{rank, Proper, ProperItems, ProperMaybe, ProperParts, AreItems, is_hole, assign_rank}
-use Rattle.pure_parser.specs.Parser.{Reply, Read, Parser, head_of, ret, bad, bind, peek, step, when, Turn, Again, Stop, loop, Many}
+use Rattle.pure_parser.specs.Parser.{Read, head_of, ret, bind, step, when, Turn, Again, Stop, loop}
 use Rattle.pure_parser.specs.Exprs as parser
 use Rattle.pure_parser.specs.Exprs.{Env, AnAssign, expect, begins_assign}
 use Rattle.pure_parser.specs.Follow.{continues_assign, continues_expr}
-use Rattle.pure_parser.proofs.Friendly.{first_of}
 use Rattle.pure_parser.proofs.Tests.{false_true, true_false}
 use Rattle.pure_parser.proofs.Stands.{Marked, lexemes, Stands}
 use Rattle.pure_parser.proofs.Complete.{bare, AllK, flat}
@@ -24,7 +23,7 @@ use Rattle.pure_parser.proofs.Completes.{Completes, Leads, Any, of_kind, at_kind
 use Rattle.pure_parser.proofs.CompleteLoops.{c_loop, LastLeads}
 use Rattle.pure_parser.proofs.CompleteStmts.{c_value}
 use Rattle.pure_parser.proofs.CompleteBinds.{not_mark, option_of}
-use Rattle.pure_parser.proofs.Stops.{stop_comma, stop_assign}
+use Rattle.pure_parser.proofs.Stops.{stop_comma}
 use Rattle.pure_parser.proofs.ExprFronts.{opens_append, opens_first, opens_some, expr_opens}
 use Rattle.pure_parser.proofs.CompleteParts.{CompleteEnv, expr_complete}
 

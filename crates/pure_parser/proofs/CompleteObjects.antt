@@ -1,39 +1,36 @@
 -- Completeness of properties and objects: at their lexemes they are read.
-use Rattle.std.proofs.Common.{◌≡◌, ℕ, zero, suc, ◌+◌, ◌≤◌, ◌<◌, List, [], ◌∷◌, ◌++◌, length, refl, sym, ap, ◌∙◌, subst, arith, append_assoc, append-nil, Bool, true, false, not, ◌&&◌, ◌||◌, Option, Some, None, is_none, if◌then◌else◌, ◌⊎◌, inl, inr}
+use Rattle.std.proofs.Common.{◌≡◌, ℕ, suc, ◌≤◌, ◌<◌, List, [], ◌∷◌, ◌++◌, length, refl, sym, ap, ◌∙◌, subst, arith, append_assoc, append-nil, Bool, true, false, ◌||◌, None, ◌⊎◌, inl, inr}
 use Rattle.script_grammar.specs.declared.token.Kind.{Kind}
 use Rattle.script_grammar.specs.declared.token.Kind.TheVariants as kind
 use Rattle.script_grammar.specs.declared.token.mark.TheConstants as mark
 use Rattle.script_grammar.specs.declared.token.FuncForm.{FuncForm}
 use Rattle.script_grammar.specs.declared.token.FuncForm.TheVariants as form
 use Rattle.script_grammar.specs.Lexeme.{Lexeme}
-use Rattle.script_grammar.specs.Kinds.{is_mark, is_name, is_any_word, is_arrow_form}
+use Rattle.script_grammar.specs.Kinds.{is_mark, is_name, is_any_word}
 use Rattle.script_grammar.specs.Tree.{Named, Expr, MaybeExpr, no_expr, some_expr, Params, no_params, more_params, Function, function, Body, BracedBody, ShortBody, Stmts}
 use Rattle.script_grammar.specs.Tree as tree
-use Rattle.script_grammar.specs.TreeLists.{Param, params_of, maybe_expr_of}
-use Rattle.script_grammar.specs.Pieces.{Bodies, Ending, Piece, At, Slot, Is, mark_piece, name_piece, comma_piece, placed}
+use Rattle.script_grammar.specs.Pieces.{Bodies, Piece, mark_piece, name_piece, comma_piece}
 use Rattle.script_grammar.specs.Endings.{ending}
-use Rattle.script_grammar.specs.Print.{print, print_params, print_more_params, print_initializer, print_body, print_function, print_func, parenthesized, print_name, ellipsis, arrow_pieces, param_depth}
-use Rattle.script_grammar.specs.Proper.{rank, Proper, ProperMaybe, ProperParams, ProperFunction, ProperBody, AreParams, SuitsForm, IsOneParam, BareIf}
-use Rattle.pure_parser.specs.Parser.{Reply, Read, Parser, head_of, after, ret, bad, bind, peek, step, when, Turn, Again, Stop, loop, Many, stopped, begun, led}
+use Rattle.script_grammar.specs.Print.{print, print_function}
+use Rattle.script_grammar.specs.Proper.{rank, Proper, ProperFunction, BareIf}
+use Rattle.pure_parser.specs.Parser.{Read, Parser, head_of, after, ret, bad, bind, step, when, Turn, Again, Stop, stopped, begun, led}
 use Rattle.pure_parser.specs.Exprs as parser
 use Rattle.pure_parser.specs.Exprs.{Env, AnAssign, ParamsEnd, Plain, Trailing, Rest, Head, BodyRead, expect, name_of, named, param, rest_param, ended_params, is_trailing, head_case, function_case, is_simple}
 use Rattle.pure_parser.specs.Follow.{continues_assign}
 use Rattle.pure_parser.proofs.Friendly.{first_of}
-use Rattle.pure_parser.proofs.Tests.{false_true, true_false}
+use Rattle.pure_parser.proofs.Tests.{false_true}
 use Rattle.pure_parser.proofs.Stands.{Marked, lexemes, Stands}
 use Rattle.pure_parser.proofs.Complete.{bare, AllK, flat}
-use Rattle.pure_parser.proofs.SoundParts.{print_param}
-use Rattle.pure_parser.proofs.Completes.{Completes, Leads, Any, of_kind, at_kind, lead_none, lead_at, lead_any, lead_map, c_ret, c_bind, c_made, c_at, c_front, c_look, c_weaken, c_pieces, c_mark}
+use Rattle.pure_parser.proofs.Completes.{Completes, Leads, at_kind, lead_none, lead_at, lead_any, lead_map, c_ret, c_bind, c_made, c_at, c_front, c_look, c_weaken, c_pieces, c_mark}
 use Rattle.pure_parser.proofs.CompleteLoops.{c_loop, LastLeads}
-use Rattle.pure_parser.proofs.CompleteStmts.{c_value, name_complete}
-use Rattle.pure_parser.proofs.CompleteBinds.{option_of}
-use Rattle.pure_parser.proofs.Stops.{stop_brace, stop_comma, stop_assign, stop_close}
-use Rattle.pure_parser.proofs.CompleteParts.{CompleteEnv, ParamFollow}
+use Rattle.pure_parser.proofs.CompleteStmts.{c_value}
+use Rattle.pure_parser.proofs.Stops.{stop_brace, stop_comma, stop_assign}
+use Rattle.pure_parser.proofs.CompleteParts.{CompleteEnv}
 use Rattle.script_grammar.specs.Kinds.{is_get, is_set, is_str, is_number}
 use Rattle.script_grammar.specs.Lexeme.{get_role, set_role}
 use Rattle.script_grammar.specs.Tree.{Key, Prop, Props, no_props, more_props}
 use Rattle.script_grammar.specs.TreeLists.{props_of}
-use Rattle.script_grammar.specs.Pieces.{any_word, text_piece, number_piece, role_piece, AnyWord, Exactly}
+use Rattle.script_grammar.specs.Pieces.{any_word}
 use Rattle.script_grammar.specs.Print.{print_key, print_prop, print_props, print_more_props}
 use Rattle.script_grammar.specs.Proper.{ProperKey, ProperProp, ProperProps, HasProps, IsNamelessOf, assign_rank}
 use Rattle.pure_parser.proofs.Tests.{bool_cases, name_known, or_left, or_right, mark_known, or_cases, neither_left, neither_right}

@@ -10,23 +10,22 @@ use Rattle.script_grammar.specs.Kinds.{is_mark, is_word, is_update, kind_level, 
 use Rattle.script_grammar.specs.Tree.{Expr, Operands, no_operands, more_operands, MaybeArgs, Function, function}
 use Rattle.script_grammar.specs.Tree as tree
 use Rattle.script_grammar.specs.TreeLists.{Operand, operands_of}
-use Rattle.script_grammar.specs.Pieces.{Bodies, Piece, Ending, BracedArrow, Postfix, Slot, Is}
-use Rattle.script_grammar.specs.Pieces as pieces
+use Rattle.script_grammar.specs.Pieces.{Bodies, Piece, Ending}
 use Rattle.script_grammar.specs.Endings.{ending, operands_ending}
 use Rattle.script_grammar.specs.Print.{print, print_operands, operator_piece}
-use Rattle.script_grammar.specs.Proper.{rank, Proper, ProperOperands, HasOperands, operands_level, operand_rank, first_rank, rest_rank, level_rank, free_of_in, operands_free, InIf, are_member_tails, function_rank, new_rank}
-use Rattle.pure_parser.specs.Parser.{Read, Parser, head_of, ret, bind, peek, step, when, Turn, Again, Stop, loop, Many}
+use Rattle.script_grammar.specs.Proper.{rank, Proper, ProperOperands, HasOperands, operand_rank, first_rank, level_rank, free_of_in, operands_free, InIf, are_member_tails, function_rank, new_rank}
+use Rattle.pure_parser.specs.Parser.{Read, Parser, head_of, ret, bind, peek, step, when, Turn, Again, Stop, loop}
 use Rattle.pure_parser.specs.Exprs as parser
 use Rattle.pure_parser.specs.Exprs.{Env, mark_of, is_word_kind, operand, binary_case, is_op, is_update_expr}
 use Rattle.pure_parser.proofs.Friendly.{first_of}
 use Rattle.pure_parser.proofs.Fitting.{head_first}
-use Rattle.pure_parser.proofs.Tests.{false_true, true_false, bool_cases, and_left, and_right, and_both, mark_known}
+use Rattle.pure_parser.proofs.Tests.{true_false, bool_cases, and_left, and_right, and_both, mark_known}
 use Rattle.pure_parser.proofs.Stands.{Marked, lexemes, Stands, stands_split, lexemes_append}
-use Rattle.pure_parser.proofs.Complete.{Parses, bare, cut, AllK, flat}
+use Rattle.pure_parser.proofs.Complete.{Parses, bare, AllK, flat}
 use Rattle.pure_parser.proofs.Completes.{Completes, Leads, lead_none, lead_at, lead_map, c_ret, c_bind, c_made, c_at, c_look, c_weaken, c_pieces}
 use Rattle.pure_parser.proofs.CompleteLoops.{c_loop, LastLeads}
 use Rattle.pure_parser.proofs.CompleteStmts.{c_value}
-use Rattle.pure_parser.proofs.CompleteParts.{TailStops, UnaryStops}
+use Rattle.pure_parser.proofs.CompleteParts.{UnaryStops}
 
 -- a choice by the first lexeme
 

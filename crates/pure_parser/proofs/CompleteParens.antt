@@ -1,26 +1,23 @@
 -- Completeness of parenthesized expressions, also where an arrow's parameters might stand.
-use Rattle.std.proofs.Common.{◌≡◌, ℕ, zero, suc, ◌+◌, ◌≤◌, ◌<◌, List, [], ◌∷◌, ◌++◌, length, refl, sym, ap, ◌∙◌, subst, arith, append_assoc, append-nil, length-append, Bool, true, false, inl, inr, ◌⊎◌}
-use Rattle.script_grammar.specs.declared.token.Kind.{Kind}
+use Rattle.std.proofs.Common.{◌≡◌, ℕ, zero, suc, ◌≤◌, ◌<◌, List, [], ◌∷◌, ◌++◌, length, refl, sym, ap, ◌∙◌, subst, arith, append_assoc, append-nil, length-append, Bool, true, false, inl, inr, ◌⊎◌}
 use Rattle.script_grammar.specs.declared.token.Kind.TheVariants as kind
 use Rattle.script_grammar.specs.declared.token.mark.TheConstants as mark
 use Rattle.script_grammar.specs.Lexeme.{Lexeme}
 use Rattle.script_grammar.specs.Kinds.{is_mark}
 use Rattle.script_grammar.specs.Tree.{Expr, Exprs, no_exprs, more_exprs}
 use Rattle.script_grammar.specs.Tree as tree
-use Rattle.script_grammar.specs.Pieces.{Bodies, Piece, Ending, mark_piece}
+use Rattle.script_grammar.specs.Pieces.{Bodies, Piece, mark_piece}
 use Rattle.script_grammar.specs.Endings.{ending, last_ending}
 use Rattle.script_grammar.specs.Print.{print, print_list, print_more}
 use Rattle.script_grammar.specs.Proper.{rank, Proper, ProperExprs, assign_rank}
-use Rattle.pure_parser.specs.Parser.{Read, Parser, head_of, rest_of, ret, bind, peek, step, when, Turn, Again, Stop, loop, turns, turned, Many, begun}
+use Rattle.pure_parser.specs.Parser.{Read, head_of, rest_of, ret, bind, step, when, Turn, Again, Stop, loop, turns, turned, Many, begun}
 use Rattle.pure_parser.specs.Exprs as parser
 use Rattle.pure_parser.specs.Exprs.{Env, AnAssign, expect, begins_assign, is_param_form}
-use Rattle.pure_parser.specs.Follow.{continues_assign}
-use Rattle.pure_parser.proofs.Friendly.{first_of}
 use Rattle.pure_parser.proofs.Fitting.{head_first}
 use Rattle.pure_parser.proofs.Tests.{true_false}
 use Rattle.pure_parser.proofs.Stands.{Marked, lexemes, Stands, stands_split}
 use Rattle.pure_parser.proofs.Complete.{Parses, bare, parses_bind, parses_map, joined}
-use Rattle.pure_parser.proofs.Completes.{Completes, Leads, Any, at_kind, lead_none, lead_at, lead_any, lead_map, c_ret, c_bind, c_made, c_at, c_look, c_weaken, c_pieces, c_mark}
+use Rattle.pure_parser.proofs.Completes.{Completes, Any, lead_none, lead_at, lead_map, c_ret, c_bind, c_made, c_at, c_look, c_weaken, c_pieces, c_mark}
 use Rattle.pure_parser.proofs.CompleteStmts.{c_value}
 use Rattle.pure_parser.proofs.CompleteBinds.{not_mark}
 use Rattle.pure_parser.proofs.Stops.{stop_close, stop_comma, stop_assign}

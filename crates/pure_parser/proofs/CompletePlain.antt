@@ -1,12 +1,12 @@
 -- Completeness of a ShortCircuitExpression, of conditionals and of assignments.
-use Rattle.std.proofs.Common.{◌≡◌, ℕ, zero, suc, ◌+◌, ◌≤◌, ◌<◌, List, [], ◌∷◌, ◌++◌, refl, sym, ap, ◌∙◌, subst, arith, append_assoc, append-nil, Bool, true, false, ◌&&◌, ◌||◌, not, nat_le, nat_eq, if◌then◌else◌, ◌⊎◌, inl, inr}
+use Rattle.std.proofs.Common.{◌≡◌, ℕ, zero, suc, ◌+◌, ◌≤◌, ◌<◌, List, [], ◌∷◌, ◌++◌, refl, sym, ap, ◌∙◌, subst, arith, append_assoc, append-nil, Bool, true, false, ◌&&◌, ◌||◌, not, nat_le, nat_eq, if◌then◌else◌}
 use Rattle.std.proofs.lemmas.Bool.{leb-true, le-leb, eqb-true, ne_eqb}
 use Rattle.script_grammar.specs.declared.token.Kind.{Kind}
 use Rattle.script_grammar.specs.declared.token.Kind.TheVariants as kind
 use Rattle.script_grammar.specs.declared.token.mark.TheConstants as mark
 use Rattle.script_grammar.specs.declared.token.word.TheConstants as word
 use Rattle.script_grammar.specs.Lexeme.{Lexeme}
-use Rattle.script_grammar.specs.Kinds.{is_mark, is_word, is_update, is_binary, is_assign_mark, is_assign_op, kind_level, mark_level, op_level, op_kind, is_arrow_form, between}
+use Rattle.script_grammar.specs.Kinds.{is_mark, is_word, is_update, is_binary, is_assign_mark, is_assign_op, kind_level, mark_level, is_arrow_form, between}
 use Rattle.script_grammar.specs.Tree.{Expr, Operands, no_operands, more_operands, MaybeArgs, Function, function}
 use Rattle.script_grammar.specs.Tree as tree
 use Rattle.script_grammar.specs.Pieces.{Bodies, Piece, Ending, Operand, BracedArrow, Postfix, BareBinding, Keyword, DoWhile, mark_piece}
@@ -17,13 +17,13 @@ use Rattle.pure_parser.specs.Parser.{Read, Parser, head_of, ret, bind, peek, ste
 use Rattle.pure_parser.specs.Exprs as parser
 use Rattle.pure_parser.specs.Exprs.{Env, AnAssign, expect, mark_of, is_op}
 use Rattle.pure_parser.specs.Follow.{continues_assign, is_operator}
-use Rattle.pure_parser.proofs.Tests.{false_true, true_false, bool_cases, and_left, and_right, and_both, neither_left, neither_right, mark_known}
+use Rattle.pure_parser.proofs.Tests.{true_false, and_left, and_right, and_both, neither_left, neither_right}
 use Rattle.pure_parser.proofs.Complete.{bare}
 use Rattle.pure_parser.proofs.Stops.{stop_colon, stop_assign}
-use Rattle.pure_parser.proofs.Completes.{Completes, Leads, Any, at_kind, lead_none, lead_at, lead_any, lead_map, c_ret, c_bind, c_made, c_at, c_look, c_weaken, c_pieces, c_mark}
+use Rattle.pure_parser.proofs.Completes.{Completes, Leads, lead_none, lead_at, lead_any, lead_map, c_bind, c_made, c_at, c_look, c_weaken, c_pieces, c_mark}
 use Rattle.pure_parser.proofs.CompleteStmts.{c_value}
-use Rattle.pure_parser.proofs.CompleteParts.{TailStops, UnaryStops, CompleteEnv}
-use Rattle.pure_parser.proofs.CompleteOperators.{refuted, c_when, c_else, lead_append, LevelStops, level_less, op_levels, other_level, op_at, op_is, binary_of, binary_pieces, binary_ending, Levelled, binary_level, levelled, binary_only, above, in_first, in_rest, from_complete, from_leads, ReadsUnary, level_complete}
+use Rattle.pure_parser.proofs.CompleteParts.{CompleteEnv}
+use Rattle.pure_parser.proofs.CompleteOperators.{refuted, c_when, c_else, lead_append, LevelStops, level_less, op_levels, other_level, op_at, op_is, binary_of, binary_pieces, binary_ending, binary_level, levelled, binary_only, above, in_first, in_rest, from_complete, ReadsUnary, level_complete}
 
 -- the endings of operands
 

@@ -1,6 +1,5 @@
 -- Completeness of primary expressions.
-use Rattle.std.proofs.Common.{◌≡◌, ℕ, zero, suc, ◌≤◌, List, [], ◌∷◌, ◌++◌, refl, sym, ap, ◌∙◌, subst, arith, Bool, true, false, if◌then◌else◌}
-use Rattle.script_grammar.specs.declared.token.Kind.{Kind}
+use Rattle.std.proofs.Common.{◌≡◌, ℕ, ◌≤◌, List, [], ◌∷◌, refl, ap, ◌∙◌, arith, Bool, true, false, if◌then◌else◌}
 use Rattle.script_grammar.specs.declared.token.Kind.TheVariants as kind
 use Rattle.script_grammar.specs.declared.token.mark.TheConstants as mark
 use Rattle.script_grammar.specs.declared.token.word.TheConstants as word
@@ -11,7 +10,7 @@ use Rattle.script_grammar.specs.Tree as tree
 use Rattle.script_grammar.specs.Pieces.{Bodies}
 use Rattle.script_grammar.specs.Print.{print}
 use Rattle.script_grammar.specs.Proper.{rank, Proper, new_rank, are_member_tails}
-use Rattle.pure_parser.specs.Parser.{Read, ret, step, when, peek}
+use Rattle.pure_parser.specs.Parser.{Read, ret}
 use Rattle.pure_parser.specs.Exprs as parser
 use Rattle.pure_parser.specs.Exprs.{Env, atom_case}
 use Rattle.pure_parser.proofs.Completes.{Completes, Any, at_kind, c_ret, c_at}

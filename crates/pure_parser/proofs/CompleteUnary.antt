@@ -1,36 +1,28 @@
 -- Completeness of `new`, left-hand sides, updates and unary operators: at their lexemes they are read.
-use Rattle.std.proofs.Common.{◌≡◌, ℕ, zero, suc, ◌+◌, ◌≤◌, ◌<◌, List, [], ◌∷◌, ◌++◌, length, refl, sym, ap, ◌∙◌, subst, arith, append_assoc, append-nil, Bool, true, false, not, ◌&&◌, ◌||◌, Option, Some, None, nat_le, if◌then◌else◌, ◌⊎◌, inl, inr}
-use Rattle.std.proofs.lemmas.Bool.{leb-true, le-leb}
-use Rattle.script_grammar.specs.declared.token.Kind.{Kind}
+use Rattle.std.proofs.Common.{◌≡◌, ℕ, ◌≤◌, List, [], ◌∷◌, ◌++◌, refl, sym, ap, ◌∙◌, subst, arith, append_assoc, append-nil, Bool, true, false, not, ◌&&◌, ◌||◌, Option, Some, None, if◌then◌else◌, ◌⊎◌, inl, inr}
+use Rattle.std.proofs.lemmas.Bool.{le-leb}
 use Rattle.script_grammar.specs.declared.token.Kind.TheVariants as kind
 use Rattle.script_grammar.specs.declared.token.mark.TheConstants as mark
 use Rattle.script_grammar.specs.declared.token.word.TheConstants as word
-use Rattle.script_grammar.specs.declared.token.FuncForm.TheVariants as form
 use Rattle.script_grammar.specs.Lexeme.{Lexeme}
-use Rattle.script_grammar.specs.Kinds.{is_mark, is_word, is_any_word, is_prefix, is_prefix_op, is_update, is_update_op, op_kind, is_arrow_form}
+use Rattle.script_grammar.specs.Kinds.{is_mark, is_word, is_prefix, is_update, is_update_op, is_arrow_form}
 use Rattle.script_grammar.specs.Tree.{Expr, MaybeArgs, no_args, some_args, Tail, Tails, no_tails, more_tails, Function, function, Parts, no_parts, more_parts, Exprs}
 use Rattle.script_grammar.specs.Tree as tree
-use Rattle.script_grammar.specs.TreeLists.{Args, exprs_of, maybe_args_of, tails_of}
-use Rattle.script_grammar.specs.Pieces.{Bodies, comma_piece, Ending, Postfix, Operand, Piece, At, Slot, Is, mark_piece, any_word, from}
-use Rattle.script_grammar.specs.Endings.{ending}
-use Rattle.script_grammar.specs.Print.{print, print_list, print_tails, print_tail, print_args, first_kind}
-use Rattle.script_grammar.specs.Proper.{rank, Proper, ProperTail, ProperTails, ProperArgs, HasTails, is_member_tail, are_member_tails, member_rank, left_rank, update_rank, unary_rank, callee_rank, new_rank, function_rank, updated_rank}
-use Rattle.pure_parser.specs.Parser.{Reply, Read, Parser, head_of, ret, bad, bind, peek, step, when, Turn, Again, Stop, loop, Many}
+use Rattle.script_grammar.specs.TreeLists.{Args, maybe_args_of}
+use Rattle.script_grammar.specs.Pieces.{Bodies, Piece, At, from}
+use Rattle.script_grammar.specs.Print.{print, print_tails, print_args}
+use Rattle.script_grammar.specs.Proper.{rank, Proper, ProperTails, ProperArgs, are_member_tails, left_rank, callee_rank, function_rank}
+use Rattle.pure_parser.specs.Parser.{Read, Parser, head_of, ret, bind, step, when, loop}
 use Rattle.pure_parser.specs.Exprs as parser
 use Rattle.pure_parser.specs.Exprs.{Env, ANew, APrefix, expect, chain_case, is_chain_head, again}
-use Rattle.pure_parser.specs.Follow.{continues_expr, continues_assign}
-use Rattle.pure_parser.proofs.Friendly.{first_of}
-use Rattle.pure_parser.proofs.Tests.{not_true, false_true, true_false, bool_cases, neither_left, neither_right, and_left, and_right}
+use Rattle.pure_parser.proofs.Tests.{false_true, true_false}
 use Rattle.pure_parser.proofs.Stands.{Marked, lexemes, Stands}
-use Rattle.pure_parser.proofs.Complete.{Parses, bare, AllK, flat}
-use Rattle.pure_parser.proofs.Completes.{Completes, Leads, Any, of_kind, at_kind, lead_none, lead_at, lead_any, lead_map, c_ret, c_bind, c_made, c_at, c_front, c_look, c_weaken, c_pieces, c_mark}
-use Rattle.pure_parser.proofs.CompleteLoops.{c_loop, LastLeads}
+use Rattle.pure_parser.proofs.Complete.{Parses, bare}
+use Rattle.pure_parser.proofs.Completes.{Completes, Leads, Any, of_kind, at_kind, lead_none, lead_at, lead_any, lead_map, c_ret, c_bind, c_made, c_at, c_look, c_weaken, c_pieces}
 use Rattle.pure_parser.proofs.CompleteStmts.{c_value}
-use Rattle.pure_parser.proofs.ExprFronts.{Opens, opens_append, opens_first, opens_some}
-use Rattle.pure_parser.proofs.CompleteParts.{CompleteEnv, CompleteCalls, TailStops, UnaryStops, NewFollow, IsNew, IsPrefixed, expr_complete, args_complete, list_of, of_list}
-use Rattle.pure_parser.proofs.CompleteItems.{stop_bracket}
+use Rattle.pure_parser.proofs.ExprFronts.{Opens, opens_append, opens_some}
+use Rattle.pure_parser.proofs.CompleteParts.{CompleteEnv, TailStops, NewFollow, args_complete, list_of, of_list}
 use Rattle.script_grammar.specs.Pieces.{placed, glued_mark, Gap, Pass}
-use Rattle.script_grammar.specs.Endings.{function_ending}
 use Rattle.pure_parser.specs.Exprs.{begins_assign, mark_of, is_word_kind}
 use Rattle.pure_parser.proofs.ExprFronts.{expr_opens, update_is}
 use Rattle.pure_parser.proofs.CompleteChains.{MemberStops, PrimComplete, tails_list, prim_head, new_head, tails_complete, members_complete, chain_as}

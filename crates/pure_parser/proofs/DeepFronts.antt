@@ -1,6 +1,6 @@
 -- The first place of an expression or a statement is at least as deep as what it is printed at; so where no room is left the
 -- first lexeme is too deep.
-use Rattle.std.proofs.Common.{◌≡◌, ℕ, zero, suc, ◌≤◌, ◌<◌, List, [], ◌∷◌, ◌++◌, refl, sym, ap, ◌∙◌, subst, arith, Bool, true, false, not, ◌&&◌, ◌||◌}
+use Rattle.std.proofs.Common.{◌≡◌, ℕ, zero, suc, ◌≤◌, ◌<◌, List, [], ◌∷◌, refl, sym, ap, ◌∙◌, subst, arith, Bool, true, false, not, ◌&&◌, ◌||◌}
 use Rattle.script_grammar.specs.declared.token.Kind.{Kind}
 use Rattle.script_grammar.specs.declared.token.Kind.TheVariants as kind
 use Rattle.script_grammar.specs.declared.token.FuncForm.TheVariants as form
@@ -14,12 +14,12 @@ use Rattle.script_grammar.specs.Tree.{Named, Expr, Exprs, no_exprs, more_exprs, 
 use Rattle.script_grammar.specs.Tree as tree
 use Rattle.script_grammar.specs.Pieces.{Bodies, whole, Piece, At, Gap, Pass, Wanted, Exactly, AnyWord, from, begins_with, is_wanted}
 use Rattle.script_grammar.specs.Print.{print, print_stmt, print_more, above}
-use Rattle.script_grammar.specs.Proper.{Proper, ProperStmt, is_statement, begins_function}
-use Rattle.pure_parser.specs.Parser.{Parser, head_of, no_room}
+use Rattle.script_grammar.specs.Proper.{Proper, ProperStmt, is_statement}
+use Rattle.pure_parser.specs.Parser.{head_of, no_room}
 use Rattle.pure_parser.specs.Exprs.{begins_assign}
 use Rattle.pure_parser.specs.Stmts.{Place, AnItem, AStmt, is_item, is_inside, begins_stmt, begins_plain, begins_declaration}
 use Rattle.pure_parser.proofs.Begins.{begins_same}
-use Rattle.pure_parser.proofs.Tests.{false_true, true_false, and_both, or_left}
+use Rattle.pure_parser.proofs.Tests.{false_true, and_both}
 use Rattle.pure_parser.proofs.Stands.{Marked, Stands}
 use Rattle.pure_parser.proofs.Complete.{Parses, DeepFront, deep_front, deep_at, parses_no_room}
 use Rattle.pure_parser.proofs.Completes.{Completes}

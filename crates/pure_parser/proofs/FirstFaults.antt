@@ -7,7 +7,7 @@ use Rattle.script_grammar.specs.declared.token.Kind.{Kind}
 use Rattle.script_grammar.specs.declared.token.Kind.TheVariants as kind
 use Rattle.script_grammar.specs.Lexeme.{Lexeme}
 use Rattle.script_grammar.specs.Pieces.{Opener, open_behind, open_at_end}
-use Rattle.script_grammar.specs.Fault.{depth_limit, Part, Begins, BeginsDeep, Viable, IsDeep, Refusal, Unexpected, TooDeep, RefusedAs, FirstFault}
+use Rattle.script_grammar.specs.Fault.{depth_limit, Part, Viable, IsDeep, Refusal, Unexpected, TooDeep, RefusedAs, FirstFault}
 use Rattle.pure_parser.specs.Parser.{Reply, Read, Bad, Deep, Parser}
 use Rattle.pure_parser.proofs.Tests.{true_false, bool_cases}
 use Rattle.pure_parser.proofs.Local.{Local}

@@ -1,6 +1,6 @@
 -- A function that is read alone, whose own body and whose inner bodies are read in place: soundness, locality and
 -- completeness of its parser.
-use Rattle.std.proofs.Common.{◌≡◌, ℕ, zero, suc, ◌+◌, ◌≤◌, ◌<◌, List, [], ◌∷◌, ◌++◌, length, refl, sym, ap, ◌∙◌, subst, arith, append_assoc, append-nil, Bool, true, false, Option, Some, None}
+use Rattle.std.proofs.Common.{◌≡◌, ℕ, suc, ◌≤◌, ◌<◌, List, [], ◌∷◌, ◌++◌, length, refl, sym, ap, ◌∙◌, subst, arith, append_assoc, append-nil, Bool, true, false, Option, None}
 use Rattle.script_grammar.specs.declared.token.Kind.TheVariants as kind
 use Rattle.script_grammar.specs.declared.token.FuncForm.{FuncForm}
 use Rattle.script_grammar.specs.declared.token.FuncForm.TheVariants as form
@@ -10,11 +10,11 @@ use Rattle.script_grammar.specs.Kinds.{is_mark, is_name, is_end}
 use Rattle.script_grammar.specs.Tree.{Named, Expr, MaybeExpr, no_expr, some_expr, Params, no_params, more_params, Function, function, Body, Stmts}
 use Rattle.script_grammar.specs.Tree as tree
 use Rattle.script_grammar.specs.TreeLists.{Param, params_of, maybe_expr_of}
-use Rattle.script_grammar.specs.Pieces.{whole, Piece, At, Slot, mark_piece, name_piece, comma_piece, glued_mark, placed}
+use Rattle.script_grammar.specs.Pieces.{whole, Piece, At, Slot, mark_piece, name_piece, comma_piece, glued_mark}
 use Rattle.script_grammar.specs.Print.{print_params, print_body, print_function, print_initializer, parenthesized, param_depth, arrow_pieces}
-use Rattle.script_grammar.specs.Proper.{ProperBody, ProperFunction, ProperParams, ProperMaybe, AreParams, SuitsForm, BareIf}
+use Rattle.script_grammar.specs.Proper.{ProperBody, ProperFunction, ProperParams, ProperMaybe, AreParams, BareIf}
 use Rattle.script_grammar.specs.Script.{IsOf, OwnProper, ProperAlone, print_own, print_alone}
-use Rattle.pure_parser.specs.Parser.{Read, Parser, head_of, ret, bad, bind, peek, step, when, Turn, Again, Stop, Many, stopped, begun}
+use Rattle.pure_parser.specs.Parser.{Read, head_of, ret, bind, step, when, Turn, Again, Stop, Many, stopped}
 use Rattle.pure_parser.specs.Exprs
 use Rattle.pure_parser.specs.Exprs.{Env, AParam, ARest, ParamsEnd, Plain, Trailing, Rest, Head, BodyRead, expect, param, named, head_case, bare_head, function_case}
 use Rattle.pure_parser.specs.Stmts as parser
@@ -25,9 +25,8 @@ use Rattle.pure_parser.proofs.Tests.{true_false, mark_known, name_known, end_kno
 use Rattle.pure_parser.proofs.Fitting.{FitsAll, all_none, all_append, all_mark, all_name, all_same, lexeme_of_kind}
 use Rattle.pure_parser.proofs.Sound.{Sound, Mended, Behind, sound_bind, sound_ret, sound_bad, sound_at, sound_peek, at_step, at_when, sound_some, sound_map, sound_made}
 use Rattle.pure_parser.proofs.SoundNext.{SoundNext, past_bind, next_map, next_inside}
-use Rattle.pure_parser.proofs.SoundNext as next
 use Rattle.pure_parser.proofs.SoundParts.{SoundEnv, expect_sound}
-use Rattle.pure_parser.proofs.SoundFunctions.{FirstTurn, NextTurn, ParamsMany, IsPlainForm, IsFunctionOf, params_none, led_sound, head_is, behind_comma, function_sound}
+use Rattle.pure_parser.proofs.SoundFunctions.{FirstTurn, NextTurn, ParamsMany, IsPlainForm, params_none, led_sound, head_is, behind_comma, function_sound}
 use Rattle.pure_parser.proofs.SoundArrows.{ArrowHead, IsArrowMark, ArrowBody}
 use Rattle.pure_parser.proofs.SoundHeads.{arrow_mark_sound, arrow_body_sound}
 use Rattle.pure_parser.proofs.SoundEverything.{end_sound}

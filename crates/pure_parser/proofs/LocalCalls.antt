@@ -1,6 +1,6 @@
 -- All calls of the parser of expressions look at no lexeme behind the place where they stop, though they look for an
 -- arrow's mark behind a closing parenthesis.
-use Rattle.std.proofs.Common.{◌≡◌, ℕ, zero, suc, ◌+◌, ◌≤◌, ◌<◌, List, [], ◌∷◌, ◌++◌, length, refl, sym, ap, ◌∙◌, subst, arith, length-append, append_assoc, append-nil, Bool, true, false, ◌&&◌, ◌||◌, not, nat_le, Option, Some, None, inl, inr, ◌⊎◌, if◌then◌else◌}
+use Rattle.std.proofs.Common.{◌≡◌, ℕ, zero, suc, ◌≤◌, ◌<◌, List, [], ◌∷◌, ◌++◌, length, refl, sym, ap, ◌∙◌, subst, arith, length-append, append-nil, Bool, true, false, ◌&&◌, Some, None, inl, inr, ◌⊎◌, if◌then◌else◌}
 use Rattle.script_grammar.specs.declared.token.Kind.{Kind}
 use Rattle.script_grammar.specs.declared.token.Kind.TheVariants as kind
 use Rattle.script_grammar.specs.declared.token.FuncForm.{FuncForm}
@@ -9,20 +9,19 @@ use Rattle.script_grammar.specs.Lexeme.{Lexeme}
 use Rattle.script_grammar.specs.Kinds.{is_mark, is_name, is_assign_mark}
 use Rattle.script_grammar.specs.Tree.{Named, Expr}
 use Rattle.script_grammar.specs.Tree as tree
-use Rattle.script_grammar.specs.TreeLists.{Param}
 use Rattle.script_grammar.specs.Pieces.{Bodies, paren}
-use Rattle.pure_parser.specs.Parser.{Recorded, Reply, Read, Bad, Deep, Parser, head_of, rest_of, noted, after, ret, bad, deep, bind, peek, step, when, no_room, turns, loop}
+use Rattle.pure_parser.specs.Parser.{Reply, Read, Bad, Deep, Parser, head_of, after, ret, bad, deep, bind, step, when, no_room, turns, loop}
 use Rattle.pure_parser.specs.Exprs
 use Rattle.pure_parser.specs.Exprs.{Env, Call, BodyParser, AnAssign, APrefix, ANew, AParam, ARest, calls, call_case, no_calls, begins_call, named, param, is_param_form, is_arrow, is_update_expr, binary_case, with_last, name_of, arrow_behind}
-use Rattle.pure_parser.proofs.Friendly.{Spot, AtFront, Inside}
+use Rattle.pure_parser.proofs.Friendly.{AtFront}
 use Rattle.pure_parser.proofs.Tests.{mark_known, name_known, bool_cases}
-use Rattle.pure_parser.proofs.Local.{Local, Same, out, kept, left, grown, grown_records, grown_noted, left_noted, after_shorter, local_ret, local_bind, local_when, local_loop, local_no_room, local_peek, Eats, Ate, eats_bind, eats_no_room, eats_peek, ate_when, ate_step}
+use Rattle.pure_parser.proofs.Local.{Local, Same, out, kept, left, grown_records, after_shorter, local_ret, local_bind, local_when, local_loop, local_no_room, Eats, Ate, eats_bind, eats_no_room, eats_peek, ate_when, ate_step}
 use Rattle.pure_parser.proofs.Sound.{Leads, Outcome, Sound}
 use Rattle.pure_parser.proofs.Sound as sound
-use Rattle.pure_parser.proofs.SoundParts.{SoundEnv, SoundCalls, SoundBody}
+use Rattle.pure_parser.proofs.SoundParts.{SoundEnv, SoundBody}
 use Rattle.pure_parser.proofs.SoundCalls.{calls_sound, case_sound}
 use Rattle.pure_parser.proofs.Lone.{of_kind, lone_assign, form_name, form_cases}
-use Rattle.pure_parser.proofs.LocalExprs.{LocalEnv, NameEnd, deep_end, read_end, name_of_local, initializer_local, param_local, chain_local, tail_turn_local, tail_turn_gains, postfix_local, power_turn_local, power_turn_gains, operands_local, level_local, cond_tail_local, assign_tail_local, plain_local, prefix_local, new_local, short_behind_local, after_noted}
+use Rattle.pure_parser.proofs.LocalExprs.{LocalEnv, deep_end, read_end, name_of_local, initializer_local, chain_local, tail_turn_local, tail_turn_gains, postfix_local, power_turn_local, power_turn_gains, operands_local, level_local, cond_tail_local, assign_tail_local, plain_local, prefix_local, new_local, short_behind_local, after_noted}
 use Rattle.pure_parser.proofs.LocalArrows.{arrow_local, arrow_behind_local, arrow_param_local, arrow_rest_local}
 use Rattle.pure_parser.proofs.LocalRace.{RunsOut, behind_local, runs_false, Race, race_same, race_left, race_right}
 use Rattle.pure_parser.proofs.LocalHeads.{Pair, pair_out, pair_bad, pair_deep, pair_read, read_noted, paren_race}

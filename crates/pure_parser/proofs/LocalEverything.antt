@@ -1,17 +1,15 @@
 -- All calls of the parser of scripts look at no lexeme behind the place where they stop, with whatever room for depth; so do
 -- the parser of scripts, and that of a function alone.
-use Rattle.std.proofs.Common.{◌≡◌, ℕ, zero, suc, ◌≤◌, List, [], ◌∷◌, ◌++◌, length, refl, sym, ap, ◌∙◌, arith, Bool, true, false, ◌&&◌, Some, None}
+use Rattle.std.proofs.Common.{◌≡◌, ℕ, zero, suc, List, [], ◌∷◌, length, sym, ap, ◌∙◌, arith, Bool, true}
 use Rattle.script_grammar.specs.declared.token.FuncForm.{FuncForm}
-use Rattle.script_grammar.specs.declared.token.FuncForm.TheVariants as form
-use Rattle.script_grammar.specs.declared.token.mark.TheConstants as mark
 use Rattle.script_grammar.specs.Lexeme.{Lexeme}
-use Rattle.script_grammar.specs.Kinds.{is_mark, is_name, is_end}
+use Rattle.script_grammar.specs.Kinds.{is_name}
 use Rattle.script_grammar.specs.Endings.{ending}
 use Rattle.script_grammar.specs.Tree.{Named, Expr, Stmt, Stmts}
 use Rattle.script_grammar.specs.Tree as tree
 use Rattle.script_grammar.specs.Pieces.{Bodies, whole}
-use Rattle.pure_parser.specs.Parser.{Reply, Read, Bad, Deep, Parser, head_of, after, ret, bad, deep, bind, peek, step, when, no_room, loop}
-use Rattle.pure_parser.specs.Exprs.{Env, BodyParser, AnAssign, name_of, named, expr_of, more_turn, comma_case, begins_assign, begins_call}
+use Rattle.pure_parser.specs.Parser.{Read, Deep, Parser, after, ret, bad, deep, bind, step, when, no_room, loop}
+use Rattle.pure_parser.specs.Exprs.{Env, BodyParser, AnAssign, name_of, named, expr_of, more_turn, comma_case, begins_assign}
 use Rattle.pure_parser.specs.Stmts as parser
 use Rattle.pure_parser.specs.Stmts.{Place, StmtCalls, Block, All, env_of, block_of, all_case}
 use Rattle.pure_parser.proofs.Tests.{name_known}

@@ -1,26 +1,25 @@
 -- Items in a parenthesis that does not end: read as items and as parameters they have the same fault, or both run out.
-use Rattle.std.proofs.Common.{◌≡◌, ℕ, zero, suc, ◌+◌, ◌≤◌, ◌<◌, List, [], ◌∷◌, ◌++◌, length, refl, sym, ap, ◌∙◌, subst, arith, length-append, append_assoc, append-nil, Bool, true, false, ◌&&◌, ◌||◌, not, Option, Some, None, inl, inr, ◌⊎◌}
+use Rattle.std.proofs.Common.{◌≡◌, ℕ, zero, suc, ◌+◌, ◌≤◌, ◌<◌, List, [], ◌∷◌, ◌++◌, length, refl, sym, ap, ◌∙◌, subst, arith, length-append, append-nil, Bool, true, false, Some, inl, inr}
 use Rattle.script_grammar.specs.declared.token.mark.TheConstants as mark
 use Rattle.script_grammar.specs.Lexeme.{Lexeme}
 use Rattle.script_grammar.specs.Kinds.{is_mark, is_name}
 use Rattle.script_grammar.specs.Tree.{Named, Expr}
 use Rattle.script_grammar.specs.Tree as tree
 use Rattle.script_grammar.specs.TreeLists.{Param, exprs_of}
-use Rattle.script_grammar.specs.Pieces.{Bodies, Piece, Opener, paren, open_at_end}
-use Rattle.pure_parser.specs.Parser.{Recorded, Reply, Read, Bad, Deep, Parser, head_of, rest_of, put_before, noted, after, ret, bad, bind, peek, step, when, Turn, Again, Stop, Many, stopped, begun, turned, turns, loop, end_lexeme}
+use Rattle.script_grammar.specs.Pieces.{Bodies, Piece, paren, open_at_end}
+use Rattle.pure_parser.specs.Parser.{Recorded, Reply, Read, Bad, Deep, Parser, head_of, noted, after, ret, bad, bind, step, when, Turn, Again, Stop, Many, stopped, begun, turned, turns, loop, end_lexeme}
 use Rattle.pure_parser.specs.Exprs
 use Rattle.pure_parser.specs.Exprs.{Env, AnAssign, AParam, ARest, ParamsEnd, Plain, Trailing, Rest, expect, again, is_param_form}
-use Rattle.pure_parser.proofs.Friendly.{Spot, AtFront, Inside}
-use Rattle.pure_parser.proofs.Tests.{false_true, true_false, bool_cases, and_left}
-use Rattle.pure_parser.proofs.Local.{Local, Same, out, kept, left, grown, grown_records, grown_noted, left_noted, after_shorter, local_ret, local_bad, local_bind, local_loop, local_turned, local_turns}
-use Rattle.pure_parser.proofs.Sound.{Leads, Sound, sound_inside}
+use Rattle.pure_parser.proofs.Tests.{bool_cases, and_left}
+use Rattle.pure_parser.proofs.Local.{Local, Same, out, kept, left, grown, grown_records, grown_noted, left_noted, after_shorter, local_ret, local_bind, local_loop, local_turned, local_turns}
+use Rattle.pure_parser.proofs.Sound.{sound_inside}
 use Rattle.pure_parser.proofs.Fitting.{FitsAll}
 use Rattle.pure_parser.proofs.Nested.{Nested, nested_none, mark_cons, name_cons}
 use Rattle.pure_parser.proofs.NestedTrees.{nested_expr, nested_list}
-use Rattle.pure_parser.proofs.SoundParts.{IsExpr, IsItem, IsRest, SoundEnv}
+use Rattle.pure_parser.proofs.SoundParts.{IsExpr, IsRest, SoundEnv}
 use Rattle.pure_parser.proofs.SoundArrows.{IsItems, items_sound}
 use Rattle.pure_parser.proofs.LocalExprs.{LocalEnv, NameEnd, deep_end, read_end, no_form, more_turn_local, more_turn_gains, expect_local, items_local, doomed_local, noted_twice, after_noted, after_twice, params_led_local, lead_turn_local, lead_end_local}
-use Rattle.pure_parser.proofs.LocalArrows.{arrow_first_local, arrow_next_local, arrow_turn_local, arrow_turn_gains, arrow_params_local, doomed_items_local}
+use Rattle.pure_parser.proofs.LocalArrows.{arrow_next_local, arrow_turn_local, arrow_turn_gains, arrow_params_local}
 use Rattle.pure_parser.proofs.LocalRace.{RunsOut, close_last, comma_runs, read_runs, Close, close_out, close_here, close_stuck, close_bad, close_deep, close_race, Race, expect_close, expect_stuck}
 
 -- records before replies

@@ -1,20 +1,20 @@
 -- From the three laws of a parser to the first fault of the parts that it reads: what its soundness says of faults, and its
 -- completeness of parts before no lexeme.
-use Rattle.std.proofs.Common.{◌≡◌, ℕ, zero, suc, ◌+◌, ◌≤◌, ◌<◌, List, [], ◌∷◌, ◌++◌, length, get_or, refl, sym, ap, ◌∙◌, subst, arith, append_assoc, append-nil, cond, nat_lt, Bool, true, false}
+use Rattle.std.proofs.Common.{◌≡◌, ℕ, zero, suc, ◌+◌, ◌≤◌, List, [], ◌∷◌, ◌++◌, get_or, refl, sym, ap, ◌∙◌, subst, arith, append_assoc, append-nil, cond, nat_lt, Bool, true, false}
 use Rattle.std.proofs.lemmas.Bool.{le-ltb, ltb-false}
 use Rattle.script_grammar.specs.Lexeme.{Lexeme}
 use Rattle.script_grammar.specs.Kinds.{is_end}
-use Rattle.script_grammar.specs.Pieces.{Piece, At, Gap, Pass, Fits, depths, may_omit}
+use Rattle.script_grammar.specs.Pieces.{Piece, At, Gap, Pass, Fits, depths}
 use Rattle.script_grammar.specs.Fault.{depth_limit, Part, Begins}
 use Rattle.pure_parser.specs.Parser.{Reply, Read, Bad, Deep, Parser, head_of, after, ret, bad, when, end_lexeme}
 use Rattle.pure_parser.specs.Stmts.{end_of}
-use Rattle.pure_parser.proofs.Friendly.{Spot, Friendly, first_of, friendly_omits, end_friendly}
-use Rattle.pure_parser.proofs.Stands.{Marked, lexemes, marks, Stands, Standing, fits_standing, stands_fit}
+use Rattle.pure_parser.proofs.Friendly.{Spot, Friendly, friendly_omits, end_friendly}
+use Rattle.pure_parser.proofs.Stands.{Marked, lexemes, marks, Stands, fits_standing}
 use Rattle.pure_parser.proofs.Complete.{Parses, bare, bare_noted, cut}
 use Rattle.pure_parser.proofs.SoundNext.{SoundNext, Outcome, Ended, Sunk, Took}
 use Rattle.pure_parser.proofs.Bracketed.{AllInner}
 use Rattle.pure_parser.proofs.Nested.{Nested}
-use Rattle.pure_parser.proofs.FirstFaults.{BegunBad, BegunDeep, Cuts, Decides, inner_open, inner_front}
+use Rattle.pure_parser.proofs.FirstFaults.{BegunBad, BegunDeep, Cuts, inner_open, inner_front}
 
 -- outcomes of bare replies
 

@@ -1,6 +1,6 @@
 -- What the parser of scripts answers that passes bodies over, with the bodies that it recorded: together they say where the
 -- first fault of a text is, or that it is a script, and with which tree.
-use Rattle.std.proofs.Common.{◌≡◌, ℕ, ◌-◌, ◌<◌, List, [], ◌∷◌, ◌++◌, length, refl, sym, ap, ◌∙◌, subst}
+use Rattle.std.proofs.Common.{◌≡◌, ℕ, ◌-◌, List, [], ◌∷◌, length, refl, sym, ap, ◌∙◌, subst}
 use Rattle.script_grammar.specs.Lexeme.{Lexeme}
 use Rattle.script_grammar.specs.Tree.{Body, Stmts}
 use Rattle.script_grammar.specs.Pieces.{whole, BracedArrow}

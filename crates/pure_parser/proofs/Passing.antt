@@ -1,5 +1,5 @@
 -- Passing over a braced body: it ends where a body that is read in place there does.
-use Rattle.std.proofs.Common.{◌≡◌, ℕ, List, [], ◌∷◌, ◌++◌, refl, sym, ap, ◌∙◌, append_assoc, Bool, true, false, Option, Some, None}
+use Rattle.std.proofs.Common.{◌≡◌, ℕ, List, [], ◌∷◌, ◌++◌, refl, ap, ◌∙◌, append_assoc, Bool, true, false, Option, Some, None}
 use Rattle.script_grammar.specs.declared.token.Kind.TheVariants as kind
 use Rattle.script_grammar.specs.declared.token.FuncForm.{FuncForm}
 use Rattle.script_grammar.specs.declared.token.mark.TheConstants as mark
@@ -7,7 +7,7 @@ use Rattle.script_grammar.specs.Lexeme.{Lexeme}
 use Rattle.script_grammar.specs.Kinds.{is_mark}
 use Rattle.script_grammar.specs.Tree.{Body}
 use Rattle.script_grammar.specs.Pieces.{Piece, Opener, brace, open_behind, open_at_end, Fits, mark_piece, closing_mark}
-use Rattle.pure_parser.specs.Parser.{Recorded, Reply, Read, Bad, Deep, Parser, head_of, put_before, after, ret, bad, bind, step, when, note}
+use Rattle.pure_parser.specs.Parser.{Recorded, Reply, Read, Bad, head_of, put_before, after, ret, bad, bind, step, when, note}
 use Rattle.pure_parser.specs.Exprs.{BodyRead, pass_case, pass_over, passed_body, passing}
 use Rattle.pure_parser.proofs.Friendly.{first_of}
 use Rattle.pure_parser.proofs.Fitting.{fits_part}

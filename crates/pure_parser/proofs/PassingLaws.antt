@@ -10,15 +10,15 @@ use Rattle.script_grammar.specs.Lexeme.{Lexeme}
 use Rattle.script_grammar.specs.Kinds.{is_mark}
 use Rattle.script_grammar.specs.Tree.{Body, Stmts}
 use Rattle.script_grammar.specs.Tree as tree
-use Rattle.script_grammar.specs.Pieces.{Opener, paren, bracket, brace, template, closes, closed, reopened, open_behind, open_at_end, passed, Fits, Pass, mark_piece, closing_mark}
-use Rattle.pure_parser.specs.Parser.{Recorded, Reply, Read, Bad, Deep, Parser, head_of, put_before, noted, after, ret}
-use Rattle.pure_parser.specs.Exprs.{BodyRead, BodyParser, pass_case, pass_over, passed_body, passing}
-use Rattle.pure_parser.specs.Stmts.{StmtCalls, All, everything}
+use Rattle.script_grammar.specs.Pieces.{Opener, paren, bracket, brace, template, closes, closed, reopened, open_behind, open_at_end, passed, Pass, mark_piece, closing_mark}
+use Rattle.pure_parser.specs.Parser.{Recorded, Reply, Read, Bad, Deep, put_before, after, ret}
+use Rattle.pure_parser.specs.Exprs.{BodyRead, pass_case, pass_over, passed_body, passing}
+use Rattle.pure_parser.specs.Stmts.{everything}
 use Rattle.pure_parser.proofs.Friendly.{Inside}
 use Rattle.pure_parser.proofs.Tests.{bool_cases, mark_known}
 use Rattle.pure_parser.proofs.Fitting.{FitsAll, is_slot, fits_closing, lexeme_of_kind}
 use Rattle.pure_parser.proofs.Nested.{open_step, open_append}
-use Rattle.pure_parser.proofs.Sound.{Outcome, Sound, Took, Ended, outcome_noted}
+use Rattle.pure_parser.proofs.Sound.{Outcome, Sound, outcome_noted}
 use Rattle.pure_parser.proofs.SoundParts.{IsBraced, SoundBody}
 use Rattle.pure_parser.proofs.SoundEverything.{SoundAll, everything_sound}
 use Rattle.pure_parser.proofs.Local.{Local, Same, out, kept, left, local_ret, local_bad, local_bind, local_peek, local_when, local_step, local_note}

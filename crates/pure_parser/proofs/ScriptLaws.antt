@@ -1,25 +1,24 @@
 -- What the parser of scripts answers, by the definitions alone: it reads a script with its one tree where no token is too
 -- deep, and where it faults there is the first fault of the text. Bodies are read in place.
-use Rattle.std.proofs.Common.{◌≡◌, ℕ, zero, suc, ◌+◌, ◌-◌, ◌≤◌, ◌<◌, List, [], ◌∷◌, ◌++◌, length, take, drop, get_or, refl, sym, ap, ◌∙◌, subst, arith, append_assoc, append-nil, length-append, Bool, true, false, ◌⊎◌, inl, inr}
+use Rattle.std.proofs.Common.{◌≡◌, ℕ, suc, ◌+◌, ◌-◌, ◌<◌, List, [], ◌∷◌, ◌++◌, length, drop, refl, sym, ap, ◌∙◌, subst, arith, append_assoc, append-nil, length-append, true, false}
 use Rattle.std.proofs.lemmas.List.{take-append-drop}
 use Rattle.script_grammar.specs.declared.token.Kind.{Kind}
 use Rattle.script_grammar.specs.declared.token.Kind.TheVariants as kind
 use Rattle.script_grammar.specs.Lexeme.{Lexeme}
 use Rattle.script_grammar.specs.Kinds.{is_end}
-use Rattle.script_grammar.specs.Tree.{Stmt, Stmts}
+use Rattle.script_grammar.specs.Tree.{Stmts}
 use Rattle.script_grammar.specs.TreeLists.{stmts_of}
-use Rattle.script_grammar.specs.Pieces.{whole, depths, Fits}
+use Rattle.script_grammar.specs.Pieces.{whole, depths}
 use Rattle.script_grammar.specs.Print.{print_stmts}
-use Rattle.script_grammar.specs.Proper.{ProperStmts}
-use Rattle.script_grammar.specs.Script.{IsStatements, IsScript}
-use Rattle.script_grammar.specs.Fault.{depth_limit, Part, ScriptPart, Begins, Viable, IsDeep, Refusal, Unexpected, TooDeep, RefusedAs, FirstFault}
-use Rattle.pure_parser.specs.Parser.{Reply, Read, Bad, Deep, Parser, head_of, after, ret, bad, when, end_lexeme}
+use Rattle.script_grammar.specs.Script.{IsScript}
+use Rattle.script_grammar.specs.Fault.{depth_limit, Part, ScriptPart, Begins, Viable, Refusal, Unexpected, TooDeep, RefusedAs, FirstFault}
+use Rattle.pure_parser.specs.Parser.{Reply, Read, Bad, Deep, head_of, end_lexeme}
 use Rattle.pure_parser.specs.Stmts as parser
 use Rattle.pure_parser.specs.Stmts.{StmtCalls, read_script}
-use Rattle.pure_parser.proofs.Friendly.{AtFront, end_friendly}
-use Rattle.pure_parser.proofs.Tests.{false_true, end_known}
-use Rattle.pure_parser.proofs.Stands.{Marked, lexemes, marks, lexemes_append, Stands, Standing, fits_standing}
-use Rattle.pure_parser.proofs.Complete.{bare, cut, cut_append}
+use Rattle.pure_parser.proofs.Friendly.{AtFront}
+use Rattle.pure_parser.proofs.Tests.{end_known}
+use Rattle.pure_parser.proofs.Stands.{Marked, marks, lexemes_append, fits_standing}
+use Rattle.pure_parser.proofs.Complete.{bare, cut_append}
 use Rattle.pure_parser.proofs.SoundNext.{stands}
 use Rattle.pure_parser.proofs.SoundEverything.{read_script_sound}
 use Rattle.pure_parser.proofs.LocalEverything.{read_script_local}
@@ -27,7 +26,7 @@ use Rattle.pure_parser.proofs.CompleteEverything.{read_script_complete}
 use Rattle.pure_parser.proofs.Bracketed.{IsInner, AllInner}
 use Rattle.pure_parser.proofs.NestedTrees.{nested_stmts}
 use Rattle.pure_parser.proofs.FirstFaults.{Whole, Decides, Cuts, first_bad, first_deep, not_inner, deep_before, fault_place, fault_kind}
-use Rattle.pure_parser.proofs.PartLaws.{of_read, bad_part, deep_part, stands_friendly, nested_inner, NoneDeep, cut_read, cut_none, both_stand, one_read, room_of, ends_there}
+use Rattle.pure_parser.proofs.PartLaws.{of_read, bad_part, deep_part, nested_inner, NoneDeep, cut_read, cut_none, both_stand, one_read, room_of, ends_there}
 
 -- the parser, with all room for depth
 abbrev pub Reads : List Lexeme → Reply Stmts

@@ -18,6 +18,7 @@ use Rattle.pure_parser.specs.Exprs.{Env, AnAssign, BodyRead, expr_of, function_o
 use Rattle.pure_parser.specs.Stmts as parser
 use Rattle.pure_parser.specs.Stmts.{StmtCalls, env_of, everything, in_place, reading, read_alone}
 use Rattle.pure_parser.specs.Follow.{continues_assign, continues_expr}
+use Rattle.pure_parser.proofs.ProperIn.{whole_mode, in_expr, in_stmts}
 use Rattle.pure_parser.proofs.Friendly.{AtFront, Inside}
 use Rattle.pure_parser.proofs.Complete.{bare}
 use Rattle.pure_parser.proofs.Stops.{stop_end, stop_assign}
@@ -60,13 +61,13 @@ read_braced room form start simple = reading (stmts_with room) form start simple
 env_sound : (room d : ℕ) → SoundEnv whole d (env_with room)
 env_sound room d = record { calls = (in_place_sound room d).exprs; body = reading_sound d (stmts_with room) (in_place_sound room d).stmts }
 
-env_complete : (limit room d : ℕ) → room + d ≡ limit → CompleteEnv limit whole d (env_with room)
+env_complete : (limit room d : ℕ) → room + d ≡ limit → CompleteEnv limit whole_mode d (env_with room)
 env_complete limit room d e = record { calls = (in_place_complete limit room d e).exprs; body = reading_complete limit d (omega (arith, e)) (stmts_with room) (in_place_complete limit room d e).stmts }
 
 -- an AssignmentExpression
 
 assign_complete : (limit room d : ℕ) → room + d ≡ limit → (w : Bool) (x : Lexeme) (u : List Lexeme) (e : Expr) → IsAssign whole w d u x e → Completes limit (print whole (suc d) e) (λ t. continues_assign w (ending e) t ≡ false) (read_assign room w) e
-assign_complete limit room d q w x u e s = (env_complete limit room d q).calls.assign w e s.level s.proper s.in_if
+assign_complete limit room d q w x u e s = (env_complete limit room d q).calls.assign w e s.level (in_expr e s.proper) s.in_if
 
 no_assign : (w : Bool) (e : Expr) → continues_assign w (ending e) end_lexeme ≡ false
 no_assign w e = stop_assign w (ending e) end_lexeme (stop_end w (ending e) end_lexeme refl)
@@ -105,7 +106,7 @@ one_assign w d u x y a b s t =
 -- an Expression
 
 expression_complete : (limit room d : ℕ) → room + d ≡ limit → (w : Bool) (x : Lexeme) (u : List Lexeme) (e : Expr) → IsExpression whole w d u x e → Completes limit (print whole (suc d) e) (λ t. continues_expr w (ending e) t ≡ false) (read_expression room w) e
-expression_complete limit room d q w x u e s = expr_complete limit whole d (omega (arith, q)) (env_with room) (env_complete limit room d q) w e s.proper s.in_if
+expression_complete limit room d q w x u e s = expr_complete limit whole_mode d (omega (arith, q)) (env_with room) (env_complete limit room d q) w e (in_expr e s.proper) s.in_if
 
 no_expr : (w : Bool) (e : Expr) → continues_expr w (ending e) end_lexeme ≡ false
 no_expr w e = stop_end w (ending e) end_lexeme refl
@@ -181,7 +182,7 @@ abbrev pub body_is : Stmts → ℕ → BodyRead
 body_is items end = record { body = tree.BracedBody items; end = end }
 
 braced_complete : (limit room d : ℕ) → room + d ≡ limit → (form : FuncForm) (start : ℕ) (simple : Bool) (end : ℕ) (x : Lexeme) (u : List Lexeme) (items : Stmts) → IsBody whole d end u x items → Completes limit (print_braced whole d end items) (λ t. Unit {0}) (read_braced room form start simple) (body_is items end)
-braced_complete limit room d q form start simple end x u items s = own_complete limit d (omega (arith, q)) (stmts_with room) (in_place_complete limit room d q).stmts form start end simple items s.proper
+braced_complete limit room d q form start simple end x u items s = own_complete limit whole_mode d (omega (arith, q)) (stmts_with room) (in_place_complete limit room d q).stmts form start end simple items (in_stmts true items s.proper)
 
 body_inner : (d : ℕ) (form : FuncForm) (u : List Lexeme) (b : BodyRead) → IsBraced whole d form u b → AllInner u
 body_inner d form u b s = nested_inner (print_body whole d b.end (tree.BracedBody s.items)) (nested_body whole d b.end form (tree.BracedBody s.items) s.proper) u end_lexeme (s.fits.before end_lexeme)

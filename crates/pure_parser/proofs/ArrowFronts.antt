@@ -13,7 +13,7 @@ use Rattle.script_grammar.specs.Tree as tree
 use Rattle.script_grammar.specs.Pieces.{Bodies, Piece, At, Gap, Pass, Opener, paren, open_behind, open_at_end, comma_piece, mark_piece, name_piece, glued_mark, placed, from}
 use Rattle.script_grammar.specs.Endings.{ending}
 use Rattle.script_grammar.specs.Print.{print, print_params, print_tails, print_operands, print_body, first_kind}
-use Rattle.script_grammar.specs.Proper.{rank, Proper, HasTails, HasOperands, operands_level, first_rank}
+use Rattle.script_grammar.specs.Proper.{rank, HasTails, HasOperands, operands_level, first_rank}
 use Rattle.pure_parser.specs.Parser.{head_of}
 use Rattle.pure_parser.specs.Exprs.{is_arrow, is_arrow_head, arrow_behind, closed_case}
 use Rattle.pure_parser.specs.Follow.{continues_assign}
@@ -27,6 +27,7 @@ use Rattle.pure_parser.proofs.Nested.{Nested, deeper_behind, nested_append, comm
 use Rattle.pure_parser.proofs.NestedTrees.{nested_expr, nested_params}
 use Rattle.pure_parser.proofs.ExprFronts.{Opens, opens_first, opens_some, update_is}
 use Rattle.pure_parser.proofs.CompletePlain.{IsArrow}
+use Rattle.pure_parser.proofs.ProperIn.{Mode, of_expr, of_params, Proper}
 
 -- the walk behind a parenthesis
 
@@ -91,18 +92,18 @@ bare_found : (n : Named) (d : ℕ) (qs : List Piece) (w : List Marked) (rest : L
 bare_found n d qs [] rest h = absurd h
 bare_found n d qs (x ∷ w) rest h = at_name x.lexeme (lexemes w ++ rest) h.0.kind ∙ mark_found d qs w rest h.2
 
-pub arrow_found : (m : Bodies) (d at start end : ℕ) (name : Option Named) (ps : Params) (comma bare : Bool) (b : Body) → Proper m (tree.Func at (function form.Arrow start end name ps comma bare b)) → (w : List Marked) (rest : List Lexeme) → Stands (print m d (tree.Func at (function form.Arrow start end name ps comma bare b))) w (head_of rest) → is_arrow_head (lexemes w ++ rest) ≡ true
+pub arrow_found : (m : Mode) (d at start end : ℕ) (name : Option Named) (ps : Params) (comma bare : Bool) (b : Body) → Proper m (tree.Func at (function form.Arrow start end name ps comma bare b)) → (w : List Marked) (rest : List Lexeme) → Stands (print m.look d (tree.Func at (function form.Arrow start end name ps comma bare b))) w (head_of rest) → is_arrow_head (lexemes w ++ rest) ≡ true
 arrow_found m d at start end name ps comma false b h w rest k =
-    let behind : List Piece = glued_mark mark.ARROW d ∷ print_body m d end b in
-    let params : List Piece = print_params m (suc d) d ps in
+    let behind : List Piece = glued_mark mark.ARROW d ∷ print_body m.look d end b in
+    let params : List Piece = print_params m.look (suc d) d ps in
     let close : List Piece = mark_piece mark.CLOSE_PAREN d ∷ [] in
     let same : (params ++ (comma_piece comma d ++ close)) ++ behind ≡ (params ++ comma_piece comma d) ++ (mark_piece mark.CLOSE_PAREN d ∷ behind) = append_assoc params (comma_piece comma d ++ close) behind ∙ ap (λ x. params ++ x) (append_assoc (comma_piece comma d) close behind) ∙ sym (append_assoc params (comma_piece comma d) (mark_piece mark.CLOSE_PAREN d ∷ behind)) in
-    paren_group start d (params ++ comma_piece comma d) behind (nested_append (nested_params m (suc d) d ps h.1.3) (comma_nested comma d)) w rest (subst (λ x. Stands (placed (kind.Mark mark.OPEN_PAREN) start d ∷ x) w (head_of rest)) same k) true (λ v q. mark_found d (print_body m d end b) v rest q)
+    paren_group start d (params ++ comma_piece comma d) behind (nested_append (nested_params m.look (suc d) d ps (of_params m ps h.1.3)) (comma_nested comma d)) w rest (subst (λ x. Stands (placed (kind.Mark mark.OPEN_PAREN) start d ∷ x) w (head_of rest)) same k) true (λ v q. mark_found d (print_body m.look d end b) v rest q)
 arrow_found m d at start end name no_params comma true b h w rest k = absurd h.1.2
 arrow_found m d at start end name (more_params n (some_expr e) r ps) comma true b h w rest k = absurd h.1.2
 arrow_found m d at start end name (more_params n no_expr true ps) comma true b h w rest k = absurd h.1.2
 arrow_found m d at start end name (more_params n no_expr false (more_params n2 v2 r2 ps)) comma true b h w rest k = absurd h.1.2
-arrow_found m d at start end name (more_params n no_expr false no_params) comma true b h w rest k = bare_found n d (print_body m d end b) w rest k
+arrow_found m d at start end name (more_params n no_expr false no_params) comma true b h w rest k = bare_found n d (print_body m.look d end b) w rest k
 
 -- at what is no arrow
 
@@ -141,8 +142,8 @@ of_name n d = record { at = none }
     none (x ∷ []) rest h g = at_name x.lexeme rest h.0.kind ∙ g
     none (x ∷ y ∷ w) rest h g = absurd h.2
 
-of_paren : (m : Bodies) (d at : ℕ) (inner : Expr) → Proper m inner → NoHead (print m d (tree.Paren at inner)) NotArrow
-of_paren m d at inner p = record { at = λ w rest h g. paren_group at d (print m (suc d) inner) [] (nested_expr m (suc d) inner p) w rest h false (λ v k. none v rest k g) }
+of_paren : (m : Mode) (d at : ℕ) (inner : Expr) → Proper m inner → NoHead (print m.look d (tree.Paren at inner)) NotArrow
+of_paren m d at inner p = record { at = λ w rest h g. paren_group at d (print m.look (suc d) inner) [] (nested_expr m.look (suc d) inner (of_expr m inner p)) w rest h false (λ v k. none v rest k g) }
   where
     none : (v : List Marked) (rest : List Lexeme) → Stands [] v (head_of rest) → NotArrow (head_of rest) → is_arrow (head_of (lexemes v ++ rest)) ≡ false
     none [] rest h g = g
@@ -176,13 +177,13 @@ assign_not_arrow op h = by (bool_cases (nat_eq op mark.ARROW))
     by (inl e) = absurd (true_false (sym h ∙ ap is_assign_op (eqb-true op mark.ARROW e)))
     by (inr e) = e
 
-tails_lead : (m : Bodies) (d : ℕ) (ts : Tails) {G : Lexeme → Type 0} → HasTails ts → Leads (print_tails m d ts) G NotArrow
+tails_lead : (m : Mode) (d : ℕ) (ts : Tails) {G : Lexeme → Type 0} → HasTails ts → Leads (print_tails m.look d ts) G NotArrow
 tails_lead m d no_tails h = absurd h
 tails_lead m d (more_tails (tree.Dot x) ts) h = lead_at (λ t s. arrow_not (kind.Mark mark.DOT) t s.kind refl)
 tails_lead m d (more_tails (tree.Index e) ts) h = lead_at (λ t s. arrow_not (kind.Mark mark.OPEN_BRACKET) t s.kind refl)
 tails_lead m d (more_tails (tree.Call es comma) ts) h = lead_at (λ t s. arrow_not (kind.Mark mark.OPEN_PAREN) t s.kind refl)
 
-operands_lead : (m : Bodies) (d : ℕ) (os : Operands) {G : Lexeme → Type 0} → HasOperands os → operands_level os < 12 → Leads (print_operands m d os) G NotArrow
+operands_lead : (m : Mode) (d : ℕ) (os : Operands) {G : Lexeme → Type 0} → HasOperands os → operands_level os < 12 → Leads (print_operands m.look d os) G NotArrow
 operands_lead m d no_operands h k = absurd h
 operands_lead m d (more_operands op of_word value rest) h k = lead_at (λ t s. arrow_not (op_kind op of_word) t s.kind (op_not_arrow op of_word k))
 
@@ -290,7 +291,7 @@ first_low : (n : ℕ) → n < 12 → first_rank n ≤ 19
 first_low zero h = omega arith
 first_low (suc n) h = if_low (nat_eq (suc n) 11) (suc n) h
 
-func_lone : (m : Bodies) (d at : ℕ) (f : Function) → Proper m (tree.Func at f) → (IsArrow (tree.Func at f) → ⊥) → Opens no_front (print m d (tree.Func at f))
+func_lone : (m : Mode) (d at : ℕ) (f : Function) → Proper m (tree.Func at f) → (IsArrow (tree.Func at f) → ⊥) → Opens no_front (print m.look d (tree.Func at f))
 func_lone m d at (function form.Function start end name ps comma bare body) h k = refl
 func_lone m d at (function form.Arrow start end name ps comma bare body) h k = absurd (k refl)
 func_lone m d at (function form.Script start end name ps comma bare body) h k = absurd h.0
@@ -298,7 +299,7 @@ func_lone m d at (function form.Method start end name ps comma bare body) h k = 
 func_lone m d at (function form.Getter start end name ps comma bare body) h k = absurd h.0
 func_lone m d at (function form.Setter start end name ps comma bare body) h k = absurd h.0
 
-pub no_head : (m : Bodies) (d : ℕ) (e : Expr) → rank e ≤ 20 → Proper m e → (IsArrow e → ⊥) → NoHead (print m d e) (Lone e)
+pub no_head : (m : Mode) (d : ℕ) (e : Expr) → rank e ≤ 20 → Proper m e → (IsArrow e → ⊥) → NoHead (print m.look d e) (Lone e)
 no_head m d (tree.Name n) r h k = of_name n d
 no_head m d (tree.Paren at inner) r h k = of_paren m d at inner h
 no_head m d (tree.This at) r h k = by_front _ _ refl
@@ -315,7 +316,7 @@ no_head m d (tree.Chain head tails) r h k = by_append (weak head (no_head m d he
 no_head m d (tree.New at callee args) r h k = by_front _ _ refl
 no_head m d (tree.Unary at op of of_word) r h k = by_front _ _ (prefix_front op of_word h.0)
 no_head m d (tree.Update at op true of) r h k = by_front _ _ (update_is (λ x. no_front (kind.Mark x) ≡ true) refl refl op h.0)
-no_head m d (tree.Update at op false of) r h k = by_append (of_from at (print m d of) NotArrow (weak of (no_head m d of (omega (arith, h.1)) h.2 (tight of (omega (arith, h.1)))))) (lead_at (λ t s. arrow_not (kind.Mark op) t s.kind (update_is (λ x. is_mark mark.ARROW (kind.Mark x) ≡ false) refl refl op h.0)))
+no_head m d (tree.Update at op false of) r h k = by_append (of_from at (print m.look d of) NotArrow (weak of (no_head m d of (omega (arith, h.1)) h.2 (tight of (omega (arith, h.1)))))) (lead_at (λ t s. arrow_not (kind.Mark op) t s.kind (update_is (λ x. is_mark mark.ARROW (kind.Mark x) ≡ false) refl refl op h.0)))
 no_head m d (tree.Binary first rest) r h k =
     let low = first_low (operands_level rest) h.1 in
     by_append (weak first (no_head m d first (omega (arith, h.2, low)) h.3 (tight first (omega (arith, h.2, low))))) (operands_lead m d rest h.0 h.1)

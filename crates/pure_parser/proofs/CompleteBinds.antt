@@ -16,7 +16,7 @@ use Rattle.script_grammar.specs.TreeLists.{Bind, maybe_expr_of, binds_of}
 use Rattle.script_grammar.specs.Pieces.{Bodies, Piece, Ending, BareBinding, may_omit, mark_piece, word_piece, name_piece, semi_piece}
 use Rattle.script_grammar.specs.Endings.{ending, binds_ending, bind_ending}
 use Rattle.script_grammar.specs.Print.{print, print_stmt, print_maybe, print_binds, print_more_binds, print_initializer}
-use Rattle.script_grammar.specs.Proper.{rank, Proper, ProperMaybe, ProperOption, ProperStmt, ProperBinds, HasBinds, is_statement, free_of_in, maybe_free, binds_free, InIf}
+use Rattle.script_grammar.specs.Proper.{rank, HasBinds, is_statement, free_of_in, maybe_free, binds_free, InIf}
 use Rattle.pure_parser.specs.Parser.{Read, head_of, ret, bind, step, when, Again, Stop, begun, led}
 use Rattle.pure_parser.specs.Exprs.{Env, AnAssign, expect, expr_of, again, begins_assign}
 use Rattle.pure_parser.specs.Stmts as parser
@@ -39,6 +39,7 @@ use Rattle.pure_parser.proofs.Tests.{bool_cases}
 use Rattle.pure_parser.proofs.Stops.{omit_cases}
 use Rattle.pure_parser.proofs.CompleteLoops.{LastLeads}
 use Rattle.pure_parser.proofs.CompleteStmts.{Follows, CompleteUses, CompleteBlock, c_value, follows_as, semi_complete, semi_leads, name_complete}
+use Rattle.pure_parser.proofs.ProperIn.{Mode, Proper, ProperBinds, ProperMaybe, ProperOption, ProperStmt}
 
 abbrev pub option_of : MaybeExpr → Option Expr
 option_of no_expr = None
@@ -102,7 +103,7 @@ comma_follows : (w : Bool) (o : MaybeExpr) (t : Lexeme) → t.kind ≡ kind.Mark
 comma_follows w no_expr t e = ap (is_mark mark.ASSIGN) e
 comma_follows w (some_expr x) t e = stop_comma w (ending x) t e
 
-module _ (limit : ℕ) (m : Bodies) (d : ℕ) (low : d ≤ limit) (v : Env) (c : CompleteUses limit m d v) where
+module _ (limit : ℕ) (m : Mode) (d : ℕ) (low : d ≤ limit) (v : Env) (c : CompleteUses limit m d v) where
   value_here : (w : Bool) (t : Lexeme) (ts : List Lexeme) → t.kind ≡ kind.Mark mark.ASSIGN → parser.value_of v w (t ∷ ts) ≡ bind (v.sub (AnAssign w)) (λ e. ret (Some e)) ts
   unfolding parser.value_of
   value_here w t ts e = at_kind (λ u. parser.value_of v w (u ∷ ts) ≡ bind (v.sub (AnAssign w)) (λ e. ret (Some e)) ts) (kind.Mark mark.ASSIGN) t e refl
@@ -111,11 +112,11 @@ module _ (limit : ℕ) (m : Bodies) (d : ℕ) (low : d ≤ limit) (v : Env) (c :
   unfolding parser.value_of
   no_value w rest h = ap (λ x. bare (when x (step (bind (v.sub (AnAssign w)) (λ e. ret (Some e)))) (ret None) rest)) h
 
-  value_complete : (w : Bool) (o : MaybeExpr) → ProperMaybe m o → InIf w (maybe_free o) → Completes limit (print_initializer m d o) (BindFollow w o) (parser.value_of v w) (option_of o)
+  value_complete : (w : Bool) (o : MaybeExpr) → ProperMaybe m o → InIf w (maybe_free o) → Completes limit (print_initializer m.look d o) (BindFollow w o) (parser.value_of v w) (option_of o)
   value_complete w no_expr h i = c_look limit (no_value w)
   value_complete w (some_expr e) h i = c_at limit (λ t. bind (v.sub (AnAssign w)) (λ e. ret (Some e))) low (λ t ts s. value_here w t ts s.kind) (λ t s. c_made limit Some (c.assign w e h.0 h.1 i))
 
-  bind_from_complete : (w : Bool) (n : Named) (o : MaybeExpr) → ProperMaybe m o → InIf w (maybe_free o) → Completes limit (print_initializer m d o) (BindFollow w o) (parser.bind_from v w n) (bound n (option_of o))
+  bind_from_complete : (w : Bool) (n : Named) (o : MaybeExpr) → ProperMaybe m o → InIf w (maybe_free o) → Completes limit (print_initializer m.look d o) (BindFollow w o) (parser.bind_from v w n) (bound n (option_of o))
   unfolding parser.bind_from
   bind_from_complete w n o h i = c_made limit (bound n) (value_complete w o h i)
 
@@ -123,12 +124,12 @@ module _ (limit : ℕ) (m : Bodies) (d : ℕ) (low : d ≤ limit) (v : Env) (c :
   Item w x = ProperMaybe m (maybe_expr_of x.value) × InIf w (maybe_free (maybe_expr_of x.value))
 
   abbrev item_pieces : Bind → List Piece
-  item_pieces x = mark_piece mark.COMMA d ∷ name_piece x.name d ∷ print_initializer m d (maybe_expr_of x.value)
+  item_pieces x = mark_piece mark.COMMA d ∷ name_piece x.name d ∷ print_initializer m.look d (maybe_expr_of x.value)
 
   abbrev ItemFollow : Bool → Bind → Lexeme → Type 0
   ItemFollow w x t = BindFollow w (maybe_expr_of x.value) t
 
-  bind_of_complete : (w : Bool) (x : Bind) → Item w x → Completes limit (name_piece x.name d ∷ print_initializer m d (maybe_expr_of x.value)) (ItemFollow w x) (parser.bind_of v w) x
+  bind_of_complete : (w : Bool) (x : Bind) → Item w x → Completes limit (name_piece x.name d ∷ print_initializer m.look d (maybe_expr_of x.value)) (ItemFollow w x) (parser.bind_of v w) x
   unfolding parser.bind_of
   bind_of_complete w x k = c_value (ap (bound x.name) (of_option x.value)) (c_bind limit (parser.bind_from v w) (name_complete limit m d low x.name) lead_any (bind_from_complete w x.name (maybe_expr_of x.value) k.0 k.1))
 
@@ -151,10 +152,10 @@ module _ (limit : ℕ) (m : Bodies) (d : ℕ) (low : d ≤ limit) (v : Env) (c :
   item_link w x y kx ky [] n h = absurd h
   item_link w x y kx ky (z ∷ u) n h = comma_follows w (maybe_expr_of x.value) z.lexeme h.0.kind
 
-  flat_binds : (bs : Binds) → flat item_pieces (binds_list bs) ++ [] ≡ print_more_binds m d bs
+  flat_binds : (bs : Binds) → flat item_pieces (binds_list bs) ++ [] ≡ print_more_binds m.look d bs
   flat_binds no_binds = refl
   flat_binds (more_binds n no_expr bs) = ap (λ x. mark_piece mark.COMMA d ∷ name_piece n d ∷ x) (flat_binds bs)
-  flat_binds (more_binds n (some_expr e) bs) = ap (λ x. mark_piece mark.COMMA d ∷ name_piece n d ∷ x) (append_assoc (mark_piece mark.ASSIGN d ∷ print m (suc d) e) (flat item_pieces (binds_list bs)) [] ∙ ap (λ x. (mark_piece mark.ASSIGN d ∷ print m (suc d) e) ++ x) (flat_binds bs))
+  flat_binds (more_binds n (some_expr e) bs) = ap (λ x. mark_piece mark.COMMA d ∷ name_piece n d ∷ x) (append_assoc (mark_piece mark.ASSIGN d ∷ print m.look (suc d) e) (flat item_pieces (binds_list bs)) [] ∙ ap (λ x. (mark_piece mark.ASSIGN d ∷ print m.look (suc d) e) ++ x) (flat_binds bs))
 
   all_items : (w : Bool) (bs : Binds) → ProperBinds m bs → InIf w (binds_free bs) → AllK (Item w) (binds_list bs)
   all_items w no_binds h i = tt
@@ -173,12 +174,12 @@ module _ (limit : ℕ) (m : Bodies) (d : ℕ) (low : d ≤ limit) (v : Env) (c :
   last_lead w n o (more_binds n2 value no_binds) = lead_map (λ t g. subst (λ x. BindFollow w x t) (sym (of_maybe value)) g.follow) lead_none
   last_lead w n o (more_binds n2 value (more_binds n3 value3 bs)) = last_lead w n2 value (more_binds n3 value3 bs)
 
-  more_leads : (w : Bool) (o : MaybeExpr) (bs : Binds) → Leads (print_more_binds m d bs) (BindsEnd w (last_value o bs)) (BindFollow w o)
+  more_leads : (w : Bool) (o : MaybeExpr) (bs : Binds) → Leads (print_more_binds m.look d bs) (BindsEnd w (last_value o bs)) (BindFollow w o)
   more_leads w o no_binds = lead_map (λ t g. g.follow) lead_none
   more_leads w o (more_binds n value bs) = lead_at (λ t s. comma_follows w o t s.kind)
 
   -- behind the first name
-  pub binds_complete : (w : Bool) (n : Named) (o : MaybeExpr) (bs : Binds) → ProperBinds m (more_binds n o bs) → InIf w (binds_free (more_binds n o bs)) → Completes limit (print_initializer m d o ++ print_more_binds m d bs) (BindsEnd w (last_value o bs)) (parser.binds_from v w n) (record { items = binds_list (more_binds n o bs); last = tt })
+  pub binds_complete : (w : Bool) (n : Named) (o : MaybeExpr) (bs : Binds) → ProperBinds m (more_binds n o bs) → InIf w (binds_free (more_binds n o bs)) → Completes limit (print_initializer m.look d o ++ print_more_binds m.look d bs) (BindsEnd w (last_value o bs)) (parser.binds_from v w n) (record { items = binds_list (more_binds n o bs); last = tt })
   unfolding parser.binds_from
   binds_complete w n o bs h i = c_bind limit (led (parser.bind_turn v w)) (bind_from_complete w n o h.0 (in_left w (maybe_free o) (binds_free bs) i)) (more_leads w o bs)
       (c_made limit (begun (bound n (option_of o))) (c_pieces limit (flat_binds bs) (c_loop limit (Item w) item_pieces (ItemFollow w) [] (BindsEnd w (last_value o bs)) tt (parser.bind_turn v w) (item_complete w) (item_some w) (item_link w) (c_look limit (λ rest g. no_comma w rest g.comma)) (binds_list bs) (all_items w bs h.1 (in_right w (maybe_free o) (binds_free bs) i)) (last_lead w n o bs))))
@@ -198,7 +199,7 @@ module _ (limit : ℕ) (m : Bodies) (d : ℕ) (low : d ≤ limit) (v : Env) (c :
   true_if x = refl
 
   -- behind the word
-  pub binding_complete : {F : Lexeme → Type 0} (k : Decl) (bs : Binds) (semi : Bool) → HasBinds bs → ProperBinds m bs → Completes limit (print_binds m d bs ++ semi_piece (binds_ending BareBinding bs) semi d) F (parser.binding_of v k) (tree.Binding k bs semi)
+  pub binding_complete : {F : Lexeme → Type 0} (k : Decl) (bs : Binds) (semi : Bool) → HasBinds bs → ProperBinds m bs → Completes limit (print_binds m.look d bs ++ semi_piece (binds_ending BareBinding bs) semi d) F (parser.binding_of v k) (tree.Binding k bs semi)
   unfolding parser.binding_of
   binding_complete k no_binds semi h p = absurd h
   binding_complete {F = F} k (more_binds n o bs) semi h p = c_bind limit (λ x. bind (parser.binds_from v true x) (λ y. parser.binding_case k y.items)) (name_complete limit m d low n) lead_any
@@ -223,7 +224,7 @@ not_word j h k o = by (bool_cases (is_word j k))
     by (inr e) = e
 
 -- a LeftHandSideExpression has no `in` outside brackets
-left_function : (m : Bodies) (at : ℕ) (f : Function) → Proper m (tree.Func at f) → rank (tree.Func at f) ≤ left_rank → function_free f ≡ true
+left_function : (m : Mode) (at : ℕ) (f : Function) → Proper m (tree.Func at f) → rank (tree.Func at f) ≤ left_rank → function_free f ≡ true
 left_function m at (function g start end name ps comma bare (BracedBody items)) h r = refl
 left_function m at (function form.Arrow start end name ps comma bare (ShortBody value)) h r = absurd (omega (arith, r))
 left_function m at (function form.Function start end name ps comma bare (ShortBody value)) h r = absurd (false_true h.1.4.0)
@@ -232,7 +233,7 @@ left_function m at (function form.Method start end name ps comma bare (ShortBody
 left_function m at (function form.Getter start end name ps comma bare (ShortBody value)) h r = absurd h.0
 left_function m at (function form.Setter start end name ps comma bare (ShortBody value)) h r = absurd h.0
 
-left_free : (m : Bodies) (e : Expr) → Proper m e → rank e ≤ left_rank → free_of_in e ≡ true
+left_free : (m : Mode) (e : Expr) → Proper m e → rank e ≤ left_rank → free_of_in e ≡ true
 left_free m (tree.This at) h r = refl
 left_free m (tree.Name name) h r = refl
 left_free m (tree.Null at) h r = refl
@@ -254,8 +255,8 @@ left_free m (tree.Cond test then_value else_value) h r = absurd (omega (arith, r
 left_free m (tree.Assign op target value) h r = absurd (omega (arith, r))
 left_free m (tree.Comma es) h r = absurd (omega (arith, r))
 
-module _ (limit : ℕ) (m : Bodies) (d : ℕ) (low : d ≤ limit) (b : Block) (c : CompleteBlock limit m d b) (i : Bool) where
-  body : (s : Stmt) → ProperStmt m i s → is_statement s ≡ true → Completes limit (print_stmt m (suc d) s) (Follows s) (b.stmt (AStmt i)) s
+module _ (limit : ℕ) (m : Mode) (d : ℕ) (low : d ≤ limit) (b : Block) (c : CompleteBlock limit m d b) (i : Bool) where
+  body : (s : Stmt) → ProperStmt m i s → is_statement s ≡ true → Completes limit (print_stmt m.look (suc d) s) (Follows s) (b.stmt (AStmt i)) s
   body s h k = c.stmts.at (AStmt i) s h (λ _. k)
 
   -- an Expression or none, before this mark
@@ -267,18 +268,18 @@ module _ (limit : ℕ) (m : Bodies) (d : ℕ) (low : d ≤ limit) (b : Block) (c
   unfolding parser.option_of
   option_some j t ts h = ap (λ x. when x (ret None) (bind (expr_of b.exprs true) (λ e. ret (Some e))) (t ∷ ts)) h
 
-  option_complete : (j : ℕ) → begins_mark j ≡ false → ((e : Ending) (t : Lexeme) → t.kind ≡ kind.Mark j → continues_expr true e t ≡ false) → is_mark j (kind.Mark j) ≡ true → (o : MaybeExpr) → ProperOption m o → Completes limit (print_maybe m (suc d) o) (λ t. t.kind ≡ kind.Mark j) (parser.option_of b.exprs j) (option_of o)
+  option_complete : (j : ℕ) → begins_mark j ≡ false → ((e : Ending) (t : Lexeme) → t.kind ≡ kind.Mark j → continues_expr true e t ≡ false) → is_mark j (kind.Mark j) ≡ true → (o : MaybeExpr) → ProperOption m o → Completes limit (print_maybe m.look (suc d) o) (λ t. t.kind ≡ kind.Mark j) (parser.option_of b.exprs j) (option_of o)
   option_complete j z stop same no_expr h = c_look limit (λ rest g. option_none j rest (ap (is_mark j) g ∙ same))
   option_complete j z stop same (some_expr e) h = c_weaken limit (λ t g. stop (ending e) t g) (c_front limit (bind (expr_of b.exprs true) (λ x. ret (Some x)))
-      (λ x w rest k g. option_some j x.lexeme (lexemes w ++ rest) (not_mark j z x.lexeme.kind (opens_first begins_assign (print m (suc d) e) x w (head_of rest) (expr_opens m (suc d) e h) k)))
-      (λ w n k. opens_some begins_assign (print m (suc d) e) w n (expr_opens m (suc d) e h) k)
+      (λ x w rest k g. option_some j x.lexeme (lexemes w ++ rest) (not_mark j z x.lexeme.kind (opens_first begins_assign (print m.look (suc d) e) x w (head_of rest) (expr_opens m (suc d) e h) k)))
+      (λ w n k. opens_some begins_assign (print m.look (suc d) e) w n (expr_opens m (suc d) e h) k)
       (c_made limit Some (c.uses.expr true e h refl)))
 
   for_value : (n : Init) (test update : MaybeExpr) (s : Stmt) → tree.For n (maybe_expr_of (option_of test)) (maybe_expr_of (option_of update)) s ≡ tree.For n test update s
   for_value n test update s = ap (λ x. tree.For n x (maybe_expr_of (option_of update)) s) (of_maybe test) ∙ ap (λ x. tree.For n test x s) (of_maybe update)
 
   -- behind what begins the head
-  rest_complete : (n : Init) (test update : MaybeExpr) (s : Stmt) → ProperStmt m i (tree.For n test update s) → Completes limit (mark_piece mark.SEMICOLON d ∷ (print_maybe m (suc d) test ++ (mark_piece mark.SEMICOLON d ∷ (print_maybe m (suc d) update ++ (mark_piece mark.CLOSE_PAREN d ∷ print_stmt m (suc d) s))))) (Follows (tree.For n test update s)) (parser.for_from b i n) (tree.For n test update s)
+  rest_complete : (n : Init) (test update : MaybeExpr) (s : Stmt) → ProperStmt m i (tree.For n test update s) → Completes limit (mark_piece mark.SEMICOLON d ∷ (print_maybe m.look (suc d) test ++ (mark_piece mark.SEMICOLON d ∷ (print_maybe m.look (suc d) update ++ (mark_piece mark.CLOSE_PAREN d ∷ print_stmt m.look (suc d) s))))) (Follows (tree.For n test update s)) (parser.for_from b i n) (tree.For n test update s)
   unfolding parser.for_from
   rest_complete n test update s h = c_value (for_value n test update s)
       (c_bind limit (λ _. bind (parser.option_of b.exprs mark.SEMICOLON) (λ x. bind (expect mark.SEMICOLON) (λ _. bind (parser.option_of b.exprs mark.CLOSE_PAREN) (λ y. bind (expect mark.CLOSE_PAREN) (λ _. bind (b.stmt (AStmt i)) (λ z. ret (tree.For n (maybe_expr_of x) (maybe_expr_of y) z))))))) (c_mark limit mark.SEMICOLON d low refl) lead_any
@@ -289,7 +290,7 @@ module _ (limit : ℕ) (m : Bodies) (d : ℕ) (low : d ≤ limit) (b : Block) (c
       (c_made limit (tree.For n (maybe_expr_of (option_of test)) (maybe_expr_of (option_of update))) (c_weaken limit (λ t g. follows_as refl t g) (body s h.4 h.3))))))))
 
   -- a for-in behind its `in`
-  in_complete : (n : Each) (over : Expr) (s : Stmt) → ProperStmt m i (tree.ForIn n over s) → Completes limit (print m (suc d) over ++ (mark_piece mark.CLOSE_PAREN d ∷ print_stmt m (suc d) s)) (Follows (tree.ForIn n over s)) (parser.for_in_from b i n) (tree.ForIn n over s)
+  in_complete : (n : Each) (over : Expr) (s : Stmt) → ProperStmt m i (tree.ForIn n over s) → Completes limit (print m.look (suc d) over ++ (mark_piece mark.CLOSE_PAREN d ∷ print_stmt m.look (suc d) s)) (Follows (tree.ForIn n over s)) (parser.for_in_from b i n) (tree.ForIn n over s)
   unfolding parser.for_in_from
   in_complete n over s h = c_bind limit (λ e. bind (expect mark.CLOSE_PAREN) (λ _. bind (b.stmt (AStmt i)) (λ z. ret (tree.ForIn n e z)))) (c.uses.expr true over h.1 refl) (lead_at (λ t q. stop_close true (ending over) t q.kind))
       (c_bind limit (λ _. bind (b.stmt (AStmt i)) (λ z. ret (tree.ForIn n over z))) (c_mark limit mark.CLOSE_PAREN d low refl) lead_any
@@ -308,27 +309,27 @@ module _ (limit : ℕ) (m : Bodies) (d : ℕ) (low : d ≤ limit) (b : Block) (c
   abbrev no_in : Kind → Bool
   no_in k = not (is_word word.IN k)
 
-  binds_open : (o : MaybeExpr) (bs : Binds) (rest : List Piece) → Opens no_in ((print_initializer m d o ++ print_more_binds m d bs) ++ (mark_piece mark.SEMICOLON d ∷ rest))
+  binds_open : (o : MaybeExpr) (bs : Binds) (rest : List Piece) → Opens no_in ((print_initializer m.look d o ++ print_more_binds m.look d bs) ++ (mark_piece mark.SEMICOLON d ∷ rest))
   binds_open (some_expr e) bs rest = refl
   binds_open no_expr no_binds rest = refl
   binds_open no_expr (more_binds n value bs) rest = refl
 
-  decl_binds_complete : (k : Decl) (bs : Binds) (test update : MaybeExpr) (s : Stmt) → ProperStmt m i (tree.For (tree.BindsInit k bs) test update s) → Completes limit (print_binds m d bs ++ (mark_piece mark.SEMICOLON d ∷ (print_maybe m (suc d) test ++ (mark_piece mark.SEMICOLON d ∷ (print_maybe m (suc d) update ++ (mark_piece mark.CLOSE_PAREN d ∷ print_stmt m (suc d) s)))))) (Follows (tree.For (tree.BindsInit k bs) test update s)) (parser.for_decl b i k) (tree.For (tree.BindsInit k bs) test update s)
+  decl_binds_complete : (k : Decl) (bs : Binds) (test update : MaybeExpr) (s : Stmt) → ProperStmt m i (tree.For (tree.BindsInit k bs) test update s) → Completes limit (print_binds m.look d bs ++ (mark_piece mark.SEMICOLON d ∷ (print_maybe m.look (suc d) test ++ (mark_piece mark.SEMICOLON d ∷ (print_maybe m.look (suc d) update ++ (mark_piece mark.CLOSE_PAREN d ∷ print_stmt m.look (suc d) s)))))) (Follows (tree.For (tree.BindsInit k bs) test update s)) (parser.for_decl b i k) (tree.For (tree.BindsInit k bs) test update s)
   unfolding parser.for_decl
   decl_binds_complete k no_binds test update s h = absurd h.0.0
   decl_binds_complete k (more_binds n o bs) test update s h =
-      let tail : List Piece = print_maybe m (suc d) test ++ (mark_piece mark.SEMICOLON d ∷ (print_maybe m (suc d) update ++ (mark_piece mark.CLOSE_PAREN d ∷ print_stmt m (suc d) s))) in
+      let tail : List Piece = print_maybe m.look (suc d) test ++ (mark_piece mark.SEMICOLON d ∷ (print_maybe m.look (suc d) update ++ (mark_piece mark.CLOSE_PAREN d ∷ print_stmt m.look (suc d) s))) in
       c_bind limit (parser.for_named b i k) (name_complete limit m d low n) lead_any
       (c_front limit (bind (parser.binds_from b.exprs false n) (λ x. parser.for_from b i (tree.BindsInit k (binds_of x.items))))
-      (λ x w rest q g. named_binds k n x.lexeme (lexemes w ++ rest) (not_true (is_word word.IN x.lexeme.kind) (opens_first no_in ((print_initializer m d o ++ print_more_binds m d bs) ++ (mark_piece mark.SEMICOLON d ∷ tail)) x w (head_of rest) (binds_open o bs tail) q)))
-      (λ w q k. opens_some no_in ((print_initializer m d o ++ print_more_binds m d bs) ++ (mark_piece mark.SEMICOLON d ∷ tail)) w q (binds_open o bs tail) k)
+      (λ x w rest q g. named_binds k n x.lexeme (lexemes w ++ rest) (not_true (is_word word.IN x.lexeme.kind) (opens_first no_in ((print_initializer m.look d o ++ print_more_binds m.look d bs) ++ (mark_piece mark.SEMICOLON d ∷ tail)) x w (head_of rest) (binds_open o bs tail) q)))
+      (λ w q k. opens_some no_in ((print_initializer m.look d o ++ print_more_binds m.look d bs) ++ (mark_piece mark.SEMICOLON d ∷ tail)) w q (binds_open o bs tail) k)
       (c_bind limit (λ x. parser.for_from b i (tree.BindsInit k (binds_of x.items))) (binds_complete limit m d low b.exprs c.uses false n o bs h.0.2 h.0.1) (lead_at (λ t q. semi_ends false (last_value o bs) t q.kind))
       (c_binds (of_binds (more_binds n o bs)) (rest_complete (tree.BindsInit k (more_binds n o bs)) test update s h))))
     where
       c_binds : {xs ys : Binds} {ps : List Piece} {F : Lexeme → Type 0} {a : Stmt} → xs ≡ ys → Completes limit ps F (parser.for_from b i (tree.BindsInit k ys)) a → Completes limit ps F (parser.for_from b i (tree.BindsInit k xs)) a
       c_binds {ps = ps} {F = F} {a = a} e q = subst (λ y. Completes limit ps F (parser.for_from b i (tree.BindsInit k y)) a) (sym e) q
 
-  decl_in_complete : (k : Decl) (n : Named) (over : Expr) (s : Stmt) → ProperStmt m i (tree.ForIn (tree.BindEach k n) over s) → Completes limit (name_piece n d ∷ word_piece word.IN d ∷ (print m (suc d) over ++ (mark_piece mark.CLOSE_PAREN d ∷ print_stmt m (suc d) s))) (Follows (tree.ForIn (tree.BindEach k n) over s)) (parser.for_decl b i k) (tree.ForIn (tree.BindEach k n) over s)
+  decl_in_complete : (k : Decl) (n : Named) (over : Expr) (s : Stmt) → ProperStmt m i (tree.ForIn (tree.BindEach k n) over s) → Completes limit (name_piece n d ∷ word_piece word.IN d ∷ (print m.look (suc d) over ++ (mark_piece mark.CLOSE_PAREN d ∷ print_stmt m.look (suc d) s))) (Follows (tree.ForIn (tree.BindEach k n) over s)) (parser.for_decl b i k) (tree.ForIn (tree.BindEach k n) over s)
   unfolding parser.for_decl
   decl_in_complete k n over s h = c_bind limit (parser.for_named b i k) (name_complete limit m d low n) lead_any
       (c_at limit (λ t. parser.for_in_from b i (tree.BindEach k n)) low (λ t ts q. named_in k n t ts q.kind) (λ t q. in_complete (tree.BindEach k n) over s h))
@@ -371,25 +372,25 @@ module _ (limit : ℕ) (m : Bodies) (d : ℕ) (low : d ≤ limit) (b : Block) (c
   semi_some ps (x ∷ w) n h = omega arith
 
   -- an Expression first
-  front_complete : {F : Lexeme → Type 0} (e : Expr) (qs : List Piece) (a : Stmt) → Proper m e → InIf false (free_of_in e) → Leads qs F (λ t. continues_expr false (ending e) t ≡ false) → Completes limit qs F (parser.for_valued b i e) a → Completes limit (print m (suc d) e ++ qs) F (parser.for_head b i) a
+  front_complete : {F : Lexeme → Type 0} (e : Expr) (qs : List Piece) (a : Stmt) → Proper m e → InIf false (free_of_in e) → Leads qs F (λ t. continues_expr false (ending e) t ≡ false) → Completes limit qs F (parser.for_valued b i e) a → Completes limit (print m.look (suc d) e ++ qs) F (parser.for_head b i) a
   front_complete e qs a h r l k = c_front limit (bind (expr_of b.exprs false) (parser.for_valued b i))
-      (λ x w rest q g. head_value x.lexeme (lexemes w ++ rest) (opens_first begins_assign (print m (suc d) e ++ qs) x w (head_of rest) (opens_append begins_assign (print m (suc d) e) qs (expr_opens m (suc d) e h)) q))
-      (λ w n q. opens_some begins_assign (print m (suc d) e ++ qs) w n (opens_append begins_assign (print m (suc d) e) qs (expr_opens m (suc d) e h)) q)
+      (λ x w rest q g. head_value x.lexeme (lexemes w ++ rest) (opens_first begins_assign (print m.look (suc d) e ++ qs) x w (head_of rest) (opens_append begins_assign (print m.look (suc d) e) qs (expr_opens m (suc d) e h)) q))
+      (λ w n q. opens_some begins_assign (print m.look (suc d) e ++ qs) w n (opens_append begins_assign (print m.look (suc d) e) qs (expr_opens m (suc d) e h)) q)
       (c_bind limit (parser.for_valued b i) (c.uses.expr false e h r) l k)
 
-  head_complete : (n : Init) (test update : MaybeExpr) (s : Stmt) → ProperStmt m i (tree.For n test update s) → Completes limit (print_init m d n ++ (mark_piece mark.SEMICOLON d ∷ (print_maybe m (suc d) test ++ (mark_piece mark.SEMICOLON d ∷ (print_maybe m (suc d) update ++ (mark_piece mark.CLOSE_PAREN d ∷ print_stmt m (suc d) s)))))) (Follows (tree.For n test update s)) (parser.for_head b i) (tree.For n test update s)
+  head_complete : (n : Init) (test update : MaybeExpr) (s : Stmt) → ProperStmt m i (tree.For n test update s) → Completes limit (print_init m.look d n ++ (mark_piece mark.SEMICOLON d ∷ (print_maybe m.look (suc d) test ++ (mark_piece mark.SEMICOLON d ∷ (print_maybe m.look (suc d) update ++ (mark_piece mark.CLOSE_PAREN d ∷ print_stmt m.look (suc d) s)))))) (Follows (tree.For n test update s)) (parser.for_head b i) (tree.For n test update s)
   head_complete tree.NoInit test update s h = c_front limit (parser.for_from b i tree.NoInit) (λ x w rest q g. head_empty x.lexeme (lexemes w ++ rest) q.0.kind) (semi_some _) (rest_complete tree.NoInit test update s h)
   head_complete (tree.ValueInit e) test update s h = front_complete e _ (tree.For (tree.ValueInit e) test update s) h.0.1 h.0.0 (lead_at (λ t q. stop_semi false (ending e) t q.kind)) (c_front limit (parser.for_from b i (tree.ValueInit e)) (λ x w rest q g. valued_semi e x.lexeme (lexemes w ++ rest) q.0.kind) (semi_some _) (rest_complete (tree.ValueInit e) test update s h))
   head_complete (tree.BindsInit k bs) test update s h = c_at limit (λ t. parser.for_decl b i k) low (λ t ts q. head_decl k t ts q.kind) (λ t q. decl_binds_complete k bs test update s h)
 
-  pub for_complete : (n : Init) (test update : MaybeExpr) (s : Stmt) → ProperStmt m i (tree.For n test update s) → Completes limit (mark_piece mark.OPEN_PAREN d ∷ (print_init m d n ++ (mark_piece mark.SEMICOLON d ∷ (print_maybe m (suc d) test ++ (mark_piece mark.SEMICOLON d ∷ (print_maybe m (suc d) update ++ (mark_piece mark.CLOSE_PAREN d ∷ print_stmt m (suc d) s))))))) (Follows (tree.For n test update s)) (parser.for_of b i) (tree.For n test update s)
+  pub for_complete : (n : Init) (test update : MaybeExpr) (s : Stmt) → ProperStmt m i (tree.For n test update s) → Completes limit (mark_piece mark.OPEN_PAREN d ∷ (print_init m.look d n ++ (mark_piece mark.SEMICOLON d ∷ (print_maybe m.look (suc d) test ++ (mark_piece mark.SEMICOLON d ∷ (print_maybe m.look (suc d) update ++ (mark_piece mark.CLOSE_PAREN d ∷ print_stmt m.look (suc d) s))))))) (Follows (tree.For n test update s)) (parser.for_of b i) (tree.For n test update s)
   unfolding parser.for_of
   for_complete n test update s h = c_bind limit (λ _. parser.for_head b i) (c_mark limit mark.OPEN_PAREN d low refl) lead_any (head_complete n test update s h)
 
-  each_complete : (n : Each) (over : Expr) (s : Stmt) → ProperStmt m i (tree.ForIn n over s) → Completes limit (print_each m d n ++ (word_piece word.IN d ∷ (print m (suc d) over ++ (mark_piece mark.CLOSE_PAREN d ∷ print_stmt m (suc d) s)))) (Follows (tree.ForIn n over s)) (parser.for_head b i) (tree.ForIn n over s)
+  each_complete : (n : Each) (over : Expr) (s : Stmt) → ProperStmt m i (tree.ForIn n over s) → Completes limit (print_each m.look d n ++ (word_piece word.IN d ∷ (print m.look (suc d) over ++ (mark_piece mark.CLOSE_PAREN d ∷ print_stmt m.look (suc d) s)))) (Follows (tree.ForIn n over s)) (parser.for_head b i) (tree.ForIn n over s)
   each_complete (tree.TargetEach e) over s h = front_complete e _ (tree.ForIn (tree.TargetEach e) over s) h.0.1 (left_free m e h.0.1 h.0.0) (lead_at (λ t q. stop_in (ending e) t q.kind)) (c_at limit (λ t. parser.for_in_from b i (tree.TargetEach e)) low (λ t ts q. valued_in e t ts (le-leb (rank e) left_rank h.0.0) q.kind) (λ t q. in_complete (tree.TargetEach e) over s h))
   each_complete (tree.BindEach k n) over s h = c_at limit (λ t. parser.for_decl b i k) low (λ t ts q. head_decl k t ts q.kind) (λ t q. decl_in_complete k n over s h)
 
-  pub for_in_complete : (n : Each) (over : Expr) (s : Stmt) → ProperStmt m i (tree.ForIn n over s) → Completes limit (mark_piece mark.OPEN_PAREN d ∷ (print_each m d n ++ (word_piece word.IN d ∷ (print m (suc d) over ++ (mark_piece mark.CLOSE_PAREN d ∷ print_stmt m (suc d) s))))) (Follows (tree.ForIn n over s)) (parser.for_of b i) (tree.ForIn n over s)
+  pub for_in_complete : (n : Each) (over : Expr) (s : Stmt) → ProperStmt m i (tree.ForIn n over s) → Completes limit (mark_piece mark.OPEN_PAREN d ∷ (print_each m.look d n ++ (word_piece word.IN d ∷ (print m.look (suc d) over ++ (mark_piece mark.CLOSE_PAREN d ∷ print_stmt m.look (suc d) s))))) (Follows (tree.ForIn n over s)) (parser.for_of b i) (tree.ForIn n over s)
   unfolding parser.for_of
   for_in_complete n over s h = c_bind limit (λ _. parser.for_head b i) (c_mark limit mark.OPEN_PAREN d low refl) lead_any (each_complete n over s h)

@@ -12,7 +12,7 @@ use Rattle.script_grammar.specs.TreeLists.{Param, maybe_expr_of}
 use Rattle.script_grammar.specs.Pieces.{Bodies, mark_piece, name_piece}
 use Rattle.script_grammar.specs.Endings.{ending}
 use Rattle.script_grammar.specs.Print.{print}
-use Rattle.script_grammar.specs.Proper.{rank, Proper, ProperMaybe, free_of_in, InIf, assign_rank}
+use Rattle.script_grammar.specs.Proper.{rank, free_of_in, InIf, assign_rank}
 use Rattle.pure_parser.specs.Parser.{head_of, bad, step, when}
 use Rattle.pure_parser.specs.Exprs as parser
 use Rattle.pure_parser.specs.Exprs.{Env, Calls, AnAssign, APrefix, ANew, AParam, ARest, BodyParser, name_of, param, is_arrow_head, no_calls, call_case, begins_call, begins_assign}
@@ -35,6 +35,7 @@ use Rattle.pure_parser.proofs.CompleteHeads.{arrow_complete}
 use Rattle.pure_parser.proofs.ArrowFronts.{arrow_found, lone_follows, no_head}
 use Rattle.pure_parser.proofs.DeepFronts.{expr_deep, unary_deep, update_deep, new_deep, c_no_room}
 use Rattle.pure_parser.proofs.ExprFronts.{expr_opens}
+use Rattle.pure_parser.proofs.ProperIn.{Mode, Proper, ProperMaybe}
 
 -- an expression is an arrow or none
 
@@ -67,7 +68,7 @@ arrow_or (tree.Cond test a b) = inr (λ k. k)
 arrow_or (tree.Assign op target value) = inr (λ k. k)
 arrow_or (tree.Comma es) = inr (λ k. k)
 
-module _ (limit : ℕ) (m : Bodies) (d : ℕ) (low : d ≤ limit) (v : Env) (c : CompleteEnv limit m d v) where
+module _ (limit : ℕ) (m : Mode) (d : ℕ) (low : d ≤ limit) (v : Env) (c : CompleteEnv limit m d v) where
   abbrev Follow : Bool → Expr → Lexeme → Type 0
   Follow w e t = continues_assign w (ending e) t ≡ false
 
@@ -79,7 +80,7 @@ module _ (limit : ℕ) (m : Bodies) (d : ℕ) (low : d ≤ limit) (v : Env) (c :
   unfolding parser.assign_of
   plain_case w ts h = ap (λ b. when b (parser.arrow_of v w) (parser.plain_of v w) ts) h
 
-  plain_assign : (w : Bool) (e : Expr) → rank e ≤ assign_rank → (IsArrow e → ⊥) → Proper m e → InIf w (free_of_in e) → Completes limit (print m d e) (Follow w e) (parser.assign_of v w) e
+  plain_assign : (w : Bool) (e : Expr) → rank e ≤ assign_rank → (IsArrow e → ⊥) → Proper m e → InIf w (free_of_in e) → Completes limit (print m.look d e) (Follow w e) (parser.assign_of v w) e
   plain_assign w e r n h i = record {
     at = λ u rest q g. record {
       by = ap bare (plain_case w (lexemes u ++ rest) ((no_head m d e r h n).at u rest q (lone_follows w e (head_of rest) g)))
@@ -87,7 +88,7 @@ module _ (limit : ℕ) (m : Bodies) (d : ℕ) (low : d ≤ limit) (v : Env) (c :
     };
   }
 
-  arrow_assign : (w : Bool) (e : Expr) → IsArrow e → Proper m e → InIf w (free_of_in e) → Completes limit (print m d e) (Follow w e) (parser.assign_of v w) e
+  arrow_assign : (w : Bool) (e : Expr) → IsArrow e → Proper m e → InIf w (free_of_in e) → Completes limit (print m.look d e) (Follow w e) (parser.assign_of v w) e
   arrow_assign w (tree.Func at (function form.Arrow start end name ps comma alone body)) k h i = record {
     at = λ u rest q g. record {
       by = ap bare (arrow_case w (lexemes u ++ rest) (arrow_found m d at start end name ps comma alone body h u rest q))
@@ -120,10 +121,10 @@ module _ (limit : ℕ) (m : Bodies) (d : ℕ) (low : d ≤ limit) (v : Env) (c :
   arrow_assign w (tree.Comma es) k h i = absurd k
 
   -- an AssignmentExpression
-  pub assign_complete : (w : Bool) (e : Expr) → rank e ≤ assign_rank → Proper m e → InIf w (free_of_in e) → Completes limit (print m d e) (Follow w e) (parser.assign_of v w) e
+  pub assign_complete : (w : Bool) (e : Expr) → rank e ≤ assign_rank → Proper m e → InIf w (free_of_in e) → Completes limit (print m.look d e) (Follow w e) (parser.assign_of v w) e
   assign_complete w e r h i = by (arrow_or e)
     where
-      by : IsArrow e ⊎ (IsArrow e → ⊥) → Completes limit (print m d e) (Follow w e) (parser.assign_of v w) e
+      by : IsArrow e ⊎ (IsArrow e → ⊥) → Completes limit (print m.look d e) (Follow w e) (parser.assign_of v w) e
       by (inl k) = arrow_assign w e k h i
       by (inr n) = plain_assign w e r n h i
 
@@ -138,17 +139,17 @@ module _ (limit : ℕ) (m : Bodies) (d : ℕ) (low : d ≤ limit) (v : Env) (c :
 
   -- a parameter in an arrow's parentheses
 
-  arrow_param_complete : (n : Named) (o : MaybeExpr) → ProperMaybe m o → Completes limit (print_param m d (param n (option_of o))) (ParamFollow o) (parser.arrow_param v) (param n (option_of o))
+  arrow_param_complete : (n : Named) (o : MaybeExpr) → ProperMaybe m o → Completes limit (print_param m.look d (param n (option_of o))) (ParamFollow o) (parser.arrow_param v) (param n (option_of o))
   unfolding parser.arrow_param
   arrow_param_complete n no_expr h = param_complete limit m d low v c n no_expr h
   arrow_param_complete n (some_expr e) h = param_complete limit m d low v c n (some_expr e) h
 
-  param_as : (p : Param) → p.rest ≡ false → ProperMaybe m (maybe_expr_of p.value) → Completes limit (print_param m d p) (ParamFollow (maybe_expr_of p.value)) (parser.arrow_param v) p
-  param_as p e h = subst (λ x. Completes limit (print_param m d x) (ParamFollow (maybe_expr_of p.value)) (parser.arrow_param v) x) (same_param p e) (arrow_param_complete p.name (maybe_expr_of p.value) h)
+  param_as : (p : Param) → p.rest ≡ false → ProperMaybe m (maybe_expr_of p.value) → Completes limit (print_param m.look d p) (ParamFollow (maybe_expr_of p.value)) (parser.arrow_param v) p
+  param_as p e h = subst (λ x. Completes limit (print_param m.look d x) (ParamFollow (maybe_expr_of p.value)) (parser.arrow_param v) x) (same_param p e) (arrow_param_complete p.name (maybe_expr_of p.value) h)
 
 -- All calls over those one deeper.
-module _ (limit : ℕ) (m : Bodies) (d : ℕ) (low : suc d ≤ limit) (v : Env) (c : CompleteEnv limit m (suc d) v) where
-  prefix_as : (e : Expr) → IsPrefixed e → Proper m e → Completes limit (print m d e) (UnaryStops (ending e)) (parser.prefix_of v) e
+module _ (limit : ℕ) (m : Mode) (d : ℕ) (low : suc d ≤ limit) (v : Env) (c : CompleteEnv limit m (suc d) v) where
+  prefix_as : (e : Expr) → IsPrefixed e → Proper m e → Completes limit (print m.look d e) (UnaryStops (ending e)) (parser.prefix_of v) e
   prefix_as (tree.Unary at op of of_word) k h = unary_prefix limit m (suc d) low v c (prim_complete limit m (suc d) low v c) at op of of_word h
   prefix_as (tree.Update at op true of) k h = update_prefix limit m (suc d) low v c (prim_complete limit m (suc d) low v c) at op of h
   prefix_as (tree.Update at op false of) k h = absurd k
@@ -171,7 +172,7 @@ module _ (limit : ℕ) (m : Bodies) (d : ℕ) (low : suc d ≤ limit) (v : Env) 
   prefix_as (tree.Assign op target value) k h = absurd k
   prefix_as (tree.Comma es) k h = absurd k
 
-  new_as : (e : Expr) → IsNew e → Proper m e → Completes limit (print m d e) (NewFollow e) (parser.new_of v) e
+  new_as : (e : Expr) → IsNew e → Proper m e → Completes limit (print m.look d e) (NewFollow e) (parser.new_of v) e
   new_as (tree.New at callee args) k h = new_complete limit m (suc d) low v c (prim_complete limit m (suc d) low v c) at callee args h
   new_as (tree.This at) k h = absurd k
   new_as (tree.Name n) k h = absurd k
@@ -203,10 +204,10 @@ module _ (limit : ℕ) (m : Bodies) (d : ℕ) (low : suc d ≤ limit) (v : Env) 
   }
 
 -- No room is left.
-module _ (limit : ℕ) (m : Bodies) where
-  no_prefix : (e : Expr) → IsPrefixed e → Proper m e → Completes limit (print m limit e) (UnaryStops (ending e)) (no_calls APrefix) e
-  no_prefix (tree.Unary at op of of_word) k h = c_no_room limit (begins_call APrefix) (print m limit (tree.Unary at op of of_word)) (tree.Unary at op of of_word) (prefixed_opens m limit (tree.Unary at op of of_word) tt h) (unary_deep limit m limit at op of of_word (omega arith))
-  no_prefix (tree.Update at op true of) k h = c_no_room limit (begins_call APrefix) (print m limit (tree.Update at op true of)) (tree.Update at op true of) (prefixed_opens m limit (tree.Update at op true of) tt h) (update_deep limit m limit at op of (omega arith))
+module _ (limit : ℕ) (m : Mode) where
+  no_prefix : (e : Expr) → IsPrefixed e → Proper m e → Completes limit (print m.look limit e) (UnaryStops (ending e)) (no_calls APrefix) e
+  no_prefix (tree.Unary at op of of_word) k h = c_no_room limit (begins_call APrefix) (print m.look limit (tree.Unary at op of of_word)) (tree.Unary at op of of_word) (prefixed_opens m limit (tree.Unary at op of of_word) tt h) (unary_deep limit m limit at op of of_word (omega arith))
+  no_prefix (tree.Update at op true of) k h = c_no_room limit (begins_call APrefix) (print m.look limit (tree.Update at op true of)) (tree.Update at op true of) (prefixed_opens m limit (tree.Update at op true of) tt h) (update_deep limit m limit at op of (omega arith))
   no_prefix (tree.Update at op false of) k h = absurd k
   no_prefix (tree.This at) k h = absurd k
   no_prefix (tree.Name n) k h = absurd k
@@ -227,8 +228,8 @@ module _ (limit : ℕ) (m : Bodies) where
   no_prefix (tree.Assign op target value) k h = absurd k
   no_prefix (tree.Comma es) k h = absurd k
 
-  no_new : (e : Expr) → IsNew e → Proper m e → Completes limit (print m limit e) (NewFollow e) (no_calls ANew) e
-  no_new (tree.New at callee args) k h = c_no_room limit (begins_call ANew) (print m limit (tree.New at callee args)) (tree.New at callee args) refl (new_deep limit m limit at callee args (omega arith))
+  no_new : (e : Expr) → IsNew e → Proper m e → Completes limit (print m.look limit e) (NewFollow e) (no_calls ANew) e
+  no_new (tree.New at callee args) k h = c_no_room limit (begins_call ANew) (print m.look limit (tree.New at callee args)) (tree.New at callee args) refl (new_deep limit m limit at callee args (omega arith))
   no_new (tree.This at) k h = absurd k
   no_new (tree.Name n) k h = absurd k
   no_new (tree.Null at) k h = absurd k
@@ -249,12 +250,12 @@ module _ (limit : ℕ) (m : Bodies) where
   no_new (tree.Assign op target value) k h = absurd k
   no_new (tree.Comma es) k h = absurd k
 
-  no_param : (p : Param) → p.rest ≡ false → Completes limit (print_param m (suc limit) p) (ParamFollow (maybe_expr_of p.value)) (no_calls AParam) p
-  no_param p e = subst (λ x. Completes limit (print_param m (suc limit) x) (ParamFollow (maybe_expr_of p.value)) (no_calls AParam) x) (same_param p e) (c_no_room limit (begins_call AParam) (print_param m (suc limit) (param p.name (option_of (maybe_expr_of p.value)))) (param p.name (option_of (maybe_expr_of p.value))) refl (deep_at limit _ _ (omega arith)))
+  no_param : (p : Param) → p.rest ≡ false → Completes limit (print_param m.look (suc limit) p) (ParamFollow (maybe_expr_of p.value)) (no_calls AParam) p
+  no_param p e = subst (λ x. Completes limit (print_param m.look (suc limit) x) (ParamFollow (maybe_expr_of p.value)) (no_calls AParam) x) (same_param p e) (c_no_room limit (begins_call AParam) (print_param m.look (suc limit) (param p.name (option_of (maybe_expr_of p.value)))) (param p.name (option_of (maybe_expr_of p.value))) refl (deep_at limit _ _ (omega arith)))
 
   pub no_calls_complete : CompleteCalls limit m limit no_calls
   no_calls_complete = record {
-    assign = λ w e r h i. c_no_room limit (begins_call (AnAssign w)) (print m (suc limit) e) e (expr_opens m (suc limit) e h) (expr_deep limit m (suc limit) e (omega arith) h);
+    assign = λ w e r h i. c_no_room limit (begins_call (AnAssign w)) (print m.look (suc limit) e) e (expr_opens m (suc limit) e h) (expr_deep limit m (suc limit) e (omega arith) h);
     prefix = λ e k h. no_prefix e k h;
     new = λ e k h. no_new e k h;
     param = λ p e h. no_param p e;

@@ -13,7 +13,7 @@ use Rattle.script_grammar.specs.TreeLists.{exprs_of, tails_of}
 use Rattle.script_grammar.specs.Pieces.{Bodies, comma_piece, mark_piece, any_word}
 use Rattle.script_grammar.specs.Endings.{ending}
 use Rattle.script_grammar.specs.Print.{print, print_list, print_tails, print_tail, first_kind}
-use Rattle.script_grammar.specs.Proper.{rank, Proper, ProperTail, ProperTails, HasTails, is_member_tail, are_member_tails, new_rank}
+use Rattle.script_grammar.specs.Proper.{rank, HasTails, is_member_tail, are_member_tails, new_rank}
 use Rattle.pure_parser.specs.Parser.{Read, Parser, head_of, ret, bad, bind, step, when, Turn, Again, Stop, loop}
 use Rattle.pure_parser.specs.Exprs as parser
 use Rattle.pure_parser.specs.Exprs.{Env, ANew, APrefix, expect, chain_case, is_chain_head, again}
@@ -27,6 +27,7 @@ use Rattle.pure_parser.proofs.CompleteStmts.{c_value}
 use Rattle.pure_parser.proofs.ExprFronts.{Opens, opens_first, opens_some}
 use Rattle.pure_parser.proofs.CompleteParts.{CompleteEnv, TailStops, NewFollow, expr_complete, args_complete, of_list}
 use Rattle.pure_parser.proofs.CompleteItems.{stop_bracket}
+use Rattle.pure_parser.proofs.ProperIn.{Mode, Proper, ProperTail, ProperTails}
 
 abbrev pub tails_list : Tails → List Tail
 tails_list no_tails = []
@@ -46,14 +47,14 @@ abbrev no_new : Kind → Bool
 no_new k = not (is_word word.NEW k)
 
 -- a primary, for which parentheses and the like are given
-abbrev pub PrimComplete : (limit : ℕ) → Bodies → ℕ → Env → Type 0
-PrimComplete limit m d v = (heads : Bool) (e : Expr) → rank e ≤ 0 → Proper m e → Completes limit (print m d e) Any (parser.prim_of v heads) e
+abbrev pub PrimComplete : (limit : ℕ) → Mode → ℕ → Env → Type 0
+PrimComplete limit m d v = (heads : Bool) (e : Expr) → rank e ≤ 0 → Proper m e → Completes limit (print m.look d e) Any (parser.prim_of v heads) e
 
 template_first : (ps : Parts) → no_new (first_kind ps) ≡ true
 template_first no_parts = refl
 template_first (more_parts e w ps) = refl
 
-func_first : (m : Bodies) (d at : ℕ) (f : Function) → rank (tree.Func at f) ≤ 0 → Proper m (tree.Func at f) → Opens no_new (print m d (tree.Func at f))
+func_first : (m : Mode) (d at : ℕ) (f : Function) → rank (tree.Func at f) ≤ 0 → Proper m (tree.Func at f) → Opens no_new (print m.look d (tree.Func at f))
 func_first m d at (function form.Function start end name ps comma bare body) r h = refl
 func_first m d at (function form.Arrow start end name ps comma bare body) r h = absurd (omega (arith, r))
 func_first m d at (function form.Script start end name ps comma bare body) r h = absurd h.0
@@ -69,7 +70,7 @@ new_not_low : (a : MaybeArgs) → new_rank a ≤ 0 → ⊥
 new_not_low no_args l = omega (arith, l)
 new_not_low (some_args es comma) l = omega (arith, l)
 
-prim_first : (m : Bodies) (d : ℕ) (e : Expr) → rank e ≤ 0 → Proper m e → Opens no_new (print m d e)
+prim_first : (m : Mode) (d : ℕ) (e : Expr) → rank e ≤ 0 → Proper m e → Opens no_new (print m.look d e)
 prim_first m d (tree.This at) r h = refl
 prim_first m d (tree.Name name) r h = refl
 prim_first m d (tree.Null at) r h = refl
@@ -91,7 +92,7 @@ prim_first m d (tree.Cond test then_value else_value) r h = absurd (omega (arith
 prim_first m d (tree.Assign op target value) r h = absurd (omega (arith, r))
 prim_first m d (tree.Comma es) r h = absurd (omega (arith, r))
 
-module _ (limit : ℕ) (m : Bodies) (d : ℕ) (low : d ≤ limit) (v : Env) (c : CompleteEnv limit m d v) where
+module _ (limit : ℕ) (m : Mode) (d : ℕ) (low : d ≤ limit) (v : Env) (c : CompleteEnv limit m d v) where
   -- tails
 
   dot_here : (t : Lexeme) (ts : List Lexeme) → is_any_word t.kind ≡ true → parser.dot_of (t ∷ ts) ≡ Read (tree.Dot t.text) [] ts
@@ -101,7 +102,7 @@ module _ (limit : ℕ) (m : Bodies) (d : ℕ) (low : d ≤ limit) (v : Env) (c :
   dot_complete : {F : Lexeme → Type 0} (w : List ℕ) → Completes limit (any_word [] w d ∷ []) F parser.dot_of (tree.Dot w)
   dot_complete w = c_at limit (λ t. ret (tree.Dot t.text)) low (λ t ts s. dot_here t ts s.kind) (λ t s. c_value (ap tree.Dot s.content) (c_ret limit (tree.Dot t.text)))
 
-  index_complete : {F : Lexeme → Type 0} (e : Expr) → Proper m e → Completes limit (print m (suc d) e ++ mark_piece mark.CLOSE_BRACKET d ∷ []) F (parser.index_of v) (tree.Index e)
+  index_complete : {F : Lexeme → Type 0} (e : Expr) → Proper m e → Completes limit (print m.look (suc d) e ++ mark_piece mark.CLOSE_BRACKET d ∷ []) F (parser.index_of v) (tree.Index e)
   unfolding parser.index_of
   index_complete e h = c_bind limit (λ x. bind (expect mark.CLOSE_BRACKET) (λ _. ret (tree.Index x))) (expr_complete limit m d low v c true e h refl) (lead_at (λ t s. at_close e t s.kind)) (c_made limit (λ _. tree.Index e) (c_mark limit mark.CLOSE_BRACKET d low refl))
     where
@@ -111,7 +112,7 @@ module _ (limit : ℕ) (m : Bodies) (d : ℕ) (low : d ≤ limit) (v : Env) (c :
           parser_stop : Expr → Lexeme → Bool
           parser_stop e t = continues_assign true (ending e) t
 
-  call_complete : {F : Lexeme → Type 0} (es : Exprs) (comma : Bool) → ProperTail m (tree.Call es comma) → Completes limit (print_list m d es ++ (comma_piece comma d ++ mark_piece mark.CLOSE_PAREN d ∷ [])) F (parser.call_of v) (tree.Call es comma)
+  call_complete : {F : Lexeme → Type 0} (es : Exprs) (comma : Bool) → ProperTail m (tree.Call es comma) → Completes limit (print_list m.look d es ++ (comma_piece comma d ++ mark_piece mark.CLOSE_PAREN d ∷ [])) F (parser.call_of v) (tree.Call es comma)
   unfolding parser.call_of
   call_complete es comma h = c_value (ap (λ x. tree.Call x comma) (of_list es)) (c_made limit (λ a. tree.Call (exprs_of a.items) a.comma) (args_complete limit m d low v c es comma h.1 h.0))
 
@@ -157,7 +158,7 @@ module _ (limit : ℕ) (m : Bodies) (d : ℕ) (low : d ≤ limit) (v : Env) (c :
   tail_stop rest g = ap bare (stops_by (is_mark mark.DOT (head_of rest).kind) (is_mark mark.OPEN_BRACKET (head_of rest).kind) (step (bind parser.dot_of again)) (step (bind (parser.index_of v) again)) (when (is_mark mark.OPEN_PAREN (head_of rest).kind) (step (bind (parser.call_of v) again)) (ret (Stop tt))) rest g.dot g.bracket
       ∙ ap (λ x. when x (step (bind (parser.call_of v) again)) (ret (Stop tt)) rest) g.paren)
 
-  tail_each : (t : Tail) → ProperTail m t → Completes limit (print_tail m d t) Any (parser.tail_turn v) (Again t)
+  tail_each : (t : Tail) → ProperTail m t → Completes limit (print_tail m.look d t) Any (parser.tail_turn v) (Again t)
   tail_each (tree.Dot w) h = c_at limit (λ t. bind parser.dot_of again) low (λ t ts s. tail_dot t ts s.kind) (λ t s. c_made limit Again (dot_complete w))
   tail_each (tree.Index e) h = c_at limit (λ t. bind (parser.index_of v) again) low (λ t ts s. tail_bracket t ts s.kind) (λ t s. c_made limit Again (index_complete e h))
   tail_each (tree.Call es comma) h = c_at limit (λ t. bind (parser.call_of v) again) low (λ t ts s. tail_paren t ts s.kind) (λ t s. c_made limit Again (call_complete es comma h))
@@ -165,20 +166,20 @@ module _ (limit : ℕ) (m : Bodies) (d : ℕ) (low : d ≤ limit) (v : Env) (c :
   abbrev Member : Tail → Type 0
   Member t = ProperTail m t × (is_member_tail t ≡ true)
 
-  member_each : (t : Tail) → Member t → Completes limit (print_tail m d t) Any (parser.member_turn v) (Again t)
+  member_each : (t : Tail) → Member t → Completes limit (print_tail m.look d t) Any (parser.member_turn v) (Again t)
   member_each (tree.Dot w) h = c_at limit (λ t. bind parser.dot_of again) low (λ t ts s. turn_dot t ts s.kind) (λ t s. c_made limit Again (dot_complete w))
   member_each (tree.Index e) h = c_at limit (λ t. bind (parser.index_of v) again) low (λ t ts s. turn_bracket t ts s.kind) (λ t s. c_made limit Again (index_complete e h.0))
   member_each (tree.Call es comma) h = absurd (false_true h.1)
 
-  tail_some : (t : Tail) (w : List Marked) (n : Lexeme) → Stands (print_tail m d t) w n → 0 < length (lexemes w)
+  tail_some : (t : Tail) (w : List Marked) (n : Lexeme) → Stands (print_tail m.look d t) w n → 0 < length (lexemes w)
   tail_some (tree.Dot x) [] n h = absurd h
   tail_some (tree.Index e) [] n h = absurd h
   tail_some (tree.Call es comma) [] n h = absurd h
   tail_some t (x ∷ w) n h = omega arith
 
-  flat_tails : (ts : Tails) → flat (λ t. print_tail m d t) (tails_list ts) ++ [] ≡ print_tails m d ts
+  flat_tails : (ts : Tails) → flat (λ t. print_tail m.look d t) (tails_list ts) ++ [] ≡ print_tails m.look d ts
   flat_tails no_tails = refl
-  flat_tails (more_tails t ts) = append_assoc (print_tail m d t) (flat (λ t. print_tail m d t) (tails_list ts)) [] ∙ ap (λ x. print_tail m d t ++ x) (flat_tails ts)
+  flat_tails (more_tails t ts) = append_assoc (print_tail m.look d t) (flat (λ t. print_tail m.look d t) (tails_list ts)) [] ∙ ap (λ x. print_tail m.look d t ++ x) (flat_tails ts)
 
   all_tails : (ts : Tails) → ProperTails m ts → AllK (ProperTail m) (tails_list ts)
   all_tails no_tails h = tt
@@ -188,21 +189,21 @@ module _ (limit : ℕ) (m : Bodies) (d : ℕ) (low : d ≤ limit) (v : Env) (c :
   all_members no_tails h k = tt
   all_members (more_tails t ts) h k = ((h.0, and_left (is_member_tail t) (are_member_tails ts) k), all_members ts h.1 (and_right (is_member_tail t) (are_member_tails ts) k))
 
-  tails_last : (xs : List Tail) → LastLeads limit (ProperTail m) (λ t. print_tail m d t) (λ t. Any) [] TailStops tt (parser.tail_turn v) tail_each (λ t k. tail_some t) (λ x y kx ky w n h. tt) (c_look limit tail_stop) xs
+  tails_last : (xs : List Tail) → LastLeads limit (ProperTail m) (λ t. print_tail m.look d t) (λ t. Any) [] TailStops tt (parser.tail_turn v) tail_each (λ t k. tail_some t) (λ x y kx ky w n h. tt) (c_look limit tail_stop) xs
   tails_last [] = tt
   tails_last (x ∷ []) = lead_any
   tails_last (x ∷ y ∷ xs) = tails_last (y ∷ xs)
 
-  members_last : (xs : List Tail) → LastLeads limit Member (λ t. print_tail m d t) (λ t. Any) [] MemberStops tt (parser.member_turn v) member_each (λ t k. tail_some t) (λ x y kx ky w n h. tt) (c_look limit member_stop) xs
+  members_last : (xs : List Tail) → LastLeads limit Member (λ t. print_tail m.look d t) (λ t. Any) [] MemberStops tt (parser.member_turn v) member_each (λ t k. tail_some t) (λ x y kx ky w n h. tt) (c_look limit member_stop) xs
   members_last [] = tt
   members_last (x ∷ []) = lead_any
   members_last (x ∷ y ∷ xs) = members_last (y ∷ xs)
 
-  pub tails_complete : (ts : Tails) → ProperTails m ts → Completes limit (print_tails m d ts) TailStops (loop (parser.tail_turn v)) (record { items = tails_list ts; last = tt })
-  tails_complete ts h = c_pieces limit (flat_tails ts) (c_loop limit (ProperTail m) (λ t. print_tail m d t) (λ t. Any) [] TailStops tt (parser.tail_turn v) tail_each (λ t k. tail_some t) (λ x y kx ky w n h. tt) (c_look limit tail_stop) (tails_list ts) (all_tails ts h) (tails_last (tails_list ts)))
+  pub tails_complete : (ts : Tails) → ProperTails m ts → Completes limit (print_tails m.look d ts) TailStops (loop (parser.tail_turn v)) (record { items = tails_list ts; last = tt })
+  tails_complete ts h = c_pieces limit (flat_tails ts) (c_loop limit (ProperTail m) (λ t. print_tail m.look d t) (λ t. Any) [] TailStops tt (parser.tail_turn v) tail_each (λ t k. tail_some t) (λ x y kx ky w n h. tt) (c_look limit tail_stop) (tails_list ts) (all_tails ts h) (tails_last (tails_list ts)))
 
-  pub members_complete : (ts : Tails) → ProperTails m ts → are_member_tails ts ≡ true → Completes limit (print_tails m d ts) MemberStops (loop (parser.member_turn v)) (record { items = tails_list ts; last = tt })
-  members_complete ts h k = c_pieces limit (flat_tails ts) (c_loop limit Member (λ t. print_tail m d t) (λ t. Any) [] MemberStops tt (parser.member_turn v) member_each (λ t k. tail_some t) (λ x y kx ky w n h. tt) (c_look limit member_stop) (tails_list ts) (all_members ts h k) (members_last (tails_list ts)))
+  pub members_complete : (ts : Tails) → ProperTails m ts → are_member_tails ts ≡ true → Completes limit (print_tails m.look d ts) MemberStops (loop (parser.member_turn v)) (record { items = tails_list ts; last = tt })
+  members_complete ts h k = c_pieces limit (flat_tails ts) (c_loop limit Member (λ t. print_tail m.look d t) (λ t. Any) [] MemberStops tt (parser.member_turn v) member_each (λ t k. tail_some t) (λ x y kx ky w n h. tt) (c_look limit member_stop) (tails_list ts) (all_members ts h k) (members_last (tails_list ts)))
 
   pub chain_as : (e : Expr) (ts : Tails) → HasTails ts → chain_case e (tails_list ts) ≡ tree.Chain e ts
   chain_as e no_tails h = absurd h
@@ -219,15 +220,15 @@ module _ (limit : ℕ) (m : Bodies) (d : ℕ) (low : d ≤ limit) (v : Env) (c :
     unfolding parser.new_or_prim
     prim_here heads t ts h = ap (λ x. when x (v.sub ANew) (parser.prim_of v heads) (t ∷ ts)) h
 
-    pub prim_head : (heads : Bool) (e : Expr) → rank e ≤ 0 → Proper m e → Completes limit (print m d e) Any (parser.new_or_prim v heads) e
-    prim_head heads e r h = c_front limit (parser.prim_of v heads) (λ x w rest q g. prim_here heads x.lexeme (lexemes w ++ rest) (not_true_of (opens_first no_new (print m d e) x w (head_of rest) (prim_first m d e r h) q))) (λ w n q. opens_some no_new (print m d e) w n (prim_first m d e r h) q) (prim heads e r h)
+    pub prim_head : (heads : Bool) (e : Expr) → rank e ≤ 0 → Proper m e → Completes limit (print m.look d e) Any (parser.new_or_prim v heads) e
+    prim_head heads e r h = c_front limit (parser.prim_of v heads) (λ x w rest q g. prim_here heads x.lexeme (lexemes w ++ rest) (not_true_of (opens_first no_new (print m.look d e) x w (head_of rest) (prim_first m d e r h) q))) (λ w n q. opens_some no_new (print m.look d e) w n (prim_first m d e r h) q) (prim heads e r h)
       where
         not_true_of : {b : Bool} → not b ≡ true → b ≡ false
         not_true_of {b = b} k = not_true b k
 
-    pub new_head : (heads : Bool) (at : ℕ) (callee : Expr) (args : MaybeArgs) → Proper m (tree.New at callee args) → Completes limit (print m d (tree.New at callee args)) (NewFollow (tree.New at callee args)) (parser.new_or_prim v heads) (tree.New at callee args)
+    pub new_head : (heads : Bool) (at : ℕ) (callee : Expr) (args : MaybeArgs) → Proper m (tree.New at callee args) → Completes limit (print m.look d (tree.New at callee args)) (NewFollow (tree.New at callee args)) (parser.new_or_prim v heads) (tree.New at callee args)
     new_head heads at callee args h = c_front limit (v.sub ANew) (λ x w rest q g. new_first heads x.lexeme (lexemes w ++ rest) q.0.kind) new_some (c.calls.new (tree.New at callee args) tt h)
       where
-        new_some : (w : List Marked) (n : Lexeme) → Stands (print m d (tree.New at callee args)) w n → 0 < length (lexemes w)
+        new_some : (w : List Marked) (n : Lexeme) → Stands (print m.look d (tree.New at callee args)) w n → 0 < length (lexemes w)
         new_some [] n k = absurd k
         new_some (x ∷ w) n k = omega arith

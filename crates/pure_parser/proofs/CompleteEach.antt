@@ -13,7 +13,7 @@ use Rattle.script_grammar.specs.Tree as tree
 use Rattle.script_grammar.specs.Pieces.{Bodies, whole, Wanted, Exactly, AnyWord, IsWanted, is_wanted, begins_with, Piece, At, Gap, Pass, mark_piece, name_piece, semi_piece}
 use Rattle.script_grammar.specs.Endings.{ending}
 use Rattle.script_grammar.specs.Print.{print, print_stmt}
-use Rattle.script_grammar.specs.Proper.{Proper, ProperStmt, ProperBinds, HasBinds, ProperFunction, IsDeclaration, is_statement}
+use Rattle.script_grammar.specs.Proper.{HasBinds, IsDeclaration, is_statement}
 use Rattle.pure_parser.specs.Parser.{head_of, ret, bind}
 use Rattle.pure_parser.specs.Exprs.{expect, function_of, begins_assign}
 use Rattle.pure_parser.specs.Stmts as parser
@@ -32,10 +32,11 @@ use Rattle.pure_parser.proofs.CompleteStmts.{Follows, CompleteBlock, c_value, fo
 use Rattle.pure_parser.proofs.CompleteSimple.{while_complete, if_complete, do_complete, block_complete, debugger_complete, continue_complete, break_complete, throw_complete, return_complete}
 use Rattle.pure_parser.proofs.CompleteBinds.{binding_complete, for_complete, for_in_complete}
 use Rattle.pure_parser.proofs.CompleteSwitch.{switch_complete, try_complete}
+use Rattle.pure_parser.proofs.ProperIn.{Mode, Proper, ProperBinds, ProperFunction, ProperStmt}
 
-module _ (limit : ℕ) (m : Bodies) (d : ℕ) (low : d ≤ limit) (b : Block) (c : CompleteBlock limit m d b) (p : Place) where
+module _ (limit : ℕ) (m : Mode) (d : ℕ) (low : d ≤ limit) (b : Block) (c : CompleteBlock limit m d b) (p : Place) where
   abbrev Reads : Stmt → Type 0
-  Reads s = Completes limit (print_stmt m d s) (Follows s) (parser.stmt_of b p) s
+  Reads s = Completes limit (print_stmt m.look d s) (Follows s) (parser.stmt_of b p) s
 
   binding_reads : (k : Decl) (bs : Binds) (semi : Bool) → HasBinds bs × ProperBinds m bs → (is_item p ≡ false → is_var k ≡ true) → Reads (tree.Binding k bs semi)
   binding_reads decl.Var bs semi h i = c_at limit (λ t. parser.binding_of b.exprs decl.Var) low (λ t ts q. var_at b p t ts q.kind) (λ t q. binding_complete limit m d low b.exprs c.uses decl.Var bs semi h.0 h.1)
@@ -76,13 +77,13 @@ module _ (limit : ℕ) (m : Bodies) (d : ℕ) (low : d ≤ limit) (b : Block) (c
       none [] n h g = g
       none (x ∷ v) n h g = absurd h.1
 
-  value_complete : (e : Expr) (semi : Bool) → Proper m e → Completes limit (print m (suc d) e ++ semi_piece (ending e) semi d) (Follows (tree.Value e semi)) (parser.value_stmt b.exprs) (tree.Value e semi)
+  value_complete : (e : Expr) (semi : Bool) → Proper m e → Completes limit (print m.look (suc d) e ++ semi_piece (ending e) semi d) (Follows (tree.Value e semi)) (parser.value_stmt b.exprs) (tree.Value e semi)
   unfolding parser.value_stmt
   value_complete e semi h = c_bind limit (λ x. bind (parser.semi_of (ending x)) (λ z. ret (tree.Value x z))) (c.uses.expr true e h refl) (expr_semi limit m d low e semi) (c_made limit (tree.Value e) (semi_complete limit m d low (ending e) semi))
 
   -- the places of an expression statement are those of the expression first
-  value_first : (e : Expr) (semi : Bool) → Proper m e → (x : Marked) (w : List Marked) (rest : List Lexeme) → Stands (print m (suc d) e ++ semi_piece (ending e) semi d) (x ∷ w) (head_of rest) → Follows (tree.Value e semi) (head_of rest) → is_name x.lexeme.kind ≡ true → is_mark mark.COLON (head_of (lexemes w ++ rest)).kind ≡ false
-  value_first e semi h x w rest q g n = subst (λ y. is_mark mark.COLON y.kind ≡ false) (sym (head_first (lexemes w) rest)) (by (print m (suc d) e) (expr_opens m (suc d) e h) (expr_second m (suc d) e h) (stands_split (print m (suc d) e) (semi_piece (ending e) semi d) (x ∷ w) (head_of rest) q))
+  value_first : (e : Expr) (semi : Bool) → Proper m e → (x : Marked) (w : List Marked) (rest : List Lexeme) → Stands (print m.look (suc d) e ++ semi_piece (ending e) semi d) (x ∷ w) (head_of rest) → Follows (tree.Value e semi) (head_of rest) → is_name x.lexeme.kind ≡ true → is_mark mark.COLON (head_of (lexemes w ++ rest)).kind ≡ false
+  value_first e semi h x w rest q g n = subst (λ y. is_mark mark.COLON y.kind ≡ false) (sym (head_first (lexemes w) rest)) (by (print m.look (suc d) e) (expr_opens m (suc d) e h) (expr_second m (suc d) e h) (stands_split (print m.look (suc d) e) (semi_piece (ending e) semi d) (x ∷ w) (head_of rest) q))
     where
       by : (ps : List Piece) → Opens begins_assign ps → Second ps → Split ps (semi_piece (ending e) semi d) (x ∷ w) (head_of rest) → is_mark mark.COLON (first_of (lexemes w) (head_of rest)).kind ≡ false
       by ps o k s = of_front s.front s.back s.split s.first s.second
@@ -95,8 +96,8 @@ module _ (limit : ℕ) (m : Bodies) (d : ℕ) (low : d ≤ limit) (b : Block) (c
               subst (λ j. is_mark mark.COLON j.kind ≡ false) (sym (ap (λ j. first_of (lexemes j) (head_of rest)) tail ∙ first_marked u v (head_of rest)))
               (second_first ps r u (first_of (lexemes v) (head_of rest)) o k a (ap (λ j. is_name j.lexeme.kind) same ∙ n) ((semi_colon e semi).by v (head_of rest) y g))
 
-  not_begun : (f : Kind → Bool) (e : Expr) → begins_with f (print m (suc d) e) ≡ false → (qs : List Piece) (x : Marked) (w : List Marked) (n : Lexeme) → Opens begins_assign (print m (suc d) e) → Stands (print m (suc d) e ++ qs) (x ∷ w) n → f x.lexeme.kind ≡ false
-  not_begun f e h qs x w n o q = by (print m (suc d) e) h o q
+  not_begun : (f : Kind → Bool) (e : Expr) → begins_with f (print m.look (suc d) e) ≡ false → (qs : List Piece) (x : Marked) (w : List Marked) (n : Lexeme) → Opens begins_assign (print m.look (suc d) e) → Stands (print m.look (suc d) e ++ qs) (x ∷ w) n → f x.lexeme.kind ≡ false
+  not_begun f e h qs x w n o q = by (print m.look (suc d) e) h o q
     where
       of_wanted : (w : Wanted) (k : Kind) → is_wanted f w ≡ false → OfKind begins_assign w → IsWanted w k → f k ≡ false
       of_wanted (Exactly j) k h o e = ap f e ∙ h
@@ -111,16 +112,16 @@ module _ (limit : ℕ) (m : Bodies) (d : ℕ) (low : d ≤ limit) (b : Block) (c
   value_reads : (e : Expr) (semi : Bool) → ProperStmt m (is_inside p) (tree.Value e semi) → Reads (tree.Value e semi)
   value_reads e semi h = c_front limit (parser.value_stmt b.exprs)
       (λ x w rest q g. value_at b p x.lexeme (lexemes w ++ rest)
-      (opens_first begins_assign (print m (suc d) e ++ semi_piece (ending e) semi d) x w (head_of rest) (opens_append begins_assign (print m (suc d) e) (semi_piece (ending e) semi d) (expr_opens m (suc d) e h.2)) q)
-      (not_begun (is_word word.FUNCTION) e (begins_same (is_word word.FUNCTION) m whole (suc d) 1 e ∙ h.1) (semi_piece (ending e) semi d) x w (head_of rest) (expr_opens m (suc d) e h.2) q)
-      (not_begun (is_mark mark.OPEN_BRACE) e (begins_same (is_mark mark.OPEN_BRACE) m whole (suc d) 1 e ∙ h.0) (semi_piece (ending e) semi d) x w (head_of rest) (expr_opens m (suc d) e h.2) q)
+      (opens_first begins_assign (print m.look (suc d) e ++ semi_piece (ending e) semi d) x w (head_of rest) (opens_append begins_assign (print m.look (suc d) e) (semi_piece (ending e) semi d) (expr_opens m (suc d) e h.2)) q)
+      (not_begun (is_word word.FUNCTION) e (begins_same (is_word word.FUNCTION) m.look whole (suc d) 1 e ∙ h.1) (semi_piece (ending e) semi d) x w (head_of rest) (expr_opens m (suc d) e h.2) q)
+      (not_begun (is_mark mark.OPEN_BRACE) e (begins_same (is_mark mark.OPEN_BRACE) m.look whole (suc d) 1 e ∙ h.0) (semi_piece (ending e) semi d) x w (head_of rest) (expr_opens m (suc d) e h.2) q)
       (value_first e semi h.2 x w rest q g))
-      (λ w n q. opens_some begins_assign (print m (suc d) e ++ semi_piece (ending e) semi d) w n (opens_append begins_assign (print m (suc d) e) (semi_piece (ending e) semi d) (expr_opens m (suc d) e h.2)) q)
+      (λ w n q. opens_some begins_assign (print m.look (suc d) e ++ semi_piece (ending e) semi d) w n (opens_append begins_assign (print m.look (suc d) e) (semi_piece (ending e) semi d) (expr_opens m (suc d) e h.2)) q)
       (value_complete e semi h.2)
 
   -- labels
 
-  label_complete : (n : Named) (s : Stmt) → ProperStmt m (is_inside p) (tree.Label n s) → Completes limit (name_piece n (suc d) ∷ mark_piece mark.COLON d ∷ print_stmt m (suc d) s) (Follows (tree.Label n s)) (parser.labelled_of b (is_inside p)) (tree.Label n s)
+  label_complete : (n : Named) (s : Stmt) → ProperStmt m (is_inside p) (tree.Label n s) → Completes limit (name_piece n (suc d) ∷ mark_piece mark.COLON d ∷ print_stmt m.look (suc d) s) (Follows (tree.Label n s)) (parser.labelled_of b (is_inside p)) (tree.Label n s)
   unfolding parser.labelled_of
   label_complete n s h = c_bind limit (λ x. bind (expect mark.COLON) (λ _. bind (b.stmt (AStmt (is_inside p))) (λ y. ret (tree.Label x y)))) (c.label n) lead_any
       (c_bind limit (λ _. bind (b.stmt (AStmt (is_inside p))) (λ y. ret (tree.Label n y))) (c_mark limit mark.COLON d low refl) lead_any
@@ -150,6 +151,6 @@ module _ (limit : ℕ) (m : Bodies) (d : ℕ) (low : d ≤ limit) (b : Block) (c
   stmt_complete (tree.Return value semi) h i = c_at limit (λ t. parser.return_of b.exprs) low (λ t ts q. return_at b p h.0 t ts q.kind) (λ t q. return_complete limit m d low b c (is_inside p) value semi h.1)
   stmt_complete (tree.Throw value semi) h i = c_at limit (λ t. parser.throw_of b.exprs) low (λ t ts q. throw_at b p t ts q.kind) (λ t q. throw_complete limit m d low b c (is_inside p) value semi h)
   stmt_complete (tree.Switch of clauses) h i = c_at limit (λ t. parser.switch_of b (is_inside p)) low (λ t ts q. switch_at b p t ts q.kind) (λ t q. switch_complete limit m d low b c (is_inside p) of clauses h)
-  stmt_complete (tree.Label name body) h i = c_front limit (parser.labelled_of b (is_inside p)) (λ x w rest q g. label_at b p x.lexeme (lexemes w ++ rest) q.0.kind (label_second name (print_stmt m (suc d) body) x w rest q)) (label_some name (mark_piece mark.COLON d ∷ print_stmt m (suc d) body)) (label_complete name body h)
+  stmt_complete (tree.Label name body) h i = c_front limit (parser.labelled_of b (is_inside p)) (λ x w rest q g. label_at b p x.lexeme (lexemes w ++ rest) q.0.kind (label_second name (print_stmt m.look (suc d) body) x w rest q)) (label_some name (mark_piece mark.COLON d ∷ print_stmt m.look (suc d) body)) (label_complete name body h)
   stmt_complete (tree.Try body param handler) h i = c_at limit (λ t. parser.try_of b (is_inside p)) low (λ t ts q. try_at b p t ts q.kind) (λ t q. try_complete limit m d low b c (is_inside p) body param handler h)
   stmt_complete (tree.Declared f) h i = declared_reads f h i

@@ -11,7 +11,7 @@ use Rattle.script_grammar.specs.TreeLists.{params_of}
 use Rattle.script_grammar.specs.Pieces.{Bodies, whole, Piece, mark_piece, glued_mark, until}
 use Rattle.script_grammar.specs.Endings.{ending, body_ending}
 use Rattle.script_grammar.specs.Print.{print, print_params, print_body, parenthesized}
-use Rattle.script_grammar.specs.Proper.{rank, Proper, ProperParams, ProperBody, AreParams, IsBare, BareIf, free_of_in, body_free, InIf, assign_rank, begins_brace}
+use Rattle.script_grammar.specs.Proper.{rank, AreParams, IsBare, BareIf, free_of_in, body_free, InIf, assign_rank, begins_brace}
 use Rattle.pure_parser.specs.Parser.{Read, head_of, ret, bad, bind, step, when}
 use Rattle.pure_parser.specs.Exprs as parser
 use Rattle.pure_parser.specs.Exprs.{Env, AnAssign, Head, BodyRead, Spanned, spanned, named, param, is_simple, is_arrow, arrow_case, bare_head, begins_assign, last_end, head_case}
@@ -28,14 +28,15 @@ use Rattle.pure_parser.proofs.CompleteParams.{ended_more}
 use Rattle.pure_parser.proofs.CompleteArrows.{listed_complete, many_of}
 use Rattle.pure_parser.proofs.ExprFronts.{opens_some, expr_opens, not_begun}
 use Rattle.pure_parser.proofs.ExprEnds.{expr_ends, until_stands}
+use Rattle.pure_parser.proofs.ProperIn.{Mode, Proper, ProperBody, ProperParams}
 
-module _ (limit : ℕ) (m : Bodies) (d : ℕ) (low : d ≤ limit) (v : Env) (c : CompleteEnv limit m d v) where
+module _ (limit : ℕ) (m : Mode) (d : ℕ) (low : d ≤ limit) (v : Env) (c : CompleteEnv limit m d v) where
   -- a head that stands for these parameters
   abbrev pub HeadFor : ℕ → Params → Bool → Bool → Head → Type 0
   HeadFor start ps comma bare h = (h.start ≡ start) × (params_of h.params ≡ ps) × (h.comma ≡ comma) × (h.bare ≡ bare)
 
   abbrev pub head_pieces : Bool → ℕ → Params → Bool → List Piece
-  head_pieces bare start ps comma = parenthesized bare start d (print_params m (if bare then d else suc d) d ps) comma
+  head_pieces bare start ps comma = parenthesized bare start d (print_params m.look (if bare then d else suc d) d ps) comma
 
   pub record ArrowHeadOf (bare : Bool) (start : ℕ) (ps : Params) (comma : Bool) : Type 0 where
     pub head : Head
@@ -103,25 +104,25 @@ module _ (limit : ℕ) (m : Bodies) (d : ℕ) (low : d ≤ limit) (v : Env) (c :
   abbrev pub read_body : ℕ → Body → BodyRead
   read_body end b = record { body = b; end = end }
 
-  braced_complete : {F : Lexeme → Type 0} (w : Bool) (h : Head) (end : ℕ) (items : Stmts) → ProperBody m form.Arrow (BracedBody items) → Completes limit (print_body m d end (BracedBody items)) F (parser.arrow_body v w h) (read_body end (BracedBody items))
+  braced_complete : {F : Lexeme → Type 0} (w : Bool) (h : Head) (end : ℕ) (items : Stmts) → ProperBody m form.Arrow h.start (BracedBody items) → Completes limit (print_body m.look d end (BracedBody items)) F (parser.arrow_body v w h) (read_body end (BracedBody items))
   braced_complete w h end items k = c_front limit (v.body form.Arrow h.start (is_simple h.params)) (λ x u rest q g. braced_here w h x.lexeme (lexemes u ++ rest) (ap (is_mark mark.OPEN_BRACE) q.0.kind)) (brace_some d _) (c_weaken limit (λ t g. tt) (c.body.braced form.Arrow h.start end (is_simple h.params) items k))
 
-  short_complete : (w : Bool) (h : Head) (end : ℕ) (value : Expr) → rank value ≤ assign_rank → begins_brace value ≡ false → Proper m value → InIf w (free_of_in value) → Completes limit (until end (print m (suc d) value)) (λ t. continues_assign w (ending value) t ≡ false) (parser.arrow_body v w h) (read_body end (ShortBody value))
+  short_complete : (w : Bool) (h : Head) (end : ℕ) (value : Expr) → rank value ≤ assign_rank → begins_brace value ≡ false → Proper m value → InIf w (free_of_in value) → Completes limit (until end (print m.look (suc d) value)) (λ t. continues_assign w (ending value) t ≡ false) (parser.arrow_body v w h) (read_body end (ShortBody value))
   short_complete w h end value r b k i = record { at = read }
     where
-      behind : (u : List Marked) (rest : List Lexeme) → Stands (until end (print m (suc d) value)) u (head_of rest) → continues_assign w (ending value) (head_of rest) ≡ false → Parses limit (bind (spanned (v.sub (AnAssign w))) (λ s. ret (parser.short_body s))) u rest (read_body end (ShortBody value))
+      behind : (u : List Marked) (rest : List Lexeme) → Stands (until end (print m.look (suc d) value)) u (head_of rest) → continues_assign w (ending value) (head_of rest) ≡ false → Parses limit (bind (spanned (v.sub (AnAssign w))) (λ s. ret (parser.short_body s))) u rest (read_body end (ShortBody value))
       behind u rest q g =
-          let s = until_stands end (print m (suc d) value) u (head_of rest) (expr_ends m (suc d) value k) q in
+          let s = until_stands end (print m.look (suc d) value) u (head_of rest) (expr_ends m (suc d) value k) q in
           subst (Parses limit (bind (spanned (v.sub (AnAssign w))) (λ s. ret (parser.short_body s))) u rest) (ap (λ e. read_body e (ShortBody value)) (s.1 0))
           (parses_map limit (λ s. ret (parser.short_body s)) (parses_spanned limit ((c.calls.assign w value r k i).at u rest s.0 g)) refl)
 
-      read : (u : List Marked) (rest : List Lexeme) → Stands (until end (print m (suc d) value)) u (head_of rest) → continues_assign w (ending value) (head_of rest) ≡ false → Parses limit (parser.arrow_body v w h) u rest (read_body end (ShortBody value))
-      read [] rest q g = absurd (omega (arith, opens_some begins_assign (print m (suc d) value) [] (head_of rest) (expr_opens m (suc d) value k) (until_stands end (print m (suc d) value) [] (head_of rest) (expr_ends m (suc d) value k) q).0))
+      read : (u : List Marked) (rest : List Lexeme) → Stands (until end (print m.look (suc d) value)) u (head_of rest) → continues_assign w (ending value) (head_of rest) ≡ false → Parses limit (parser.arrow_body v w h) u rest (read_body end (ShortBody value))
+      read [] rest q g = absurd (omega (arith, opens_some begins_assign (print m.look (suc d) value) [] (head_of rest) (expr_opens m (suc d) value k) (until_stands end (print m.look (suc d) value) [] (head_of rest) (expr_ends m (suc d) value k) q).0))
       read (x ∷ u) rest q g =
-          let s = until_stands end (print m (suc d) value) (x ∷ u) (head_of rest) (expr_ends m (suc d) value k) q in
-          record { by = ap bare (short_here w h x.lexeme (lexemes u ++ rest) (not_begun (is_mark mark.OPEN_BRACE) (print m (suc d) value) (begins_same (is_mark mark.OPEN_BRACE) m whole (suc d) 1 value ∙ b) x u (head_of rest) (expr_opens m (suc d) value k) s.0)) ∙ (behind (x ∷ u) rest q g).by }
+          let s = until_stands end (print m.look (suc d) value) (x ∷ u) (head_of rest) (expr_ends m (suc d) value k) q in
+          record { by = ap bare (short_here w h x.lexeme (lexemes u ++ rest) (not_begun (is_mark mark.OPEN_BRACE) (print m.look (suc d) value) (begins_same (is_mark mark.OPEN_BRACE) m.look whole (suc d) 1 value ∙ b) x u (head_of rest) (expr_opens m (suc d) value k) s.0)) ∙ (behind (x ∷ u) rest q g).by }
 
-  pub body_complete : (w : Bool) (h : Head) (end : ℕ) (b : Body) → ProperBody m form.Arrow b → InIf w (body_free b) → Completes limit (print_body m d end b) (λ t. continues_assign w (body_ending b) t ≡ false) (parser.arrow_body v w h) (read_body end b)
+  pub body_complete : (w : Bool) (h : Head) (end : ℕ) (b : Body) → ProperBody m form.Arrow h.start b → InIf w (body_free b) → Completes limit (print_body m.look d end b) (λ t. continues_assign w (body_ending b) t ≡ false) (parser.arrow_body v w h) (read_body end b)
   body_complete w h end (BracedBody items) k i = braced_complete w h end items k
   body_complete w h end (ShortBody value) k i = short_complete w h end value k.1 k.2 k.3 i
 
@@ -134,24 +135,24 @@ module _ (limit : ℕ) (m : Bodies) (d : ℕ) (low : d ≤ limit) (v : Env) (c :
       ∙ ap (λ x. tree.Func start (function form.Arrow start end None ps x h.bare b)) q.2
       ∙ ap (λ x. tree.Func start (function form.Arrow start end None ps comma x b)) q.3
 
-  by_head : (w : Bool) (start end : ℕ) (ps : Params) (comma bare : Bool) (b : Body) → ProperBody m form.Arrow b → InIf w (body_free b) → ArrowHeadOf bare start ps comma → Completes limit (head_pieces bare start ps comma ++ (glued_mark mark.ARROW d ∷ print_body m d end b)) (λ t. continues_assign w (body_ending b) t ≡ false) (parser.arrow_of v w) (tree.Func start (function form.Arrow start end None ps comma bare b))
+  by_head : (w : Bool) (start end : ℕ) (ps : Params) (comma bare : Bool) (b : Body) → ProperBody m form.Arrow start b → InIf w (body_free b) → ArrowHeadOf bare start ps comma → Completes limit (head_pieces bare start ps comma ++ (glued_mark mark.ARROW d ∷ print_body m.look d end b)) (λ t. continues_assign w (body_ending b) t ≡ false) (parser.arrow_of v w) (tree.Func start (function form.Arrow start end None ps comma bare b))
   unfolding parser.arrow_of
   by_head w start end ps comma bare b k i h =
       c_value (arrow_as start end ps comma bare b h.head h.is)
       (c_bind limit (λ x. bind parser.arrow_mark (λ _. bind (parser.arrow_body v w x) (λ y. ret (arrow_case x y)))) h.reads lead_any
       (c_bind limit (λ _. bind (parser.arrow_body v w h.head) (λ y. ret (arrow_case h.head y))) arrow_mark_complete lead_any
-      (c_made limit (arrow_case h.head) (body_complete w h.head end b k i))))
+      (c_made limit (arrow_case h.head) (body_complete w h.head end b (subst (λ x. ProperBody m form.Arrow x b) (sym h.is.0) k) i))))
 
   -- the depth of a parameter
   abbrev arrow_pieces_of : ℕ → ℕ → Params → Bool → Bool → Body → List Piece
-  arrow_pieces_of start end ps comma bare b = print m d (tree.Func start (function form.Arrow start end None ps comma bare b))
+  arrow_pieces_of start end ps comma bare b = print m.look d (tree.Func start (function form.Arrow start end None ps comma bare b))
 
-  same_pieces : (start end : ℕ) (ps : Params) (comma bare : Bool) (b : Body) → head_pieces bare start ps comma ++ (glued_mark mark.ARROW d ∷ print_body m d end b) ≡ arrow_pieces_of start end ps comma bare b
+  same_pieces : (start end : ℕ) (ps : Params) (comma bare : Bool) (b : Body) → head_pieces bare start ps comma ++ (glued_mark mark.ARROW d ∷ print_body m.look d end b) ≡ arrow_pieces_of start end ps comma bare b
   same_pieces start end ps comma true b = refl
   same_pieces start end ps comma false b = refl
 
-  pub arrow_complete : (w : Bool) (at start end : ℕ) (name : Option Named) (ps : Params) (comma bare : Bool) (b : Body) → Proper m (tree.Func at (function form.Arrow start end name ps comma bare b)) → InIf w (body_free b) → Completes limit (print m d (tree.Func at (function form.Arrow start end name ps comma bare b))) (λ t. continues_assign w (body_ending b) t ≡ false) (parser.arrow_of v w) (tree.Func at (function form.Arrow start end name ps comma bare b))
+  pub arrow_complete : (w : Bool) (at start end : ℕ) (name : Option Named) (ps : Params) (comma bare : Bool) (b : Body) → Proper m (tree.Func at (function form.Arrow start end name ps comma bare b)) → InIf w (body_free b) → Completes limit (print m.look d (tree.Func at (function form.Arrow start end name ps comma bare b))) (λ t. continues_assign w (body_ending b) t ≡ false) (parser.arrow_of v w) (tree.Func at (function form.Arrow start end name ps comma bare b))
   arrow_complete w at start end name ps comma bare b h i =
-      subst (λ x. Completes limit (print m d (tree.Func x (function form.Arrow start end name ps comma bare b))) (λ t. continues_assign w (body_ending b) t ≡ false) (parser.arrow_of v w) (tree.Func x (function form.Arrow start end name ps comma bare b))) (sym h.0.0)
-      (subst (λ x. Completes limit (print m d (tree.Func start (function form.Arrow start end x ps comma bare b))) (λ t. continues_assign w (body_ending b) t ≡ false) (parser.arrow_of v w) (tree.Func start (function form.Arrow start end x ps comma bare b))) (sym h.0.1)
+      subst (λ x. Completes limit (print m.look d (tree.Func x (function form.Arrow start end name ps comma bare b))) (λ t. continues_assign w (body_ending b) t ≡ false) (parser.arrow_of v w) (tree.Func x (function form.Arrow start end name ps comma bare b))) (sym h.0.0)
+      (subst (λ x. Completes limit (print m.look d (tree.Func start (function form.Arrow start end x ps comma bare b))) (λ t. continues_assign w (body_ending b) t ≡ false) (parser.arrow_of v w) (tree.Func start (function form.Arrow start end x ps comma bare b))) (sym h.0.1)
       (c_pieces limit (same_pieces start end ps comma bare b) (by_head w start end ps comma bare b h.1.4 i (head_complete bare start ps comma h.1.0 h.1.2 h.1.3))))

@@ -11,7 +11,7 @@ use Rattle.script_grammar.specs.TreeLists.{Part, items_of, parts_of, maybe_expr_
 use Rattle.script_grammar.specs.Pieces.{Bodies, Ending, BracedArrow, Postfix, Operand, BareBinding, Keyword, DoWhile, Piece, mark_piece, comma_piece, template_piece}
 use Rattle.script_grammar.specs.Endings.{ending}
 use Rattle.script_grammar.specs.Print.{print, print_maybe, print_items, print_parts}
-use Rattle.script_grammar.specs.Proper.{rank, Proper, ProperItems, ProperMaybe, ProperParts, AreItems, is_hole, assign_rank}
+use Rattle.script_grammar.specs.Proper.{rank, AreItems, is_hole, assign_rank}
 use Rattle.pure_parser.specs.Parser.{Read, head_of, ret, bind, step, when, Turn, Again, Stop, loop}
 use Rattle.pure_parser.specs.Exprs as parser
 use Rattle.pure_parser.specs.Exprs.{Env, AnAssign, expect, begins_assign}
@@ -26,6 +26,7 @@ use Rattle.pure_parser.proofs.CompleteBinds.{not_mark, option_of}
 use Rattle.pure_parser.proofs.Stops.{stop_comma}
 use Rattle.pure_parser.proofs.ExprFronts.{opens_append, opens_first, opens_some, expr_opens}
 use Rattle.pure_parser.proofs.CompleteParts.{CompleteEnv, expr_complete}
+use Rattle.pure_parser.proofs.ProperIn.{Mode, Proper, ProperItems, ProperMaybe, ProperParts}
 
 -- the items of an array, with and without their last
 abbrev pub items_list : Items → List (Option Expr)
@@ -48,7 +49,7 @@ abbrev last_of : MaybeExpr → Items → MaybeExpr
 last_of i no_items = i
 last_of i (more_items j is) = last_of j is
 
-module _ (limit : ℕ) (m : Bodies) (d : ℕ) (low : d ≤ limit) (v : Env) (c : CompleteEnv limit m d v) where
+module _ (limit : ℕ) (m : Mode) (d : ℕ) (low : d ≤ limit) (v : Env) (c : CompleteEnv limit m d v) where
   pub stop_bracket : (w : Bool) (e : Expr) (t : Lexeme) → t.kind ≡ kind.Mark mark.CLOSE_BRACKET → continues_assign w (ending e) t ≡ false
   stop_bracket w e t h = at_kind (λ u. continues_assign w (ending e) u ≡ false) (kind.Mark mark.CLOSE_BRACKET) t h (by (ending e))
     where
@@ -94,12 +95,12 @@ module _ (limit : ℕ) (m : Bodies) (d : ℕ) (low : d ≤ limit) (v : Env) (c :
   Item i = ProperMaybe m (maybe_expr_of i)
 
   abbrev item_pieces : Option Expr → List Piece
-  item_pieces i = print_maybe m (suc d) (maybe_expr_of i) ++ mark_piece mark.COMMA d ∷ []
+  item_pieces i = print_maybe m.look (suc d) (maybe_expr_of i) ++ mark_piece mark.COMMA d ∷ []
 
-  valued : {F : Lexeme → Type 0} (e : Expr) (qs : List Piece) (a : Turn (Option Expr) (Option Expr)) → rank e ≤ assign_rank → Proper m e → Leads qs F (λ t. continues_assign true (ending e) t ≡ false) → Completes limit qs F (parser.item_end e) a → Completes limit (print m (suc d) e ++ qs) F (parser.item_turn v) a
+  valued : {F : Lexeme → Type 0} (e : Expr) (qs : List Piece) (a : Turn (Option Expr) (Option Expr)) → rank e ≤ assign_rank → Proper m e → Leads qs F (λ t. continues_assign true (ending e) t ≡ false) → Completes limit qs F (parser.item_end e) a → Completes limit (print m.look (suc d) e ++ qs) F (parser.item_turn v) a
   valued e qs a r h l k = c_front limit (bind (v.sub (AnAssign true)) parser.item_end)
-      (λ x w rest q g. item_here x.lexeme (lexemes w ++ rest) (opens_first begins_assign (print m (suc d) e ++ qs) x w (head_of rest) (opens_append begins_assign (print m (suc d) e) qs (expr_opens m (suc d) e h)) q))
-      (λ w n q. opens_some begins_assign (print m (suc d) e ++ qs) w n (opens_append begins_assign (print m (suc d) e) qs (expr_opens m (suc d) e h)) q)
+      (λ x w rest q g. item_here x.lexeme (lexemes w ++ rest) (opens_first begins_assign (print m.look (suc d) e ++ qs) x w (head_of rest) (opens_append begins_assign (print m.look (suc d) e) qs (expr_opens m (suc d) e h)) q))
+      (λ w n q. opens_some begins_assign (print m.look (suc d) e ++ qs) w n (opens_append begins_assign (print m.look (suc d) e) qs (expr_opens m (suc d) e h)) q)
       (c_bind limit parser.item_end (c.calls.assign true e r h refl) l k)
 
   item_complete : (i : Option Expr) → Item i → Completes limit (item_pieces i) Any (parser.item_turn v) (Again i)
@@ -109,16 +110,16 @@ module _ (limit : ℕ) (m : Bodies) (d : ℕ) (low : d ≤ limit) (v : Env) (c :
   item_some : (i : Option Expr) → Item i → (w : List Marked) (n : Lexeme) → Stands (item_pieces i) w n → 0 < length (lexemes w)
   item_some None h [] n k = absurd k
   item_some None h (x ∷ w) n k = omega arith
-  item_some (Some e) h w n k = opens_some begins_assign (item_pieces (Some e)) w n (opens_append begins_assign (print m (suc d) e) (mark_piece mark.COMMA d ∷ []) (expr_opens m (suc d) e h.1)) k
+  item_some (Some e) h w n k = opens_some begins_assign (item_pieces (Some e)) w n (opens_append begins_assign (print m.look (suc d) e) (mark_piece mark.COMMA d ∷ []) (expr_opens m (suc d) e h.1)) k
 
   last_pieces : MaybeExpr → List Piece
-  last_pieces i = print_maybe m (suc d) i
+  last_pieces i = print_maybe m.look (suc d) i
 
   stop_none : Completes limit [] Closes (parser.item_turn v) (Stop None)
   stop_none = c_look limit turn_stops
 
-  stop_some : (e : Expr) → rank e ≤ assign_rank → Proper m e → Completes limit (print m (suc d) e) Closes (parser.item_turn v) (Stop (Some e))
-  stop_some e r h = c_pieces limit (append-nil (print m (suc d) e)) (valued e [] (Stop (Some e)) r h (lead_map (λ t k. stop_bracket true e t k) lead_none) (c_look limit (end_last e)))
+  stop_some : (e : Expr) → rank e ≤ assign_rank → Proper m e → Completes limit (print m.look (suc d) e) Closes (parser.item_turn v) (Stop (Some e))
+  stop_some e r h = c_pieces limit (append-nil (print m.look (suc d) e)) (valued e [] (Stop (Some e)) r h (lead_map (λ t k. stop_bracket true e t k) lead_none) (c_look limit (end_last e)))
 
   any_last : (qs : List Piece) (o : Option Expr) (stop : Completes limit qs Closes (parser.item_turn v) (Stop o)) (xs : List (Option Expr)) → LastLeads limit Item item_pieces (λ i. Any) qs Closes o (parser.item_turn v) item_complete item_some (λ x y kx ky w n h. tt) stop xs
   any_last qs o stop [] = tt
@@ -137,26 +138,26 @@ module _ (limit : ℕ) (m : Bodies) (d : ℕ) (low : d ≤ limit) (v : Env) (c :
   front_items i (more_items j is) h = (subst (ProperMaybe m) (sym (of_maybe i)) h.0, front_items j is h.1)
 
   -- all items have a comma behind them
-  flat_all : (i : MaybeExpr) (is : Items) → flat item_pieces (items_list (more_items i is)) ++ [] ≡ print_items m d (more_items i is) ++ mark_piece mark.COMMA d ∷ []
+  flat_all : (i : MaybeExpr) (is : Items) → flat item_pieces (items_list (more_items i is)) ++ [] ≡ print_items m.look d (more_items i is) ++ mark_piece mark.COMMA d ∷ []
   flat_all i no_items =
       append-nil (item_pieces (option_of i) ++ []) ∙ append-nil (item_pieces (option_of i))
-      ∙ ap (λ x. print_maybe m (suc d) x ++ mark_piece mark.COMMA d ∷ []) (of_maybe i)
-      ∙ ap (λ x. x ++ mark_piece mark.COMMA d ∷ []) (sym (append-nil (print_maybe m (suc d) i)))
+      ∙ ap (λ x. print_maybe m.look (suc d) x ++ mark_piece mark.COMMA d ∷ []) (of_maybe i)
+      ∙ ap (λ x. x ++ mark_piece mark.COMMA d ∷ []) (sym (append-nil (print_maybe m.look (suc d) i)))
   flat_all i (more_items j is) =
       append_assoc (item_pieces (option_of i)) (flat item_pieces (items_list (more_items j is))) []
       ∙ ap (λ x. item_pieces (option_of i) ++ x) (flat_all j is)
-      ∙ ap (λ x. (print_maybe m (suc d) x ++ mark_piece mark.COMMA d ∷ []) ++ (print_items m d (more_items j is) ++ mark_piece mark.COMMA d ∷ [])) (of_maybe i)
-      ∙ append_assoc (print_maybe m (suc d) i) (mark_piece mark.COMMA d ∷ []) (print_items m d (more_items j is) ++ mark_piece mark.COMMA d ∷ [])
-      ∙ sym (append_assoc (print_maybe m (suc d) i) (mark_piece mark.COMMA d ∷ print_items m d (more_items j is)) (mark_piece mark.COMMA d ∷ []))
+      ∙ ap (λ x. (print_maybe m.look (suc d) x ++ mark_piece mark.COMMA d ∷ []) ++ (print_items m.look d (more_items j is) ++ mark_piece mark.COMMA d ∷ [])) (of_maybe i)
+      ∙ append_assoc (print_maybe m.look (suc d) i) (mark_piece mark.COMMA d ∷ []) (print_items m.look d (more_items j is) ++ mark_piece mark.COMMA d ∷ [])
+      ∙ sym (append_assoc (print_maybe m.look (suc d) i) (mark_piece mark.COMMA d ∷ print_items m.look d (more_items j is)) (mark_piece mark.COMMA d ∷ []))
 
   -- or all but the last
-  flat_front : (i : MaybeExpr) (is : Items) → flat item_pieces (front_of i is) ++ print_maybe m (suc d) (last_of i is) ≡ print_items m d (more_items i is)
-  flat_front i no_items = sym (append-nil (print_maybe m (suc d) i))
+  flat_front : (i : MaybeExpr) (is : Items) → flat item_pieces (front_of i is) ++ print_maybe m.look (suc d) (last_of i is) ≡ print_items m.look d (more_items i is)
+  flat_front i no_items = sym (append-nil (print_maybe m.look (suc d) i))
   flat_front i (more_items j is) =
-      append_assoc (item_pieces (option_of i)) (flat item_pieces (front_of j is)) (print_maybe m (suc d) (last_of j is))
+      append_assoc (item_pieces (option_of i)) (flat item_pieces (front_of j is)) (print_maybe m.look (suc d) (last_of j is))
       ∙ ap (λ x. item_pieces (option_of i) ++ x) (flat_front j is)
-      ∙ ap (λ x. (print_maybe m (suc d) x ++ mark_piece mark.COMMA d ∷ []) ++ print_items m d (more_items j is)) (of_maybe i)
-      ∙ append_assoc (print_maybe m (suc d) i) (mark_piece mark.COMMA d ∷ []) (print_items m d (more_items j is))
+      ∙ ap (λ x. (print_maybe m.look (suc d) x ++ mark_piece mark.COMMA d ∷ []) ++ print_items m.look d (more_items j is)) (of_maybe i)
+      ∙ append_assoc (print_maybe m.look (suc d) i) (mark_piece mark.COMMA d ∷ []) (print_items m.look d (more_items j is))
 
   last_proper : (i : MaybeExpr) (is : Items) → ProperItems m (more_items i is) → ProperMaybe m (last_of i is)
   last_proper i no_items h = h.0
@@ -178,20 +179,20 @@ module _ (limit : ℕ) (m : Bodies) (d : ℕ) (low : d ≤ limit) (v : Env) (c :
   unfolding parser.array_of
   closing at xs o ps a e k = c_value e (c_bind limit (λ n. bind (expect mark.CLOSE_BRACKET) (λ _. ret (parser.array_case at n.items n.last))) k (lead_at (λ t s. s.kind)) (c_made limit (λ _. parser.array_case at xs o) (c_mark limit mark.CLOSE_BRACKET d low refl)))
 
-  some_stop : (o : MaybeExpr) → (is_hole o ≡ true → ⊥) → ProperMaybe m o → Completes limit (print_maybe m (suc d) o) Closes (parser.item_turn v) (Stop (option_of o))
+  some_stop : (o : MaybeExpr) → (is_hole o ≡ true → ⊥) → ProperMaybe m o → Completes limit (print_maybe m.look (suc d) o) Closes (parser.item_turn v) (Stop (option_of o))
   some_stop no_expr n h = absurd (n refl)
   some_stop (some_expr e) n h = stop_some e h.0 h.1
 
   -- behind the opening bracket
-  pub array_complete : {F : Lexeme → Type 0} (at : ℕ) (is : Items) (comma : Bool) → AreItems is comma → ProperItems m is → Completes limit (print_items m d is ++ (comma_piece comma d ++ mark_piece mark.CLOSE_BRACKET d ∷ [])) F (parser.array_of v at) (tree.Array at is comma)
+  pub array_complete : {F : Lexeme → Type 0} (at : ℕ) (is : Items) (comma : Bool) → AreItems is comma → ProperItems m is → Completes limit (print_items m.look d is ++ (comma_piece comma d ++ mark_piece mark.CLOSE_BRACKET d ∷ [])) F (parser.array_of v at) (tree.Array at is comma)
   array_complete at no_items true h p = absurd (true_false h)
   array_complete at no_items false h p = closing at [] None [] (tree.Array at no_items false) refl (loop_complete [] None stop_none [] tt)
-  array_complete at (more_items i is) true h p = c_pieces limit (append_assoc (print_items m d (more_items i is)) (mark_piece mark.COMMA d ∷ []) (mark_piece mark.CLOSE_BRACKET d ∷ []))
-      (closing at (items_list (more_items i is)) None (print_items m d (more_items i is) ++ mark_piece mark.COMMA d ∷ []) (tree.Array at (more_items i is) true) (ap (λ x. tree.Array at (items_of x) true) (append-nil (items_list (more_items i is))) ∙ ap (λ x. tree.Array at x true) (of_items (more_items i is)))
+  array_complete at (more_items i is) true h p = c_pieces limit (append_assoc (print_items m.look d (more_items i is)) (mark_piece mark.COMMA d ∷ []) (mark_piece mark.CLOSE_BRACKET d ∷ []))
+      (closing at (items_list (more_items i is)) None (print_items m.look d (more_items i is) ++ mark_piece mark.COMMA d ∷ []) (tree.Array at (more_items i is) true) (ap (λ x. tree.Array at (items_of x) true) (append-nil (items_list (more_items i is))) ∙ ap (λ x. tree.Array at x true) (of_items (more_items i is)))
       (c_pieces limit (flat_all i is) (loop_complete [] None stop_none (items_list (more_items i is)) (all_items (more_items i is) p))))
   array_complete at (more_items i is) false h p =
-      closing at (front_of i is) (option_of (last_of i is)) (print_items m d (more_items i is)) (tree.Array at (more_items i is) false) (array_with at i is (last_of i is) (last_some i is h) (with_last i is))
-      (c_pieces limit (flat_front i is) (loop_complete (print_maybe m (suc d) (last_of i is)) (option_of (last_of i is)) (some_stop (last_of i is) (last_some i is h) (last_proper i is p)) (front_of i is) (front_items i is p)))
+      closing at (front_of i is) (option_of (last_of i is)) (print_items m.look d (more_items i is)) (tree.Array at (more_items i is) false) (array_with at i is (last_of i is) (last_some i is h) (with_last i is))
+      (c_pieces limit (flat_front i is) (loop_complete (print_maybe m.look (suc d) (last_of i is)) (option_of (last_of i is)) (some_stop (last_of i is) (last_some i is h) (last_proper i is p)) (front_of i is) (front_items i is p)))
 
   -- templates, behind the head
 
@@ -230,7 +231,7 @@ module _ (limit : ℕ) (m : Bodies) (d : ℕ) (low : d ≤ limit) (v : Env) (c :
   at_tail w t DoWhile = refl
 
   abbrev part_pieces : Part → List Piece
-  part_pieces x = print m (suc d) x.value ++ template_piece kind.TemplateMiddle x.behind d ∷ []
+  part_pieces x = print m.look (suc d) x.value ++ template_piece kind.TemplateMiddle x.behind d ∷ []
 
   abbrev IsPart : Part → Type 0
   IsPart x = Proper m x.value
@@ -240,15 +241,15 @@ module _ (limit : ℕ) (m : Bodies) (d : ℕ) (low : d ≤ limit) (v : Env) (c :
   middle_complete x h = c_bind limit parser.part_end (expr_complete limit m d low v c true x.value h refl) (lead_at (λ t s. stop_template true (ending x.value) t kind.TemplateMiddle s.kind (at_middle true t)))
       (c_at limit (λ t. ret (Again (parser.part x.value t))) low (λ t ts s. middle_here x.value t ts s.kind) (λ t s. c_value (ap Again (part_of x.value t x.behind s.content)) (c_ret limit (Again (parser.part x.value t)))))
 
-  tail_complete : (e : Expr) (w : List ℕ) → Proper m e → Completes limit (print m (suc d) e ++ template_piece kind.TemplateTail w d ∷ []) Any (parser.part_turn v) (Stop (record { value = e; behind = w }))
+  tail_complete : (e : Expr) (w : List ℕ) → Proper m e → Completes limit (print m.look (suc d) e ++ template_piece kind.TemplateTail w d ∷ []) Any (parser.part_turn v) (Stop (record { value = e; behind = w }))
   unfolding parser.part_turn
   tail_complete e w h = c_bind limit parser.part_end (expr_complete limit m d low v c true e h refl) (lead_at (λ t s. stop_template true (ending e) t kind.TemplateTail s.kind (at_tail true t)))
       (c_at limit (λ t. ret (Stop (parser.part e t))) low (λ t ts s. tail_here e t ts s.kind) (λ t s. c_value (ap Stop (part_of e t w s.content)) (c_ret limit (Stop (parser.part e t)))))
 
   part_some : (x : Part) → IsPart x → (w : List Marked) (n : Lexeme) → Stands (part_pieces x) w n → 0 < length (lexemes w)
-  part_some x h w n k = opens_some begins_assign (part_pieces x) w n (opens_append begins_assign (print m (suc d) x.value) (template_piece kind.TemplateMiddle x.behind d ∷ []) (expr_opens m (suc d) x.value h)) k
+  part_some x h w n k = opens_some begins_assign (part_pieces x) w n (opens_append begins_assign (print m.look (suc d) x.value) (template_piece kind.TemplateMiddle x.behind d ∷ []) (expr_opens m (suc d) x.value h)) k
 
-  any_parts : (e : Expr) (w : List ℕ) (h : Proper m e) (xs : List Part) → LastLeads limit IsPart part_pieces (λ x. Any) (print m (suc d) e ++ template_piece kind.TemplateTail w d ∷ []) Any (record { value = e; behind = w }) (parser.part_turn v) middle_complete part_some (λ x y kx ky u n k. tt) (tail_complete e w h) xs
+  any_parts : (e : Expr) (w : List ℕ) (h : Proper m e) (xs : List Part) → LastLeads limit IsPart part_pieces (λ x. Any) (print m.look (suc d) e ++ template_piece kind.TemplateTail w d ∷ []) Any (record { value = e; behind = w }) (parser.part_turn v) middle_complete part_some (λ x y kx ky u n k. tt) (tail_complete e w h) xs
   any_parts e w h [] = tt
   any_parts e w h (x ∷ []) = lead_any
   any_parts e w h (x ∷ y ∷ xs) = any_parts e w h (y ∷ xs)
@@ -266,12 +267,12 @@ module _ (limit : ℕ) (m : Bodies) (d : ℕ) (low : d ≤ limit) (v : Env) (c :
   parts_all e w no_parts = refl
   parts_all e w (more_parts f u ps) = ap (more_parts e w) (parts_all f u ps)
 
-  flat_parts : (e : Expr) (w : List ℕ) (ps : Parts) → flat part_pieces (front_parts e w ps) ++ (print m (suc d) (last_part e w ps).value ++ template_piece kind.TemplateTail (last_part e w ps).behind d ∷ []) ≡ print_parts m d (more_parts e w ps)
+  flat_parts : (e : Expr) (w : List ℕ) (ps : Parts) → flat part_pieces (front_parts e w ps) ++ (print m.look (suc d) (last_part e w ps).value ++ template_piece kind.TemplateTail (last_part e w ps).behind d ∷ []) ≡ print_parts m.look d (more_parts e w ps)
   flat_parts e w no_parts = refl
   flat_parts e w (more_parts f u ps) =
-      append_assoc (print m (suc d) e ++ template_piece kind.TemplateMiddle w d ∷ []) (flat part_pieces (front_parts f u ps)) _
-      ∙ ap (λ x. (print m (suc d) e ++ template_piece kind.TemplateMiddle w d ∷ []) ++ x) (flat_parts f u ps)
-      ∙ append_assoc (print m (suc d) e) (template_piece kind.TemplateMiddle w d ∷ []) (print_parts m d (more_parts f u ps))
+      append_assoc (print m.look (suc d) e ++ template_piece kind.TemplateMiddle w d ∷ []) (flat part_pieces (front_parts f u ps)) _
+      ∙ ap (λ x. (print m.look (suc d) e ++ template_piece kind.TemplateMiddle w d ∷ []) ++ x) (flat_parts f u ps)
+      ∙ append_assoc (print m.look (suc d) e) (template_piece kind.TemplateMiddle w d ∷ []) (print_parts m.look d (more_parts f u ps))
 
   front_proper : (e : Expr) (w : List ℕ) (ps : Parts) → ProperParts m (more_parts e w ps) → AllK IsPart (front_parts e w ps)
   front_proper e w no_parts h = tt
@@ -282,9 +283,9 @@ module _ (limit : ℕ) (m : Bodies) (d : ℕ) (low : d ≤ limit) (v : Env) (c :
   part_proper e w (more_parts f u ps) h = part_proper f u ps h.1
 
   -- behind the head of a template with values
-  pub template_complete : {F : Lexeme → Type 0} (at : ℕ) (first : List ℕ) (e : Expr) (w : List ℕ) (ps : Parts) → ProperParts m (more_parts e w ps) → Completes limit (print_parts m d (more_parts e w ps)) F (parser.template_of v at first) (tree.Template at first (more_parts e w ps))
+  pub template_complete : {F : Lexeme → Type 0} (at : ℕ) (first : List ℕ) (e : Expr) (w : List ℕ) (ps : Parts) → ProperParts m (more_parts e w ps) → Completes limit (print_parts m.look d (more_parts e w ps)) F (parser.template_of v at first) (tree.Template at first (more_parts e w ps))
   unfolding parser.template_of
   template_complete at first e w ps h =
       let last : Part = last_part e w ps in
       c_value (ap (tree.Template at first) (parts_all e w ps)) (c_weaken limit (λ t g. tt) (c_made limit (λ n. tree.Template at first (parts_of (n.items ++ n.last ∷ [])))
-      (c_pieces limit (flat_parts e w ps) (c_loop limit IsPart part_pieces (λ x. Any) (print m (suc d) last.value ++ template_piece kind.TemplateTail last.behind d ∷ []) Any last (parser.part_turn v) middle_complete part_some (λ x y kx ky u n k. tt) (tail_complete last.value last.behind (part_proper e w ps h)) (front_parts e w ps) (front_proper e w ps h) (any_parts last.value last.behind (part_proper e w ps h) (front_parts e w ps))))))
+      (c_pieces limit (flat_parts e w ps) (c_loop limit IsPart part_pieces (λ x. Any) (print m.look (suc d) last.value ++ template_piece kind.TemplateTail last.behind d ∷ []) Any last (parser.part_turn v) middle_complete part_some (λ x y kx ky u n k. tt) (tail_complete last.value last.behind (part_proper e w ps h)) (front_parts e w ps) (front_proper e w ps h) (any_parts last.value last.behind (part_proper e w ps h) (front_parts e w ps))))))

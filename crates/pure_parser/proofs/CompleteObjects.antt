@@ -12,7 +12,7 @@ use Rattle.script_grammar.specs.Tree as tree
 use Rattle.script_grammar.specs.Pieces.{Bodies, Piece, mark_piece, name_piece, comma_piece}
 use Rattle.script_grammar.specs.Endings.{ending}
 use Rattle.script_grammar.specs.Print.{print, print_function}
-use Rattle.script_grammar.specs.Proper.{rank, Proper, ProperFunction, BareIf}
+use Rattle.script_grammar.specs.Proper.{rank, BareIf}
 use Rattle.pure_parser.specs.Parser.{Read, Parser, head_of, after, ret, bad, bind, step, when, Turn, Again, Stop, stopped, begun, led}
 use Rattle.pure_parser.specs.Exprs as parser
 use Rattle.pure_parser.specs.Exprs.{Env, AnAssign, ParamsEnd, Plain, Trailing, Rest, Head, BodyRead, expect, name_of, named, param, rest_param, ended_params, is_trailing, head_case, function_case, is_simple}
@@ -32,18 +32,19 @@ use Rattle.script_grammar.specs.Tree.{Key, Prop, Props, no_props, more_props}
 use Rattle.script_grammar.specs.TreeLists.{props_of}
 use Rattle.script_grammar.specs.Pieces.{any_word}
 use Rattle.script_grammar.specs.Print.{print_key, print_prop, print_props, print_more_props}
-use Rattle.script_grammar.specs.Proper.{ProperKey, ProperProp, ProperProps, HasProps, IsNamelessOf, assign_rank}
+use Rattle.script_grammar.specs.Proper.{HasProps, IsNamelessOf, assign_rank}
 use Rattle.pure_parser.proofs.Tests.{bool_cases, name_known, or_left, or_right, mark_known, or_cases, neither_left, neither_right}
 use Rattle.pure_parser.proofs.CompleteStmts.{named_is}
 use Rattle.pure_parser.proofs.CompleteItems.{stop_bracket}
 use Rattle.pure_parser.proofs.CompleteFunctions.{PlainForm, function_complete}
+use Rattle.pure_parser.proofs.ProperIn.{Mode, Proper, ProperFunction, ProperKey, ProperProp, ProperProps}
 
 -- parameters in parentheses
 abbrev PlainFunction : Function → Type 0
 PlainFunction (function g start end name ps comma false body) = Unit {0}
 PlainFunction (function g start end name ps comma true body) = ⊥
 
-module _ (limit : ℕ) (m : Bodies) (d : ℕ) (low : d ≤ limit) (v : Env) (c : CompleteEnv limit m d v) where
+module _ (limit : ℕ) (m : Mode) (d : ℕ) (low : d ≤ limit) (v : Env) (c : CompleteEnv limit m d v) where
   -- keys
 
   key_word : (t : Lexeme) (ts : List Lexeme) → is_any_word t.kind ≡ true → parser.key_of v (t ∷ ts) ≡ Read (tree.WordKey (named t)) [] ts
@@ -62,11 +63,11 @@ module _ (limit : ℕ) (m : Bodies) (d : ℕ) (low : d ≤ limit) (v : Env) (c :
   unfolding parser.key_of
   key_bracket t ts e = at_kind (λ u. parser.key_of v (u ∷ ts) ≡ parser.computed_of v ts) (kind.Mark mark.OPEN_BRACKET) t e refl
 
-  computed_complete : {F : Lexeme → Type 0} (e : Expr) → rank e ≤ assign_rank → Proper m e → Completes limit (print m (suc d) e ++ mark_piece mark.CLOSE_BRACKET d ∷ []) F (parser.computed_of v) (tree.ComputedKey e)
+  computed_complete : {F : Lexeme → Type 0} (e : Expr) → rank e ≤ assign_rank → Proper m e → Completes limit (print m.look (suc d) e ++ mark_piece mark.CLOSE_BRACKET d ∷ []) F (parser.computed_of v) (tree.ComputedKey e)
   unfolding parser.computed_of
   computed_complete e r h = c_bind limit (λ x. bind (expect mark.CLOSE_BRACKET) (λ _. ret (tree.ComputedKey x))) (c.calls.assign true e r h refl) (lead_at (λ t s. stop_bracket limit m d low v c true e t s.kind)) (c_made limit (λ _. tree.ComputedKey e) (c_mark limit mark.CLOSE_BRACKET d low refl))
 
-  pub key_complete : {F : Lexeme → Type 0} (k : Key) → ProperKey m k → Completes limit (print_key m d k) F (parser.key_of v) k
+  pub key_complete : {F : Lexeme → Type 0} (k : Key) → ProperKey m k → Completes limit (print_key m.look d k) F (parser.key_of v) k
   key_complete (tree.WordKey n) h = c_at limit (λ t. ret (tree.WordKey (named t))) low (λ t ts s. key_word t ts s.kind) (λ t s. c_value (ap tree.WordKey (named_is n d t s.content s.starts.0)) (c_ret limit (tree.WordKey (named t))))
   key_complete (tree.StrKey n) h = c_at limit (λ t. ret (tree.StrKey (named t))) low (λ t ts s. key_str t ts s.kind) (λ t s. c_value (ap tree.StrKey (named_is n d t s.content s.starts.0)) (c_ret limit (tree.StrKey (named t))))
   key_complete (tree.NumberKey at value) h = c_at limit (λ t. ret (tree.NumberKey t.start t.number)) low (λ t ts s. key_number t ts s.kind) (λ t s. c_value (ap (λ x. tree.NumberKey x t.number) s.starts.0 ∙ ap (tree.NumberKey at) s.content) (c_ret limit (tree.NumberKey t.start t.number)))
@@ -89,15 +90,15 @@ module _ (limit : ℕ) (m : Bodies) (d : ℕ) (low : d ≤ limit) (v : Env) (c :
   stop_prop : (e : Expr) (t : Lexeme) → PropFollow t → continues_assign true (ending e) t ≡ false
   stop_prop e t h = or_cases (is_mark mark.COMMA t.kind) (is_mark mark.CLOSE_BRACE t.kind) h (λ k. stop_comma true (ending e) t (mark_known mark.COMMA t.kind k)) (λ k. stop_assign true (ending e) t (stop_brace true (ending e) t (mark_known mark.CLOSE_BRACE t.kind k)))
 
-  pair_complete : (k : Key) (e : Expr) → rank e ≤ assign_rank → Proper m e → Completes limit (mark_piece mark.COLON d ∷ print m (suc d) e) PropFollow (parser.keyed_of v k) (tree.Pair k e)
+  pair_complete : (k : Key) (e : Expr) → rank e ≤ assign_rank → Proper m e → Completes limit (mark_piece mark.COLON d ∷ print m.look (suc d) e) PropFollow (parser.keyed_of v k) (tree.Pair k e)
   pair_complete k e r h = c_at limit (λ t. bind (v.sub (AnAssign true)) (λ x. ret (tree.Pair k x))) low (λ t ts s. colon_here k t ts s.kind) (λ t s. c_made limit (tree.Pair k) (c_weaken limit (λ t g. stop_prop e t g) (c.calls.assign true e r h refl)))
 
   -- a function from its parameters on begins with a parenthesis
-  paren_first : (f : Function) → PlainFunction f → (x : Marked) (w : List Marked) (n : Lexeme) → Stands (print_function m d f) (x ∷ w) n → x.lexeme.kind ≡ kind.Mark mark.OPEN_PAREN
+  paren_first : (f : Function) → PlainFunction f → (x : Marked) (w : List Marked) (n : Lexeme) → Stands (print_function m.look d f) (x ∷ w) n → x.lexeme.kind ≡ kind.Mark mark.OPEN_PAREN
   paren_first (function g start end name ps comma false body) p x w n h = h.0.kind
   paren_first (function g start end name ps comma true body) p x w n h = absurd p
 
-  paren_some : (f : Function) → PlainFunction f → (w : List Marked) (n : Lexeme) → Stands (print_function m d f) w n → 0 < length (lexemes w)
+  paren_some : (f : Function) → PlainFunction f → (w : List Marked) (n : Lexeme) → Stands (print_function m.look d f) w n → 0 < length (lexemes w)
   paren_some (function g start end name ps comma false body) p [] n h = absurd h
   paren_some (function g start end name ps comma true body) p w n h = absurd p
   paren_some (function g start end name ps comma false body) p (x ∷ w) n h = omega arith
@@ -114,13 +115,13 @@ module _ (limit : ℕ) (m : Bodies) (d : ℕ) (low : d ≤ limit) (v : Env) (c :
       by form.Script i b = i
       by form.Arrow i b = i
 
-  nameless_complete : {F : Lexeme → Type 0} (g : FuncForm) → PlainForm g → (f : Function) → IsNamelessOf g f → ProperFunction m f → Completes limit (print_function m d f) F (parser.function_of v g None) f
+  nameless_complete : {F : Lexeme → Type 0} (g : FuncForm) → PlainForm g → (f : Function) → IsNamelessOf g f → ProperFunction m f → Completes limit (print_function m.look d f) F (parser.function_of v g None) f
   nameless_complete {F = F} g i (function g2 start end name ps comma bare body) h k =
-      subst (λ x. ProperFunction m (function x start end name ps comma bare body) → Completes limit (print_function m d (function x start end name ps comma bare body)) F (parser.function_of v g None) (function x start end name ps comma bare body)) (sym h.0)
-      (subst (λ y. ProperFunction m (function g start end y ps comma bare body) → Completes limit (print_function m d (function g start end y ps comma bare body)) F (parser.function_of v g None) (function g start end y ps comma bare body)) (sym h.1)
+      subst (λ x. ProperFunction m (function x start end name ps comma bare body) → Completes limit (print_function m.look d (function x start end name ps comma bare body)) F (parser.function_of v g None) (function x start end name ps comma bare body)) (sym h.0)
+      (subst (λ y. ProperFunction m (function g start end y ps comma bare body) → Completes limit (print_function m.look d (function g start end y ps comma bare body)) F (parser.function_of v g None) (function g start end y ps comma bare body)) (sym h.1)
       (λ p. function_complete limit m d low v c g None i start end ps comma bare body p)) k
 
-  method_complete : {F : Lexeme → Type 0} (k : Key) (f : Function) → IsNamelessOf form.Method f → ProperFunction m f → Completes limit (print_function m d f) F (parser.keyed_of v k) (tree.Method k f)
+  method_complete : {F : Lexeme → Type 0} (k : Key) (f : Function) → IsNamelessOf form.Method f → ProperFunction m f → Completes limit (print_function m.look d f) F (parser.keyed_of v k) (tree.Method k f)
   method_complete k f h p = let q = plain_function form.Method tt f h p in c_front limit (bind (parser.function_of v form.Method None) (λ g. ret (tree.Method k g))) (λ x w rest s g. method_here k x.lexeme (lexemes w ++ rest) (paren_first f q x w (head_of rest) s)) (paren_some f q) (c_made limit (tree.Method k) (nameless_complete form.Method tt f h p))
 
   -- behind a name
@@ -196,7 +197,7 @@ module _ (limit : ℕ) (m : Bodies) (d : ℕ) (low : d ≤ limit) (v : Env) (c :
   word_key : (n : Named) (qs : List Piece) (f : Key → Prop) → ((x : Marked) (w : List Marked) (n : Lexeme) → Stands qs (x ∷ w) n → Valued x.lexeme) → ((w : List Marked) (n : Lexeme) → Stands qs w n → 0 < length (lexemes w)) → ((k : Key) → Completes limit qs PropFollow (parser.keyed_of v k) (f k)) → Completes limit (any_word (n.at ∷ []) n.text d ∷ qs) PropFollow (parser.prop_of v) (f (tree.WordKey n))
   word_key n qs f first some k = c_at limit (λ t. when (is_name t.kind) (parser.name_prop v t) (parser.keyed_of v (tree.WordKey (named t)))) low (λ t ts s. word_here t ts s.kind) (λ t s. c_value (ap (λ x. f (tree.WordKey x)) (named_is n d t s.content s.starts.0)) (word_key_by (is_name t.kind) t qs (f (tree.WordKey (named t))) first some (k (tree.WordKey (named t)))))
 
-  key_some : (k : Key) (qs : List Piece) (w : List Marked) (n : Lexeme) → Stands (print_key m d k ++ qs) w n → 0 < length (lexemes w)
+  key_some : (k : Key) (qs : List Piece) (w : List Marked) (n : Lexeme) → Stands (print_key m.look d k ++ qs) w n → 0 < length (lexemes w)
   key_some (tree.WordKey x) qs [] n h = absurd h
   key_some (tree.StrKey x) qs [] n h = absurd h
   key_some (tree.NumberKey at value) qs [] n h = absurd h
@@ -216,17 +217,17 @@ module _ (limit : ℕ) (m : Bodies) (d : ℕ) (low : d ≤ limit) (v : Env) (c :
   any_ends kind.Bad h = refl
   any_ends kind.End h = refl
 
-  key_first : (k : Key) (qs : List Piece) (x : Marked) (w : List Marked) (n : Lexeme) → Stands (print_key m d k ++ qs) (x ∷ w) n → parser.ends_key x.lexeme.kind ≡ false
+  key_first : (k : Key) (qs : List Piece) (x : Marked) (w : List Marked) (n : Lexeme) → Stands (print_key m.look d k ++ qs) (x ∷ w) n → parser.ends_key x.lexeme.kind ≡ false
   key_first (tree.WordKey y) qs x w n h = any_ends x.lexeme.kind h.0.kind
   key_first (tree.StrKey y) qs x w n h = ap parser.ends_key h.0.kind
   key_first (tree.NumberKey at value) qs x w n h = ap parser.ends_key h.0.kind
   key_first (tree.ComputedKey e) qs x w n h = ap parser.ends_key h.0.kind
 
   -- another key
-  other_key : (k : Key) (qs : List Piece) (a : Prop) → ProperKey m k → ((x : Marked) (w : List Marked) (n : Lexeme) → Stands (print_key m d k ++ qs) (x ∷ w) n → is_name x.lexeme.kind ≡ false) → Completes limit qs PropFollow (parser.keyed_of v k) a → Completes limit (print_key m d k ++ qs) PropFollow (parser.prop_of v) a
+  other_key : (k : Key) (qs : List Piece) (a : Prop) → ProperKey m k → ((x : Marked) (w : List Marked) (n : Lexeme) → Stands (print_key m.look d k ++ qs) (x ∷ w) n → is_name x.lexeme.kind ≡ false) → Completes limit qs PropFollow (parser.keyed_of v k) a → Completes limit (print_key m.look d k ++ qs) PropFollow (parser.prop_of v) a
   other_key k qs a h no_name c2 = c_front limit (bind (parser.key_of v) (parser.keyed_of v)) (λ x w rest s g. prop_key x.lexeme (lexemes w ++ rest) (no_name x w (head_of rest) s)) (key_some k qs) (c_bind limit (parser.keyed_of v) (key_complete k h) lead_any c2)
 
-  keyed : (k : Key) (qs : List Piece) (f : Key → Prop) → ProperKey m k → ((x : Marked) (w : List Marked) (n : Lexeme) → Stands qs (x ∷ w) n → Valued x.lexeme) → ((w : List Marked) (n : Lexeme) → Stands qs w n → 0 < length (lexemes w)) → ((k : Key) → Completes limit qs PropFollow (parser.keyed_of v k) (f k)) → Completes limit (print_key m d k ++ qs) PropFollow (parser.prop_of v) (f k)
+  keyed : (k : Key) (qs : List Piece) (f : Key → Prop) → ProperKey m k → ((x : Marked) (w : List Marked) (n : Lexeme) → Stands qs (x ∷ w) n → Valued x.lexeme) → ((w : List Marked) (n : Lexeme) → Stands qs w n → 0 < length (lexemes w)) → ((k : Key) → Completes limit qs PropFollow (parser.keyed_of v k) (f k)) → Completes limit (print_key m.look d k ++ qs) PropFollow (parser.prop_of v) (f k)
   keyed (tree.WordKey n) qs f h first some k = word_key n qs f first some k
   keyed (tree.StrKey n) qs f h first some k = other_key (tree.StrKey n) qs (f (tree.StrKey n)) h (λ x w n s. ap is_name s.0.kind) (k (tree.StrKey n))
   keyed (tree.NumberKey at value) qs f h first some k = other_key (tree.NumberKey at value) qs (f (tree.NumberKey at value)) h (λ x w n s. ap is_name s.0.kind) (k (tree.NumberKey at value))
@@ -244,34 +245,34 @@ module _ (limit : ℕ) (m : Bodies) (d : ℕ) (low : d ≤ limit) (v : Env) (c :
   set_here : (t : Lexeme) (ts : List Lexeme) → t.kind ≡ kind.Name → t.role ≡ set_role → parser.prop_of v (t ∷ ts) ≡ parser.accessor_of v (named t) (parser.setter_of v) ts
   set_here t ts e r = prop_name t ts e ∙ ap (λ x. when (is_get x) (parser.accessor_of v (named t) (parser.getter_of v)) (when (is_set x) (parser.accessor_of v (named t) (parser.setter_of v)) (parser.short_of v (named t))) ts) r
 
-  getter_complete : {F : Lexeme → Type 0} (k : Key) (f : Function) → ProperKey m k → IsNamelessOf form.Getter f → ProperFunction m f → Completes limit (print_key m d k ++ print_function m d f) F (parser.getter_of v) (tree.Get k f)
+  getter_complete : {F : Lexeme → Type 0} (k : Key) (f : Function) → ProperKey m k → IsNamelessOf form.Getter f → ProperFunction m f → Completes limit (print_key m.look d k ++ print_function m.look d f) F (parser.getter_of v) (tree.Get k f)
   unfolding parser.getter_of
   getter_complete k f h i p = c_bind limit (λ x. bind (parser.function_of v form.Getter None) (λ g. ret (tree.Get x g))) (key_complete k h) lead_any (c_made limit (tree.Get k) (nameless_complete form.Getter tt f i p))
 
-  setter_complete : {F : Lexeme → Type 0} (k : Key) (f : Function) → ProperKey m k → IsNamelessOf form.Setter f → ProperFunction m f → Completes limit (print_key m d k ++ print_function m d f) F (parser.setter_of v) (tree.Set k f)
+  setter_complete : {F : Lexeme → Type 0} (k : Key) (f : Function) → ProperKey m k → IsNamelessOf form.Setter f → ProperFunction m f → Completes limit (print_key m.look d k ++ print_function m.look d f) F (parser.setter_of v) (tree.Set k f)
   unfolding parser.setter_of
   setter_complete k f h i p = c_bind limit (λ x. bind (parser.function_of v form.Setter None) (λ g. ret (tree.Set x g))) (key_complete k h) lead_any (c_made limit (tree.Set k) (nameless_complete form.Setter tt f i p))
 
-  pub prop_complete : (p : Prop) → ProperProp m p → Completes limit (print_prop m d p) PropFollow (parser.prop_of v) p
+  pub prop_complete : (p : Prop) → ProperProp m p → Completes limit (print_prop m.look d p) PropFollow (parser.prop_of v) p
   prop_complete (tree.Short n) h = short_complete n
-  prop_complete (tree.Pair k e) h = keyed k (mark_piece mark.COLON d ∷ print m (suc d) e) (λ x. tree.Pair x e) h.0 (λ x w n s. ap parser.begins_value s.0.kind) (colon_some (print m (suc d) e)) (λ x. pair_complete x e h.1 h.2)
-  prop_complete (tree.Method k f) h = let q = plain_function form.Method tt f h.1 h.2 in keyed k (print_function m d f) (λ x. tree.Method x f) h.0 (λ x w n s. ap parser.begins_value (paren_first f q x w n s)) (paren_some f q) (λ x. method_complete x f h.1 h.2)
-  prop_complete (tree.Get k f) h = c_at limit (λ t. parser.accessor_of v (named t) (parser.getter_of v)) low (λ t ts s. get_here t ts s.kind s.content) (λ t s. c_front limit (parser.getter_of v) (λ x w rest q g. accessor_goes (named t) (parser.getter_of v) (x.lexeme ∷ (lexemes w ++ rest)) (key_first k (print_function m d f) x w (head_of rest) q)) (key_some k (print_function m d f)) (getter_complete k f h.0 h.1 h.2))
-  prop_complete (tree.Set k f) h = c_at limit (λ t. parser.accessor_of v (named t) (parser.setter_of v)) low (λ t ts s. set_here t ts s.kind s.content) (λ t s. c_front limit (parser.setter_of v) (λ x w rest q g. accessor_goes (named t) (parser.setter_of v) (x.lexeme ∷ (lexemes w ++ rest)) (key_first k (print_function m d f) x w (head_of rest) q)) (key_some k (print_function m d f)) (setter_complete k f h.0 h.1 h.2))
+  prop_complete (tree.Pair k e) h = keyed k (mark_piece mark.COLON d ∷ print m.look (suc d) e) (λ x. tree.Pair x e) h.0 (λ x w n s. ap parser.begins_value s.0.kind) (colon_some (print m.look (suc d) e)) (λ x. pair_complete x e h.1 h.2)
+  prop_complete (tree.Method k f) h = let q = plain_function form.Method tt f h.1 h.2 in keyed k (print_function m.look d f) (λ x. tree.Method x f) h.0 (λ x w n s. ap parser.begins_value (paren_first f q x w n s)) (paren_some f q) (λ x. method_complete x f h.1 h.2)
+  prop_complete (tree.Get k f) h = c_at limit (λ t. parser.accessor_of v (named t) (parser.getter_of v)) low (λ t ts s. get_here t ts s.kind s.content) (λ t s. c_front limit (parser.getter_of v) (λ x w rest q g. accessor_goes (named t) (parser.getter_of v) (x.lexeme ∷ (lexemes w ++ rest)) (key_first k (print_function m.look d f) x w (head_of rest) q)) (key_some k (print_function m.look d f)) (getter_complete k f h.0 h.1 h.2))
+  prop_complete (tree.Set k f) h = c_at limit (λ t. parser.accessor_of v (named t) (parser.setter_of v)) low (λ t ts s. set_here t ts s.kind s.content) (λ t s. c_front limit (parser.setter_of v) (λ x w rest q g. accessor_goes (named t) (parser.setter_of v) (x.lexeme ∷ (lexemes w ++ rest)) (key_first k (print_function m.look d f) x w (head_of rest) q)) (key_some k (print_function m.look d f)) (setter_complete k f h.0 h.1 h.2))
 
   -- the first lexeme of a property does not end the object
-  prop_first : (p : Prop) (qs : List Piece) (x : Marked) (w : List Marked) (n : Lexeme) → Stands (print_prop m d p ++ qs) (x ∷ w) n → is_mark mark.CLOSE_BRACE x.lexeme.kind ≡ false
+  prop_first : (p : Prop) (qs : List Piece) (x : Marked) (w : List Marked) (n : Lexeme) → Stands (print_prop m.look d p ++ qs) (x ∷ w) n → is_mark mark.CLOSE_BRACE x.lexeme.kind ≡ false
   prop_first (tree.Short y) qs x w n h = ap (is_mark mark.CLOSE_BRACE) h.0.kind
-  prop_first (tree.Pair k e) qs x w n h = key_not k (mark_piece mark.COLON d ∷ print m (suc d) e) qs x w n h
+  prop_first (tree.Pair k e) qs x w n h = key_not k (mark_piece mark.COLON d ∷ print m.look (suc d) e) qs x w n h
     where
-      key_not : (k : Key) (ps qs : List Piece) (x : Marked) (w : List Marked) (n : Lexeme) → Stands ((print_key m d k ++ ps) ++ qs) (x ∷ w) n → is_mark mark.CLOSE_BRACE x.lexeme.kind ≡ false
+      key_not : (k : Key) (ps qs : List Piece) (x : Marked) (w : List Marked) (n : Lexeme) → Stands ((print_key m.look d k ++ ps) ++ qs) (x ∷ w) n → is_mark mark.CLOSE_BRACE x.lexeme.kind ≡ false
       key_not (tree.WordKey y) ps qs x w n h = neither_right (is_mark mark.COMMA x.lexeme.kind) (is_mark mark.CLOSE_BRACE x.lexeme.kind) (neither_left (is_mark mark.COMMA x.lexeme.kind || is_mark mark.CLOSE_BRACE x.lexeme.kind) (parser.begins_value x.lexeme.kind) (any_ends x.lexeme.kind h.0.kind))
       key_not (tree.StrKey y) ps qs x w n h = ap (is_mark mark.CLOSE_BRACE) h.0.kind
       key_not (tree.NumberKey at value) ps qs x w n h = ap (is_mark mark.CLOSE_BRACE) h.0.kind
       key_not (tree.ComputedKey e) ps qs x w n h = ap (is_mark mark.CLOSE_BRACE) h.0.kind
-  prop_first (tree.Method k f) qs x w n h = key_not k (print_function m d f) qs x w n h
+  prop_first (tree.Method k f) qs x w n h = key_not k (print_function m.look d f) qs x w n h
     where
-      key_not : (k : Key) (ps qs : List Piece) (x : Marked) (w : List Marked) (n : Lexeme) → Stands ((print_key m d k ++ ps) ++ qs) (x ∷ w) n → is_mark mark.CLOSE_BRACE x.lexeme.kind ≡ false
+      key_not : (k : Key) (ps qs : List Piece) (x : Marked) (w : List Marked) (n : Lexeme) → Stands ((print_key m.look d k ++ ps) ++ qs) (x ∷ w) n → is_mark mark.CLOSE_BRACE x.lexeme.kind ≡ false
       key_not (tree.WordKey y) ps qs x w n h = neither_right (is_mark mark.COMMA x.lexeme.kind) (is_mark mark.CLOSE_BRACE x.lexeme.kind) (neither_left (is_mark mark.COMMA x.lexeme.kind || is_mark mark.CLOSE_BRACE x.lexeme.kind) (parser.begins_value x.lexeme.kind) (any_ends x.lexeme.kind h.0.kind))
       key_not (tree.StrKey y) ps qs x w n h = ap (is_mark mark.CLOSE_BRACE) h.0.kind
       key_not (tree.NumberKey at value) ps qs x w n h = ap (is_mark mark.CLOSE_BRACE) h.0.kind
@@ -279,10 +280,10 @@ module _ (limit : ℕ) (m : Bodies) (d : ℕ) (low : d ≤ limit) (v : Env) (c :
   prop_first (tree.Get k f) qs x w n h = ap (is_mark mark.CLOSE_BRACE) h.0.kind
   prop_first (tree.Set k f) qs x w n h = ap (is_mark mark.CLOSE_BRACE) h.0.kind
 
-  prop_some : (p : Prop) (qs : List Piece) (w : List Marked) (n : Lexeme) → Stands (print_prop m d p ++ qs) w n → 0 < length (lexemes w)
+  prop_some : (p : Prop) (qs : List Piece) (w : List Marked) (n : Lexeme) → Stands (print_prop m.look d p ++ qs) w n → 0 < length (lexemes w)
   prop_some (tree.Short y) qs [] n h = absurd h
-  prop_some (tree.Pair k e) qs [] n h = key_some k ((mark_piece mark.COLON d ∷ print m (suc d) e) ++ qs) [] n (subst (λ y. Stands y [] n) (append_assoc (print_key m d k) (mark_piece mark.COLON d ∷ print m (suc d) e) qs) h)
-  prop_some (tree.Method k f) qs [] n h = key_some k (print_function m d f ++ qs) [] n (subst (λ y. Stands y [] n) (append_assoc (print_key m d k) (print_function m d f) qs) h)
+  prop_some (tree.Pair k e) qs [] n h = key_some k ((mark_piece mark.COLON d ∷ print m.look (suc d) e) ++ qs) [] n (subst (λ y. Stands y [] n) (append_assoc (print_key m.look d k) (mark_piece mark.COLON d ∷ print m.look (suc d) e) qs) h)
+  prop_some (tree.Method k f) qs [] n h = key_some k (print_function m.look d f ++ qs) [] n (subst (λ y. Stands y [] n) (append_assoc (print_key m.look d k) (print_function m.look d f) qs) h)
   prop_some (tree.Get k f) qs [] n h = absurd h
   prop_some (tree.Set k f) qs [] n h = absurd h
   prop_some p qs (x ∷ w) n h = omega arith
@@ -325,7 +326,7 @@ module _ (limit : ℕ) (m : Bodies) (d : ℕ) (low : d ≤ limit) (v : Env) (c :
   more_goes t ts h = ap (λ x. when x (ret (stopped false)) (bind (parser.prop_of v) (led (parser.props_turn v))) (t ∷ ts)) h
 
   abbrev item_pieces : Prop → List Piece
-  item_pieces p = mark_piece mark.COMMA d ∷ print_prop m d p
+  item_pieces p = mark_piece mark.COMMA d ∷ print_prop m.look d p
 
   comma_prop : (t : Lexeme) → t.kind ≡ kind.Mark mark.COMMA → PropFollow t
   comma_prop t e = ap (λ k. is_mark mark.COMMA k || is_mark mark.CLOSE_BRACE k) e
@@ -334,7 +335,7 @@ module _ (limit : ℕ) (m : Bodies) (d : ℕ) (low : d ≤ limit) (v : Env) (c :
   close_prop t e = ap (λ k. is_mark mark.COMMA k || is_mark mark.CLOSE_BRACE k) e
 
   item_complete : (p : Prop) → ProperProp m p → Completes limit (item_pieces p) PropFollow (parser.props_turn v) (Again p)
-  item_complete p h = c_at limit (λ t. parser.props_next v) low (λ t ts s. turn_comma t ts s.kind) (λ t s. c_front limit (bind (parser.prop_of v) (λ x. ret (Again x))) (λ x w rest q g. next_goes x.lexeme (lexemes w ++ rest) (prop_first p [] x w (head_of rest) (subst (λ y. Stands y (x ∷ w) (head_of rest)) (sym (append-nil (print_prop m d p))) q))) (λ w n q. prop_some p [] w n (subst (λ y. Stands y w n) (sym (append-nil (print_prop m d p))) q)) (c_made limit Again (prop_complete p h)))
+  item_complete p h = c_at limit (λ t. parser.props_next v) low (λ t ts s. turn_comma t ts s.kind) (λ t s. c_front limit (bind (parser.prop_of v) (λ x. ret (Again x))) (λ x w rest q g. next_goes x.lexeme (lexemes w ++ rest) (prop_first p [] x w (head_of rest) (subst (λ y. Stands y (x ∷ w) (head_of rest)) (sym (append-nil (print_prop m.look d p))) q))) (λ w n q. prop_some p [] w n (subst (λ y. Stands y w n) (sym (append-nil (print_prop m.look d p))) q)) (c_made limit Again (prop_complete p h)))
 
   item_some : (p : Prop) → ProperProp m p → (w : List Marked) (n : Lexeme) → Stands (item_pieces p) w n → 0 < length (lexemes w)
   item_some p k [] n h = absurd h
@@ -361,23 +362,23 @@ module _ (limit : ℕ) (m : Bodies) (d : ℕ) (low : d ≤ limit) (v : Env) (c :
   all_props no_props h = tt
   all_props (more_props p ps) h = (h.0, all_props ps h.1)
 
-  flat_props : (ps : Props) (comma : Bool) → flat item_pieces (props_list ps) ++ comma_piece comma d ≡ print_more_props m d ps ++ comma_piece comma d
+  flat_props : (ps : Props) (comma : Bool) → flat item_pieces (props_list ps) ++ comma_piece comma d ≡ print_more_props m.look d ps ++ comma_piece comma d
   flat_props no_props comma = refl
-  flat_props (more_props p ps) comma = append_assoc (item_pieces p) (flat item_pieces (props_list ps)) (comma_piece comma d) ∙ ap (λ x. item_pieces p ++ x) (flat_props ps comma) ∙ sym (append_assoc (item_pieces p) (print_more_props m d ps) (comma_piece comma d))
+  flat_props (more_props p ps) comma = append_assoc (item_pieces p) (flat item_pieces (props_list ps)) (comma_piece comma d) ∙ ap (λ x. item_pieces p ++ x) (flat_props ps comma) ∙ sym (append_assoc (item_pieces p) (print_more_props m.look d ps) (comma_piece comma d))
 
-  props_lead : (ps : Props) (comma : Bool) → Leads (print_more_props m d ps ++ comma_piece comma d) ClosesBrace PropFollow
+  props_lead : (ps : Props) (comma : Bool) → Leads (print_more_props m.look d ps ++ comma_piece comma d) ClosesBrace PropFollow
   props_lead no_props comma = stop_leads comma
   props_lead (more_props p ps) comma = lead_at (λ t s. comma_prop t s.kind)
 
-  many_props : (ps : Props) (comma : Bool) → ProperProps m ps → (comma ≡ true → HasProps ps) → Completes limit (print_props m d ps ++ comma_piece comma d) ClosesBrace (parser.more_props v) (record { items = props_list ps; last = comma })
+  many_props : (ps : Props) (comma : Bool) → ProperProps m ps → (comma ≡ true → HasProps ps) → Completes limit (print_props m.look d ps ++ comma_piece comma d) ClosesBrace (parser.more_props v) (record { items = props_list ps; last = comma })
   many_props no_props true h k = absurd (k refl)
   many_props no_props false h k = c_look limit more_close
-  many_props (more_props p ps) comma h k = c_pieces limit (sym (append_assoc (print_prop m d p) (print_more_props m d ps) (comma_piece comma d))) (c_front limit (bind (parser.prop_of v) (led (parser.props_turn v)))
-      (λ x w rest q g. more_goes x.lexeme (lexemes w ++ rest) (prop_first p (print_more_props m d ps ++ comma_piece comma d) x w (head_of rest) q))
-      (prop_some p (print_more_props m d ps ++ comma_piece comma d))
+  many_props (more_props p ps) comma h k = c_pieces limit (sym (append_assoc (print_prop m.look d p) (print_more_props m.look d ps) (comma_piece comma d))) (c_front limit (bind (parser.prop_of v) (led (parser.props_turn v)))
+      (λ x w rest q g. more_goes x.lexeme (lexemes w ++ rest) (prop_first p (print_more_props m.look d ps ++ comma_piece comma d) x w (head_of rest) q))
+      (prop_some p (print_more_props m.look d ps ++ comma_piece comma d))
       (c_bind limit (led (parser.props_turn v)) (prop_complete p h.0) (props_lead ps comma) (c_made limit (begun p) (c_pieces limit (flat_props ps comma) (c_loop limit (ProperProp m) item_pieces (λ p. PropFollow) (comma_piece comma d) ClosesBrace comma (parser.props_turn v) item_complete item_some item_link (stop_complete comma) (props_list ps) (all_props ps h.1) (props_last comma (props_list ps)))))))
 
   -- behind the opening brace
-  pub object_complete : {F : Lexeme → Type 0} (at : ℕ) (ps : Props) (comma : Bool) → (comma ≡ true → HasProps ps) → ProperProps m ps → Completes limit (print_props m d ps ++ (comma_piece comma d ++ mark_piece mark.CLOSE_BRACE d ∷ [])) F (parser.object_of v at) (tree.Object at ps comma)
+  pub object_complete : {F : Lexeme → Type 0} (at : ℕ) (ps : Props) (comma : Bool) → (comma ≡ true → HasProps ps) → ProperProps m ps → Completes limit (print_props m.look d ps ++ (comma_piece comma d ++ mark_piece mark.CLOSE_BRACE d ∷ [])) F (parser.object_of v at) (tree.Object at ps comma)
   unfolding parser.object_of
-  object_complete at ps comma k h = c_pieces limit (append_assoc (print_props m d ps) (comma_piece comma d) (mark_piece mark.CLOSE_BRACE d ∷ [])) (c_value (ap (λ x. tree.Object at x comma) (props_as ps)) (c_bind limit (λ x. bind (expect mark.CLOSE_BRACE) (λ _. ret (tree.Object at (props_of x.items) x.last))) (many_props ps comma h k) (lead_at (λ t s. s.kind)) (c_made limit (λ _. tree.Object at (props_of (props_list ps)) comma) (c_mark limit mark.CLOSE_BRACE d low refl))))
+  object_complete at ps comma k h = c_pieces limit (append_assoc (print_props m.look d ps) (comma_piece comma d) (mark_piece mark.CLOSE_BRACE d ∷ [])) (c_value (ap (λ x. tree.Object at x comma) (props_as ps)) (c_bind limit (λ x. bind (expect mark.CLOSE_BRACE) (λ _. ret (tree.Object at (props_of x.items) x.last))) (many_props ps comma h k) (lead_at (λ t s. s.kind)) (c_made limit (λ _. tree.Object at (props_of (props_list ps)) comma) (c_mark limit mark.CLOSE_BRACE d low refl))))

@@ -13,7 +13,7 @@ use Rattle.script_grammar.specs.TreeLists.{Operand, operands_of}
 use Rattle.script_grammar.specs.Pieces.{Bodies, Piece, Ending}
 use Rattle.script_grammar.specs.Endings.{ending, operands_ending}
 use Rattle.script_grammar.specs.Print.{print, print_operands, operator_piece}
-use Rattle.script_grammar.specs.Proper.{rank, Proper, ProperOperands, HasOperands, operand_rank, first_rank, level_rank, free_of_in, operands_free, InIf, are_member_tails, function_rank, new_rank}
+use Rattle.script_grammar.specs.Proper.{rank, HasOperands, operand_rank, first_rank, level_rank, free_of_in, operands_free, InIf, are_member_tails, function_rank, new_rank}
 use Rattle.pure_parser.specs.Parser.{Read, Parser, head_of, ret, bind, peek, step, when, Turn, Again, Stop, loop}
 use Rattle.pure_parser.specs.Exprs as parser
 use Rattle.pure_parser.specs.Exprs.{Env, mark_of, is_word_kind, operand, binary_case, is_op, is_update_expr}
@@ -26,6 +26,7 @@ use Rattle.pure_parser.proofs.Completes.{Completes, Leads, lead_none, lead_at, l
 use Rattle.pure_parser.proofs.CompleteLoops.{c_loop, LastLeads}
 use Rattle.pure_parser.proofs.CompleteStmts.{c_value}
 use Rattle.pure_parser.proofs.CompleteParts.{UnaryStops}
+use Rattle.pure_parser.proofs.ProperIn.{Mode, Proper, ProperOperands}
 
 -- a choice by the first lexeme
 
@@ -136,8 +137,8 @@ pub binary_same : (e : Expr) (os : Operands) → binary_case e (operand_list os)
 binary_same e no_operands = refl
 binary_same e (more_operands op is_word value rest) = ap (λ x. tree.Binary e (more_operands op is_word value x)) (of_operands rest)
 
-pub binary_pieces : (m : Bodies) (d : ℕ) (e : Expr) (os : Operands) → print m d e ++ print_operands m d os ≡ print m d (binary_of e os)
-binary_pieces m d e no_operands = append-nil (print m d e)
+pub binary_pieces : (m : Mode) (d : ℕ) (e : Expr) (os : Operands) → print m.look d e ++ print_operands m.look d os ≡ print m.look d (binary_of e os)
+binary_pieces m d e no_operands = append-nil (print m.look d e)
 binary_pieces m d e (more_operands op is_word value rest) = refl
 
 pub binary_ending : (e : Expr) (os : Operands) → operands_ending (ending e) os ≡ ending (binary_of e os)
@@ -191,7 +192,7 @@ above a b h = omega (arith, leb-false a b h)
 operand_low : (n : ℕ) → n ≤ 10 → operand_rank n ≡ 6 + n
 operand_low n h = ap (λ b. if b then 15 else 6 + n) (ne_eqb n 11 (λ e. absurd (omega (arith, h, e))))
 
-pub record Levelled (m : Bodies) (w : Bool) (n : ℕ) (e : Expr) : Type 0 where
+pub record Levelled (m : Mode) (w : Bool) (n : ℕ) (e : Expr) : Type 0 where
   pub first : Expr
   pub rest : Operands
   pub same : binary_of first rest ≡ e
@@ -213,10 +214,10 @@ in_none : (w : Bool) → InIf w true
 in_none true = refl
 in_none false = refl
 
-alone : (m : Bodies) (w : Bool) (n : ℕ) (e : Expr) → rank e ≤ first_rank n → Proper m e → InIf w (free_of_in e) → Levelled m w n e
+alone : (m : Mode) (w : Bool) (n : ℕ) (e : Expr) → rank e ≤ first_rank n → Proper m e → InIf w (free_of_in e) → Levelled m w n e
 alone m w n e r h i = record { first = e; rest = no_operands; same = refl; rank_le = r; proper = h; in_if = i; operands = tt; operands_in = in_none w }
 
-pub binary_level : (m : Bodies) (w : Bool) (n : ℕ) (e : Expr) → IsBinary e → rank e ≡ level_rank n → Proper m e → InIf w (free_of_in e) → Levelled m w n e
+pub binary_level : (m : Mode) (w : Bool) (n : ℕ) (e : Expr) → IsBinary e → rank e ≡ level_rank n → Proper m e → InIf w (free_of_in e) → Levelled m w n e
 binary_level m w n (tree.Binary first no_operands) b r h i = absurd h.0
 binary_level m w n (tree.Binary first (more_operands op is_word value rest)) b r h i =
     let same : op_level op is_word ≡ n = omega (arith, r) in
@@ -251,27 +252,27 @@ binary_level m w n (tree.Assign op target value) b r h i = absurd b
 binary_level m w n (tree.Comma es) b r h i = absurd b
 
 -- of a level above `**` and below `??`
-pub levelled : (m : Bodies) (w : Bool) (n : ℕ) (e : Expr) → suc n ≤ 10 → rank e ≤ level_rank (suc n) → Proper m e → InIf w (free_of_in e) → Levelled m w (suc n) e
+pub levelled : (m : Mode) (w : Bool) (n : ℕ) (e : Expr) → suc n ≤ 10 → rank e ≤ level_rank (suc n) → Proper m e → InIf w (free_of_in e) → Levelled m w (suc n) e
 levelled m w n e l r h i = by (nat_le (rank e) (7 + n)) refl
   where
     by : (b : Bool) → nat_le (rank e) (7 + n) ≡ b → Levelled m w (suc n) e
     by true q = alone m w (suc n) e (omega (arith, operand_low (suc n) l, leb-true (rank e) (7 + n) q)) h i
     by false q = binary_level m w (suc n) e (binary_only e (omega (arith, above (rank e) (7 + n) q)) (omega (arith, r, l))) (omega (arith, r, above (rank e) (7 + n) q)) h i
 
-module _ (limit : ℕ) (m : Bodies) (d : ℕ) (low : d ≤ limit) (v : Env) where
+module _ (limit : ℕ) (m : Mode) (d : ℕ) (low : d ≤ limit) (v : Env) where
   abbrev Value : Bool → ℕ → Expr → Type 0
   Value w r e = (rank e ≤ r) × Proper m e × InIf w (free_of_in e)
 
   abbrev operand_pieces : Operand → List Piece
-  operand_pieces o = operator_piece o.op o.is_word d ∷ print m d o.value
+  operand_pieces o = operator_piece o.op o.is_word d ∷ print m.look d o.value
 
-  flat_operands : (os : Operands) → flat operand_pieces (operand_list os) ++ [] ≡ print_operands m d os
+  flat_operands : (os : Operands) → flat operand_pieces (operand_list os) ++ [] ≡ print_operands m.look d os
   flat_operands no_operands = refl
-  flat_operands (more_operands op is_word value rest) = append_assoc (operator_piece op is_word d ∷ print m d value) (flat operand_pieces (operand_list rest)) [] ∙ ap (λ x. operator_piece op is_word d ∷ (print m d value ++ x)) (flat_operands rest)
+  flat_operands (more_operands op is_word value rest) = append_assoc (operator_piece op is_word d ∷ print m.look d value) (flat operand_pieces (operand_list rest)) [] ∙ ap (λ x. operator_piece op is_word d ∷ (print m.look d value ++ x)) (flat_operands rest)
 
   -- the operands of a level above `**`, where the level below is read
   module _ (w : Bool) (n : ℕ) (small : suc n < 12) (low_level : ℕ) (below : low_level < suc n) (lower : Parser Expr)
-      (lower_complete : (e : Expr) → Value w (operand_rank (suc n)) e → Completes limit (print m d e) (LevelStops w low_level (ending e)) lower e) where
+      (lower_complete : (e : Expr) → Value w (operand_rank (suc n)) e → Completes limit (print m.look d e) (LevelStops w low_level (ending e)) lower e) where
     abbrev Item : Operand → Type 0
     Item o = (op_level o.op o.is_word ≡ suc n) × ((w || not (o.is_word && nat_eq o.op word.IN)) ≡ true) × Value w (operand_rank (suc n)) o.value
 
@@ -315,21 +316,21 @@ module _ (limit : ℕ) (m : Bodies) (d : ℕ) (low : d ≤ limit) (v : Env) wher
     last_leads x (more_operands op is_word value no_operands) = lead_map (λ t g. g.0) lead_none
     last_leads x (more_operands op is_word value (more_operands p q y rest)) = last_leads (ending value) (more_operands p q y rest)
 
-    pub from_complete : (x : Ending) (e : Expr) (os : Operands) → ProperOperands m (suc n) os → InIf w (operands_free os) → Completes limit (print_operands m d os) (End (operands_ending x os)) (parser.operands_from w (suc n) lower e) (binary_of e os)
+    pub from_complete : (x : Ending) (e : Expr) (os : Operands) → ProperOperands m (suc n) os → InIf w (operands_free os) → Completes limit (print_operands m.look d os) (End (operands_ending x os)) (parser.operands_from w (suc n) lower e) (binary_of e os)
     from_complete x e os h i = c_value (binary_same e os) (c_made limit (λ n. binary_case e n.items) (c_pieces limit (flat_operands os) (c_loop limit Item operand_pieces ItemFollow [] (End (operands_ending x os)) tt (parser.op_turn w (suc n) lower) item_complete item_some item_link (c_look limit (λ rest g. turn_stops rest g.1)) (operand_list os) (all_operands os h i) (last_leads x os))))
 
     -- behind the first operand
-    pub from_leads : (e : Ending) (os : Operands) → ProperOperands m (suc n) os → Leads (print_operands m d os) (End (operands_ending e os)) (LevelStops w low_level e)
+    pub from_leads : (e : Ending) (os : Operands) → ProperOperands m (suc n) os → Leads (print_operands m.look d os) (End (operands_ending e os)) (LevelStops w low_level e)
     from_leads e no_operands h = lead_map (λ t g. g.0) lead_none
     from_leads e (more_operands op is_word value rest) h = lead_at (λ t s. op_follows e op is_word t h.0 s.kind)
 
-    pub step_complete : (first : Parser Expr) (e : Expr) (l : Levelled m w (suc n) e) → Completes limit (print m d l.first) (LevelStops w low_level (ending l.first)) first l.first → Completes limit (print m d e) (End (ending e)) (bind first (parser.operands_from w (suc n) lower)) e
-    step_complete first e l c = c_value l.same (c_pieces limit (binary_pieces m d l.first l.rest ∙ ap (print m d) l.same) (c_weaken limit (λ t g. subst (λ x. End x t) (sym (binary_ending l.first l.rest ∙ ap ending l.same)) g) (c_bind limit (parser.operands_from w (suc n) lower) c (from_leads (ending l.first) l.rest l.operands) (from_complete (ending l.first) l.first l.rest l.operands l.operands_in))))
+    pub step_complete : (first : Parser Expr) (e : Expr) (l : Levelled m w (suc n) e) → Completes limit (print m.look d l.first) (LevelStops w low_level (ending l.first)) first l.first → Completes limit (print m.look d e) (End (ending e)) (bind first (parser.operands_from w (suc n) lower)) e
+    step_complete first e l c = c_value l.same (c_pieces limit (binary_pieces m d l.first l.rest ∙ ap (print m.look d) l.same) (c_weaken limit (λ t g. subst (λ x. End x t) (sym (binary_ending l.first l.rest ∙ ap ending l.same)) g) (c_bind limit (parser.operands_from w (suc n) lower) c (from_leads (ending l.first) l.rest l.operands) (from_complete (ending l.first) l.first l.rest l.operands l.operands_in))))
 
   -- a chain of `**`, where UnaryExpressions are read
 
   abbrev pub ReadsUnary : Type 0
-  ReadsUnary = (heads : Bool) (e : Expr) → rank e ≤ 6 → Proper m e → Completes limit (print m d e) (UnaryStops (ending e)) (parser.unary_of v heads) e
+  ReadsUnary = (heads : Bool) (e : Expr) → rank e ≤ 6 → Proper m e → Completes limit (print m.look d e) (UnaryStops (ending e)) (parser.unary_of v heads) e
 
   module _ (unary : ReadsUnary) where
     if_some : {x y : ℕ} (b : Bool) → 1 ≤ x → 1 ≤ y → 1 ≤ (if b then x else y)
@@ -421,7 +422,7 @@ module _ (limit : ℕ) (m : Bodies) (d : ℕ) (low : d ≤ limit) (v : Env) wher
       last : Option Operand
       pieces : List Piece
       same : parser.with_last items last ≡ operand_list os
-      prints : flat operand_pieces items ++ pieces ≡ print_operands m d os
+      prints : flat operand_pieces items ++ pieces ≡ print_operands m.look d os
       known : AllK Power items
       stop : Completes limit pieces G (parser.power_turn v) (Stop last)
       leads : LastLeads limit Power operand_pieces PowerFollow pieces G last (parser.power_turn v) power_complete power_some power_link stop items
@@ -436,7 +437,7 @@ module _ (limit : ℕ) (m : Bodies) (d : ℕ) (low : d ≤ limit) (v : Env) wher
       last = None;
       pieces = [];
       same = refl;
-      prints = append-nil (operator_piece op of_word d ∷ (print m d value ++ []));
+      prints = append-nil (operator_piece op of_word d ∷ (print m.look d value ++ []));
       known = ((l, leb-true (rank value) 5 q, h), tt);
       stop = c_look limit (λ rest g. power_stops rest g.1);
       leads = lead_map (λ t g. g.0) lead_none;
@@ -449,7 +450,7 @@ module _ (limit : ℕ) (m : Bodies) (d : ℕ) (low : d ≤ limit) (v : Env) wher
           last = Some o;
           pieces = operand_pieces o;
           same = refl;
-          prints = ap (λ x. operator_piece op of_word d ∷ x) (sym (append-nil (print m d value)));
+          prints = ap (λ x. operator_piece op of_word d ∷ x) (sym (append-nil (print m.look d value)));
           known = tt;
           stop = c_weaken limit (λ t g. g.0) (power_item o (Stop (Some o)) l r h (power_last o q));
           leads = tt;
@@ -482,29 +483,29 @@ module _ (limit : ℕ) (m : Bodies) (d : ℕ) (low : d ≤ limit) (v : Env) wher
           first = λ _. tt;
         }
 
-    power_leads : (e : Ending) (os : Operands) → ProperOperands m 0 os → Leads (print_operands m d os) (PowerEnd (operands_ending e os)) (UnaryStops e)
+    power_leads : (e : Ending) (os : Operands) → ProperOperands m 0 os → Leads (print_operands m.look d os) (PowerEnd (operands_ending e os)) (UnaryStops e)
     power_leads e no_operands h = lead_map (λ t g. g.0) lead_none
     power_leads e (more_operands op of_word value rest) h = lead_at (λ t s. op_stops e t (omega (arith, op_at op of_word t s.kind, h.0)))
 
-    powers_read : (x : Ending) (e : Expr) (os : Operands) → ProperOperands m 0 os → Completes limit (print_operands m d os) (PowerEnd (operands_ending x os)) (bind (loop (parser.power_turn v)) (λ n. ret (binary_case e (parser.with_last n.items n.last)))) (binary_of e os)
+    powers_read : (x : Ending) (e : Expr) (os : Operands) → ProperOperands m 0 os → Completes limit (print_operands m.look d os) (PowerEnd (operands_ending x os)) (bind (loop (parser.power_turn v)) (λ n. ret (binary_case e (parser.with_last n.items n.last)))) (binary_of e os)
     powers_read x e os h =
         let r = powers x os h in
         c_value (ap (binary_case e) r.same ∙ binary_same e os) (c_made limit (λ n. binary_case e (parser.with_last n.items n.last)) (c_pieces limit r.prints (c_loop limit Power operand_pieces PowerFollow r.pieces (PowerEnd (operands_ending x os)) r.last (parser.power_turn v) power_complete power_some power_link r.stop r.items r.known r.leads)))
 
-    updated : (heads w : Bool) (e : Expr) → Levelled m w 0 e → Completes limit (print m d e) (PowerEnd (ending e)) (parser.power_of v heads) e
+    updated : (heads w : Bool) (e : Expr) → Levelled m w 0 e → Completes limit (print m.look d e) (PowerEnd (ending e)) (parser.power_of v heads) e
     unfolding parser.power_of
-    updated heads w e l = c_value l.same (c_pieces limit (binary_pieces m d l.first l.rest ∙ ap (print m d) l.same) (c_weaken limit (λ t g. subst (λ x. PowerEnd x t) (sym (binary_ending l.first l.rest ∙ ap ending l.same)) g) (c_bind limit (λ x. when (is_update_expr x) (bind (loop (parser.power_turn v)) (λ n. ret (binary_case x (parser.with_last n.items n.last)))) (ret x)) (unary heads l.first (omega (arith, l.rank_le)) l.proper) (power_leads (ending l.first) l.rest l.operands)
-        (subst (λ b. Completes limit (print_operands m d l.rest) (PowerEnd (operands_ending (ending l.first) l.rest)) (when b (bind (loop (parser.power_turn v)) (λ n. ret (binary_case l.first (parser.with_last n.items n.last)))) (ret l.first)) (binary_of l.first l.rest)) (sym (le-leb (rank l.first) 5 l.rank_le)) (powers_read (ending l.first) l.first l.rest l.operands)))))
+    updated heads w e l = c_value l.same (c_pieces limit (binary_pieces m d l.first l.rest ∙ ap (print m.look d) l.same) (c_weaken limit (λ t g. subst (λ x. PowerEnd x t) (sym (binary_ending l.first l.rest ∙ ap ending l.same)) g) (c_bind limit (λ x. when (is_update_expr x) (bind (loop (parser.power_turn v)) (λ n. ret (binary_case x (parser.with_last n.items n.last)))) (ret x)) (unary heads l.first (omega (arith, l.rank_le)) l.proper) (power_leads (ending l.first) l.rest l.operands)
+        (subst (λ b. Completes limit (print_operands m.look d l.rest) (PowerEnd (operands_ending (ending l.first) l.rest)) (when b (bind (loop (parser.power_turn v)) (λ n. ret (binary_case l.first (parser.with_last n.items n.last)))) (ret l.first)) (binary_of l.first l.rest)) (sym (le-leb (rank l.first) 5 l.rank_le)) (powers_read (ending l.first) l.first l.rest l.operands)))))
 
-    prefixed : (heads : Bool) (e : Expr) → rank e ≡ 6 → Proper m e → Completes limit (print m d e) (PowerEnd (ending e)) (parser.power_of v heads) e
+    prefixed : (heads : Bool) (e : Expr) → rank e ≡ 6 → Proper m e → Completes limit (print m.look d e) (PowerEnd (ending e)) (parser.power_of v heads) e
     unfolding parser.power_of
-    prefixed heads e r h = c_pieces limit (append-nil (print m d e)) (c_bind limit (λ x. when (is_update_expr x) (bind (loop (parser.power_turn v)) (λ n. ret (binary_case x (parser.with_last n.items n.last)))) (ret x)) (unary heads e (omega (arith, r)) h) (lead_map (λ t g. g.0) lead_none)
+    prefixed heads e r h = c_pieces limit (append-nil (print m.look d e)) (c_bind limit (λ x. when (is_update_expr x) (bind (loop (parser.power_turn v)) (λ n. ret (binary_case x (parser.with_last n.items n.last)))) (ret x)) (unary heads e (omega (arith, r)) h) (lead_map (λ t g. g.0) lead_none)
         (subst (λ k. Completes limit [] (PowerEnd (ending e)) (when (nat_le k 5) (bind (loop (parser.power_turn v)) (λ n. ret (binary_case e (parser.with_last n.items n.last)))) (ret e)) e) (sym r) (c_ret limit e)))
 
-    pub power_level : (heads w : Bool) (e : Expr) → rank e ≤ 7 → Proper m e → InIf w (free_of_in e) → Completes limit (print m d e) (PowerEnd (ending e)) (parser.power_of v heads) e
+    pub power_level : (heads w : Bool) (e : Expr) → rank e ≤ 7 → Proper m e → InIf w (free_of_in e) → Completes limit (print m.look d e) (PowerEnd (ending e)) (parser.power_of v heads) e
     power_level heads w e r h i = by (nat_le (rank e) 5) (nat_eq (rank e) 6) refl refl
       where
-        by : (b c : Bool) → nat_le (rank e) 5 ≡ b → nat_eq (rank e) 6 ≡ c → Completes limit (print m d e) (PowerEnd (ending e)) (parser.power_of v heads) e
+        by : (b c : Bool) → nat_le (rank e) 5 ≡ b → nat_eq (rank e) 6 ≡ c → Completes limit (print m.look d e) (PowerEnd (ending e)) (parser.power_of v heads) e
         by true c p q = updated heads w e (alone m w 0 e (leb-true (rank e) 5 p) h i)
         by false true p q = prefixed heads e (eqb-true (rank e) 6 q) h
         by false false p q =
@@ -512,7 +513,7 @@ module _ (limit : ℕ) (m : Bodies) (d : ℕ) (low : d ≤ limit) (v : Env) wher
             updated heads w e (binary_level m w 0 e (binary_only e (omega (arith, seven)) (omega (arith, seven))) seven h i)
 
     -- the levels up to `||`
-    pub level_complete : (n : ℕ) → n ≤ 10 → (w heads : Bool) (e : Expr) → rank e ≤ level_rank n → Proper m e → InIf w (free_of_in e) → Completes limit (print m d e) (LevelStops w n (ending e)) (parser.level_of v w n heads) e
+    pub level_complete : (n : ℕ) → n ≤ 10 → (w heads : Bool) (e : Expr) → rank e ≤ level_rank n → Proper m e → InIf w (free_of_in e) → Completes limit (print m.look d e) (LevelStops w n (ending e)) (parser.level_of v w n heads) e
     unfolding parser.level_of
     level_complete zero s w heads e r h i = c_weaken limit (λ t g. (g.unary, not_power w t.kind (g.ops 0 (omega arith)))) (power_level heads w e r h i)
     level_complete (suc n) s w heads e r h i =

@@ -9,7 +9,7 @@ use Rattle.script_grammar.specs.TreeLists.{Param, params_of, maybe_expr_of}
 use Rattle.script_grammar.specs.Pieces.{Bodies, Piece, mark_piece, name_piece, comma_piece}
 use Rattle.script_grammar.specs.Endings.{ending}
 use Rattle.script_grammar.specs.Print.{print_params, print_more_params, print_initializer}
-use Rattle.script_grammar.specs.Proper.{ProperMaybe, ProperParams, AreParams}
+use Rattle.script_grammar.specs.Proper.{AreParams}
 use Rattle.pure_parser.specs.Parser.{Parser, bind, Turn, Again, Stop, loop, stopped, begun}
 use Rattle.pure_parser.specs.Exprs as parser
 use Rattle.pure_parser.specs.Exprs.{Env, AnAssign, ParamsEnd, Plain, Trailing, Rest, Head, BodyRead, expect, name_of, named, param, rest_param, ended_params, is_trailing, head_case, function_case, is_simple}
@@ -21,6 +21,7 @@ use Rattle.pure_parser.proofs.CompleteLoops.{c_loop, LastLeads}
 use Rattle.pure_parser.proofs.CompleteBinds.{option_of}
 use Rattle.pure_parser.proofs.Stops.{stop_comma, stop_assign, stop_close}
 use Rattle.pure_parser.proofs.CompleteParts.{ParamFollow}
+use Rattle.pure_parser.proofs.ProperIn.{Mode, ProperMaybe, ProperParams}
 
 -- Parameters as a list of those without a rest mark, and how they end.
 
@@ -72,29 +73,29 @@ ended_more (more_params n value false ps) comma h = step_by (ends_as ps comma) (
     step_by : (e : ParamsEnd) → (params_of (ended_params (singles ps) e) ≡ ps) × (is_trailing e ≡ comma) → (params_of (ended_params (param n (option_of value) ∷ singles ps) e) ≡ more_params n value false ps) × (is_trailing e ≡ comma)
     step_by e q = (ap params_of (ended_cons (param n (option_of value)) (singles ps) e) ∙ ap (λ x. more_params n x false (params_of (ended_params (singles ps) e))) (of_maybe value) ∙ ap (more_params n value false) q.0, q.1)
 
-module _ (limit : ℕ) (m : Bodies) (d : ℕ) where
+module _ (limit : ℕ) (m : Mode) (d : ℕ) where
   -- pieces of parameters behind a comma, and of how they end; the first number is the depth of a parameter
 
   abbrev pub single_pieces : ℕ → Param → List Piece
-  single_pieces q p = mark_piece mark.COMMA d ∷ name_piece p.name q ∷ print_initializer m q (maybe_expr_of p.value)
+  single_pieces q p = mark_piece mark.COMMA d ∷ name_piece p.name q ∷ print_initializer m.look q (maybe_expr_of p.value)
 
   abbrev pub end_pieces : ℕ → ParamsEnd → List Piece
   end_pieces q Plain = []
   end_pieces q Trailing = mark_piece mark.COMMA d ∷ []
   end_pieces q (Rest n) = mark_piece mark.COMMA d ∷ mark_piece mark.ELLIPSIS q ∷ name_piece n q ∷ []
 
-  pub flat_params : (q : ℕ) (ps : Params) (comma : Bool) → (HasOne ps → AreParams ps comma) → flat (single_pieces q) (singles ps) ++ end_pieces q (ends_as ps comma) ≡ print_more_params m q d ps ++ comma_piece comma d
+  pub flat_params : (q : ℕ) (ps : Params) (comma : Bool) → (HasOne ps → AreParams ps comma) → flat (single_pieces q) (singles ps) ++ end_pieces q (ends_as ps comma) ≡ print_more_params m.look q d ps ++ comma_piece comma d
   flat_params q no_params true h = refl
   flat_params q no_params false h = refl
   flat_params q (more_params n value true ps) comma h = by (rest_alone n value ps comma (h tt))
     where
-      by : (value ≡ no_expr) × (ps ≡ no_params) × (comma ≡ false) → end_pieces q (Rest n) ≡ print_more_params m q d (more_params n value true ps) ++ comma_piece comma d
-      by k = sym (ap (λ x. print_more_params m q d (more_params n x true ps) ++ comma_piece comma d) k.0 ∙ ap (λ x. print_more_params m q d (more_params n no_expr true x) ++ comma_piece comma d) k.1 ∙ ap (λ x. print_more_params m q d (more_params n no_expr true no_params) ++ comma_piece x d) k.2)
+      by : (value ≡ no_expr) × (ps ≡ no_params) × (comma ≡ false) → end_pieces q (Rest n) ≡ print_more_params m.look q d (more_params n value true ps) ++ comma_piece comma d
+      by k = sym (ap (λ x. print_more_params m.look q d (more_params n x true ps) ++ comma_piece comma d) k.0 ∙ ap (λ x. print_more_params m.look q d (more_params n no_expr true x) ++ comma_piece comma d) k.1 ∙ ap (λ x. print_more_params m.look q d (more_params n no_expr true no_params) ++ comma_piece x d) k.2)
   flat_params q (more_params n value false ps) comma h =
-      ap (λ x. ((mark_piece mark.COMMA d ∷ name_piece n q ∷ print_initializer m q x) ++ flat (single_pieces q) (singles ps)) ++ end_pieces q (ends_as ps comma)) (of_maybe value)
-      ∙ append_assoc (mark_piece mark.COMMA d ∷ name_piece n q ∷ print_initializer m q value) (flat (single_pieces q) (singles ps)) (end_pieces q (ends_as ps comma))
-      ∙ ap (λ x. (mark_piece mark.COMMA d ∷ name_piece n q ∷ print_initializer m q value) ++ x) (flat_params q ps comma (λ k. tail_params n value ps comma (h tt) k))
-      ∙ sym (append_assoc (mark_piece mark.COMMA d ∷ name_piece n q ∷ print_initializer m q value) (print_more_params m q d ps) (comma_piece comma d))
+      ap (λ x. ((mark_piece mark.COMMA d ∷ name_piece n q ∷ print_initializer m.look q x) ++ flat (single_pieces q) (singles ps)) ++ end_pieces q (ends_as ps comma)) (of_maybe value)
+      ∙ append_assoc (mark_piece mark.COMMA d ∷ name_piece n q ∷ print_initializer m.look q value) (flat (single_pieces q) (singles ps)) (end_pieces q (ends_as ps comma))
+      ∙ ap (λ x. (mark_piece mark.COMMA d ∷ name_piece n q ∷ print_initializer m.look q value) ++ x) (flat_params q ps comma (λ k. tail_params n value ps comma (h tt) k))
+      ∙ sym (append_assoc (mark_piece mark.COMMA d ∷ name_piece n q ∷ print_initializer m.look q value) (print_more_params m.look q d ps) (comma_piece comma d))
 
   abbrev pub IsSingle : Param → Type 0
   IsSingle p = (p.rest ≡ false) × ProperMaybe m (maybe_expr_of p.value)
@@ -137,22 +138,22 @@ module _ (limit : ℕ) (m : Bodies) (d : ℕ) where
     last_lead e (p ∷ []) = end_leads q e (maybe_expr_of p.value)
     last_lead e (p ∷ r ∷ xs) = last_lead e (r ∷ xs)
 
-    pub behind_complete : (ps : Params) (comma : Bool) → (HasOne ps → AreParams ps comma) → ProperParams m ps → Completes limit (print_more_params m q d ps ++ comma_piece comma d) Closes (loop turn) (record { items = singles ps; last = ends_as ps comma })
+    pub behind_complete : (ps : Params) (comma : Bool) → (HasOne ps → AreParams ps comma) → ProperParams m ps → Completes limit (print_more_params m.look q d ps ++ comma_piece comma d) Closes (loop turn) (record { items = singles ps; last = ends_as ps comma })
     behind_complete ps comma h k = c_pieces limit (flat_params q ps comma h) (c_loop limit IsSingle (single_pieces q) (λ p. ParamFollow (maybe_expr_of p.value)) (end_pieces q (ends_as ps comma)) Closes (ends_as ps comma) turn each single_some single_link (stop (ends_as ps comma)) (singles ps) (all_singles ps k) (last_lead (ends_as ps comma) (singles ps)))
 
-    behind_leads : (ps : Params) (comma : Bool) (o : MaybeExpr) → Leads (print_more_params m q d ps ++ comma_piece comma d) Closes (ParamFollow o)
+    behind_leads : (ps : Params) (comma : Bool) (o : MaybeExpr) → Leads (print_more_params m.look q d ps ++ comma_piece comma d) Closes (ParamFollow o)
     behind_leads no_params true o = lead_at (λ t s. comma_follows o t s.kind)
     behind_leads no_params false o = lead_map (λ t h. close_follows o t h) lead_none
     behind_leads (more_params n value rest ps) comma o = lead_at (λ t s. comma_follows o t s.kind)
 
     -- the first turn reads a parameter, or a rest parameter
-    pub params_complete : (first : Parser (Turn Param ParamsEnd)) → ((n : Named) (value : MaybeExpr) → ProperMaybe m value → Completes limit (name_piece n q ∷ print_initializer m q value) (ParamFollow value) first (Again (param n (option_of value)))) → ((n : Named) → Completes limit (mark_piece mark.ELLIPSIS q ∷ name_piece n q ∷ []) Any first (Stop (Rest n))) → (n : Named) (value : MaybeExpr) (rest : Bool) (ps : Params) (comma : Bool) → AreParams (more_params n value rest ps) comma → ProperParams m (more_params n value rest ps) → Completes limit (print_params m q d (more_params n value rest ps) ++ comma_piece comma d) Closes (bind first (parser.params_led turn)) (record { items = singles (more_params n value rest ps); last = ends_as (more_params n value rest ps) comma })
-    params_complete first one last n value false ps comma h k = c_pieces limit (sym (append_assoc (name_piece n q ∷ print_initializer m q value) (print_more_params m q d ps) (comma_piece comma d)))
+    pub params_complete : (first : Parser (Turn Param ParamsEnd)) → ((n : Named) (value : MaybeExpr) → ProperMaybe m value → Completes limit (name_piece n q ∷ print_initializer m.look q value) (ParamFollow value) first (Again (param n (option_of value)))) → ((n : Named) → Completes limit (mark_piece mark.ELLIPSIS q ∷ name_piece n q ∷ []) Any first (Stop (Rest n))) → (n : Named) (value : MaybeExpr) (rest : Bool) (ps : Params) (comma : Bool) → AreParams (more_params n value rest ps) comma → ProperParams m (more_params n value rest ps) → Completes limit (print_params m.look q d (more_params n value rest ps) ++ comma_piece comma d) Closes (bind first (parser.params_led turn)) (record { items = singles (more_params n value rest ps); last = ends_as (more_params n value rest ps) comma })
+    params_complete first one last n value false ps comma h k = c_pieces limit (sym (append_assoc (name_piece n q ∷ print_initializer m.look q value) (print_more_params m.look q d ps) (comma_piece comma d)))
         (c_bind limit (parser.params_led turn) (one n value k.0) (behind_leads ps comma value) (c_made limit (begun (param n (option_of value))) (behind_complete ps comma (λ x. tail_params n value ps comma h x) k.1)))
     params_complete first one last n value true ps comma h k = by (rest_alone n value ps comma h)
       where
-        by : (value ≡ no_expr) × (ps ≡ no_params) × (comma ≡ false) → Completes limit (print_params m q d (more_params n value true ps) ++ comma_piece comma d) Closes (bind first (parser.params_led turn)) (record { items = []; last = Rest n })
-        by z = subst (λ x. Completes limit (print_params m q d (more_params n x true ps) ++ comma_piece comma d) Closes (bind first (parser.params_led turn)) (record { items = []; last = Rest n })) (sym z.0)
-            (subst (λ x. Completes limit (print_params m q d (more_params n no_expr true x) ++ comma_piece comma d) Closes (bind first (parser.params_led turn)) (record { items = []; last = Rest n })) (sym z.1)
-            (subst (λ x. Completes limit (print_params m q d (more_params n no_expr true no_params) ++ comma_piece x d) Closes (bind first (parser.params_led turn)) (record { items = []; last = Rest n })) (sym z.2)
+        by : (value ≡ no_expr) × (ps ≡ no_params) × (comma ≡ false) → Completes limit (print_params m.look q d (more_params n value true ps) ++ comma_piece comma d) Closes (bind first (parser.params_led turn)) (record { items = []; last = Rest n })
+        by z = subst (λ x. Completes limit (print_params m.look q d (more_params n x true ps) ++ comma_piece comma d) Closes (bind first (parser.params_led turn)) (record { items = []; last = Rest n })) (sym z.0)
+            (subst (λ x. Completes limit (print_params m.look q d (more_params n no_expr true x) ++ comma_piece comma d) Closes (bind first (parser.params_led turn)) (record { items = []; last = Rest n })) (sym z.1)
+            (subst (λ x. Completes limit (print_params m.look q d (more_params n no_expr true no_params) ++ comma_piece x d) Closes (bind first (parser.params_led turn)) (record { items = []; last = Rest n })) (sym z.2)
             (c_bind limit (parser.params_led turn) {b = record { items = []; last = Rest n }} (last n) lead_any (c_ret limit (stopped (Rest n))))))

@@ -9,7 +9,7 @@ use Rattle.script_grammar.specs.Tree as tree
 use Rattle.script_grammar.specs.Pieces.{Bodies, Piece, mark_piece}
 use Rattle.script_grammar.specs.Endings.{ending, last_ending}
 use Rattle.script_grammar.specs.Print.{print, print_list, print_more}
-use Rattle.script_grammar.specs.Proper.{rank, Proper, ProperExprs, assign_rank}
+use Rattle.script_grammar.specs.Proper.{rank, assign_rank}
 use Rattle.pure_parser.specs.Parser.{Read, head_of, rest_of, ret, bind, step, when, Turn, Again, Stop, loop, turns, turned, Many, begun}
 use Rattle.pure_parser.specs.Exprs as parser
 use Rattle.pure_parser.specs.Exprs.{Env, AnAssign, expect, begins_assign, is_param_form}
@@ -23,19 +23,20 @@ use Rattle.pure_parser.proofs.CompleteBinds.{not_mark}
 use Rattle.pure_parser.proofs.Stops.{stop_close, stop_comma, stop_assign}
 use Rattle.pure_parser.proofs.ExprFronts.{opens_append, opens_first, opens_some, expr_opens}
 use Rattle.pure_parser.proofs.CompleteParts.{CompleteEnv, IsComma, rank_low, list_of, of_list, ListEnd, more_complete, more_leads}
+use Rattle.pure_parser.proofs.ProperIn.{Mode, Proper, ProperExprs}
 
 -- an Expression as a list
-pub record Listed (m : Bodies) (d : ℕ) (inner : Expr) : Type 0 where
+pub record Listed (m : Mode) (d : ℕ) (inner : Expr) : Type 0 where
   pub first : Expr
   pub others : Exprs
-  pub pieces : print_list m d (more_exprs first others) ≡ print m (suc d) inner
+  pub pieces : print_list m.look d (more_exprs first others) ≡ print m.look (suc d) inner
   pub same : parser.list_case (first ∷ list_of others) ≡ inner
   pub proper : ProperExprs m (more_exprs first others)
 
-one_listed : (m : Bodies) (d : ℕ) (e : Expr) → rank e ≤ 20 → Proper m e → Listed m d e
-one_listed m d e r h = record { first = e; others = no_exprs; pieces = append-nil (print m (suc d) e); same = refl; proper = (r, h, tt) }
+one_listed : (m : Mode) (d : ℕ) (e : Expr) → rank e ≤ 20 → Proper m e → Listed m d e
+one_listed m d e r h = record { first = e; others = no_exprs; pieces = append-nil (print m.look (suc d) e); same = refl; proper = (r, h, tt) }
 
-pub listed : (m : Bodies) (d : ℕ) (e : Expr) → Proper m e → Listed m d e
+pub listed : (m : Mode) (d : ℕ) (e : Expr) → Proper m e → Listed m d e
 listed m d e h = by e h (rank_low m e h)
   where
     by : (e : Expr) → Proper m e → IsComma e ⊎ (rank e ≤ 20) → Listed m d e
@@ -63,11 +64,11 @@ listed m d e h = by e h (rank_low m e h)
     by (tree.Cond test a b) h (inl k) = absurd k
     by (tree.Assign op target value) h (inl k) = absurd k
 
-module _ (limit : ℕ) (m : Bodies) (d : ℕ) (low : d ≤ limit) (v : Env) (c : CompleteEnv limit m d v) where
+module _ (limit : ℕ) (m : Mode) (d : ℕ) (low : d ≤ limit) (v : Env) (c : CompleteEnv limit m d v) where
   abbrev Closes : Lexeme → Type 0
   Closes t = t.kind ≡ kind.Mark mark.CLOSE_PAREN
 
-  pub items_complete : (e : Expr) (es : Exprs) → ProperExprs m (more_exprs e es) → Completes limit (print_list m d (more_exprs e es)) (ListEnd limit m d low v c true (last_ending (ending e) es)) (parser.items_from v) (e ∷ list_of es)
+  pub items_complete : (e : Expr) (es : Exprs) → ProperExprs m (more_exprs e es) → Completes limit (print_list m.look d (more_exprs e es)) (ListEnd limit m d low v c true (last_ending (ending e) es)) (parser.items_from v) (e ∷ list_of es)
   unfolding parser.items_from
   items_complete e es h = c_bind limit (λ x. bind (loop (parser.more_turn v true)) (λ n. ret (x ∷ n.items))) (c.calls.assign true e h.0 h.1 refl) (more_leads limit m d low v c true e es) (c_made limit (λ n. e ∷ n.items) (more_complete limit m d low v c true e es h.2 refl))
 
@@ -100,11 +101,11 @@ module _ (limit : ℕ) (m : Bodies) (d : ℕ) (low : d ≤ limit) (v : Env) (c :
   unfolding parser.lead_end
   end_last e rest h = ap (λ k. bare (when (is_mark mark.COMMA k) (step (ret (Again e))) (ret (Stop (e ∷ []))) rest)) h
 
-  again_complete : (e : Expr) → rank e ≤ assign_rank → Proper m e → Completes limit (print m (suc d) e ++ mark_piece mark.COMMA d ∷ []) Any (bind (v.sub (AnAssign true)) parser.lead_end) (Again e)
+  again_complete : (e : Expr) → rank e ≤ assign_rank → Proper m e → Completes limit (print m.look (suc d) e ++ mark_piece mark.COMMA d ∷ []) Any (bind (v.sub (AnAssign true)) parser.lead_end) (Again e)
   again_complete e r h = c_bind limit parser.lead_end (c.calls.assign true e r h refl) (lead_at (λ t s. stop_comma true (ending e) t s.kind)) (c_at limit (λ t. ret (Again e)) low (λ t ts s. end_comma e t ts s.kind) (λ t s. c_ret limit (Again e)))
 
-  stop_complete : (e : Expr) → rank e ≤ assign_rank → Proper m e → Completes limit (print m (suc d) e) Closes (bind (v.sub (AnAssign true)) parser.lead_end) (Stop (e ∷ []))
-  stop_complete e r h = c_pieces limit (append-nil (print m (suc d) e)) (c_bind limit parser.lead_end (c.calls.assign true e r h refl) (lead_map (λ t g. stop_assign true (ending e) t (stop_close true (ending e) t g)) lead_none) (c_look limit (end_last e)))
+  stop_complete : (e : Expr) → rank e ≤ assign_rank → Proper m e → Completes limit (print m.look (suc d) e) Closes (bind (v.sub (AnAssign true)) parser.lead_end) (Stop (e ∷ []))
+  stop_complete e r h = c_pieces limit (append-nil (print m.look (suc d) e)) (c_bind limit parser.lead_end (c.calls.assign true e r h refl) (lead_map (λ t g. stop_assign true (ending e) t (stop_close true (ending e) t g)) lead_none) (c_look limit (end_last e)))
 
   -- a turn, by the form of its first lexemes
   turn_as : (b : Bool) {x : Turn Expr (List Expr)} (w : List Marked) (rest : List Lexeme) → by_form (lexemes w ++ rest) ≡ b → ((y : Marked) (u : List Marked) → w ≡ y ∷ u → begins_assign y.lexeme.kind ≡ true) → (w ≡ [] → ⊥) → Parses limit (when b (bind (v.sub (AnAssign true)) parser.lead_end) (bind (parser.items_from v) (λ es. ret (Stop es)))) w rest x → Parses limit (parser.lead_turn v) w rest x
@@ -117,38 +118,38 @@ module _ (limit : ℕ) (m : Bodies) (d : ℕ) (low : d ≤ limit) (v : Env) (c :
     same : many.items ++ many.last ≡ xs
     parses : Parses limit (turns (parser.lead_turn v) n) w rest many
 
-  fronts : (ps : List Piece) (e : Expr) → Proper m e → (w : List Marked) (n : Lexeme) → Stands (print m (suc d) e ++ ps) w n → (y : Marked) (u : List Marked) → w ≡ y ∷ u → begins_assign y.lexeme.kind ≡ true
-  fronts ps e h w n k y u q = opens_first begins_assign (print m (suc d) e ++ ps) y u n (opens_append begins_assign (print m (suc d) e) ps (expr_opens m (suc d) e h)) (subst (λ x. Stands (print m (suc d) e ++ ps) x n) q k)
+  fronts : (ps : List Piece) (e : Expr) → Proper m e → (w : List Marked) (n : Lexeme) → Stands (print m.look (suc d) e ++ ps) w n → (y : Marked) (u : List Marked) → w ≡ y ∷ u → begins_assign y.lexeme.kind ≡ true
+  fronts ps e h w n k y u q = opens_first begins_assign (print m.look (suc d) e ++ ps) y u n (opens_append begins_assign (print m.look (suc d) e) ps (expr_opens m (suc d) e h)) (subst (λ x. Stands (print m.look (suc d) e ++ ps) x n) q k)
 
-  longs : (ps : List Piece) (e : Expr) → Proper m e → (w : List Marked) (n : Lexeme) → Stands (print m (suc d) e ++ ps) w n → 0 < length (lexemes w)
-  longs ps e h w n k = opens_some begins_assign (print m (suc d) e ++ ps) w n (opens_append begins_assign (print m (suc d) e) ps (expr_opens m (suc d) e h)) k
+  longs : (ps : List Piece) (e : Expr) → Proper m e → (w : List Marked) (n : Lexeme) → Stands (print m.look (suc d) e ++ ps) w n → 0 < length (lexemes w)
+  longs ps e h w n k = opens_some begins_assign (print m.look (suc d) e ++ ps) w n (opens_append begins_assign (print m.look (suc d) e) ps (expr_opens m (suc d) e h)) k
 
   not_none : (w : List Marked) → 0 < length (lexemes w) → w ≡ [] → ⊥
   not_none w h e = absurd (omega (arith, h, ap (λ x. length (lexemes x)) e))
 
-  all_items : (e : Expr) (es : Exprs) → ProperExprs m (more_exprs e es) → (w : List Marked) (rest : List Lexeme) → Stands (print_list m d (more_exprs e es)) w (head_of rest) → Closes (head_of rest) → (n : ℕ) → by_form (lexemes w ++ rest) ≡ false → LeadsTo w rest (suc n) (e ∷ list_of es)
+  all_items : (e : Expr) (es : Exprs) → ProperExprs m (more_exprs e es) → (w : List Marked) (rest : List Lexeme) → Stands (print_list m.look d (more_exprs e es)) w (head_of rest) → Closes (head_of rest) → (n : ℕ) → by_form (lexemes w ++ rest) ≡ false → LeadsTo w rest (suc n) (e ∷ list_of es)
   unfolding turns
   all_items e es h w rest k g n f = record {
     many = record { items = []; last = e ∷ list_of es };
     same = refl;
-    parses = parses_map limit (turned (turns (parser.lead_turn v) n)) {a = Stop (e ∷ list_of es)} (turn_as false w rest f (fronts (print_more m d es) e h.1 w (head_of rest) k) (not_none w (longs (print_more m d es) e h.1 w (head_of rest) k)) (parses_map limit (λ x. ret (Stop x)) ((items_complete e es h).at w rest k (closing e es (head_of rest) g)) refl)) refl;
+    parses = parses_map limit (turned (turns (parser.lead_turn v) n)) {a = Stop (e ∷ list_of es)} (turn_as false w rest f (fronts (print_more m.look d es) e h.1 w (head_of rest) k) (not_none w (longs (print_more m.look d es) e h.1 w (head_of rest) k)) (parses_map limit (λ x. ret (Stop x)) ((items_complete e es h).at w rest k (closing e es (head_of rest) g)) refl)) refl;
   }
 
-  lead_items : (e : Expr) (es : Exprs) → ProperExprs m (more_exprs e es) → (w : List Marked) (rest : List Lexeme) → Stands (print_list m d (more_exprs e es)) w (head_of rest) → Closes (head_of rest) → (n : ℕ) → length (lexemes w ++ rest) < n → (b : Bool) → by_form (lexemes w ++ rest) ≡ b → LeadsTo w rest n (e ∷ list_of es)
+  lead_items : (e : Expr) (es : Exprs) → ProperExprs m (more_exprs e es) → (w : List Marked) (rest : List Lexeme) → Stands (print_list m.look d (more_exprs e es)) w (head_of rest) → Closes (head_of rest) → (n : ℕ) → length (lexemes w ++ rest) < n → (b : Bool) → by_form (lexemes w ++ rest) ≡ b → LeadsTo w rest n (e ∷ list_of es)
   unfolding turns
   lead_items e es h w rest k g zero l b f = absurd (omega (arith, l))
   lead_items e es h w rest k g (suc n) l false f = all_items e es h w rest k g n f
   lead_items e no_exprs h w rest k g (suc n) l true f =
-      let here : Stands (print m (suc d) e) w (head_of rest) = subst (λ x. Stands x w (head_of rest)) (append-nil (print m (suc d) e)) k in
+      let here : Stands (print m.look (suc d) e) w (head_of rest) = subst (λ x. Stands x w (head_of rest)) (append-nil (print m.look (suc d) e)) k in
       record {
         many = record { items = []; last = e ∷ [] };
         same = refl;
         parses = parses_map limit (turned (turns (parser.lead_turn v) n)) {a = Stop (e ∷ [])} (turn_as true w rest f (fronts [] e h.1 w (head_of rest) k) (not_none w (longs [] e h.1 w (head_of rest) k)) ((stop_complete e h.0 h.1).at w rest here g)) refl;
       }
   lead_items e (more_exprs x xs) h w rest k g (suc n) l true f =
-      let q = stands_split (print m (suc d) e ++ mark_piece mark.COMMA d ∷ []) (print_list m d (more_exprs x xs)) w (head_of rest) (subst (λ y. Stands y w (head_of rest)) (sym (append_assoc (print m (suc d) e) (mark_piece mark.COMMA d ∷ []) (print_list m d (more_exprs x xs)))) k) in
+      let q = stands_split (print m.look (suc d) e ++ mark_piece mark.COMMA d ∷ []) (print_list m.look d (more_exprs x xs)) w (head_of rest) (subst (λ y. Stands y w (head_of rest)) (sym (append_assoc (print m.look (suc d) e) (mark_piece mark.COMMA d ∷ []) (print_list m.look d (more_exprs x xs)))) k) in
       let same : lexemes w ++ rest ≡ lexemes q.front ++ (lexemes q.back ++ rest) = ap (λ y. lexemes y ++ rest) q.split ∙ joined q.front q.back rest in
-      let here : Stands (print m (suc d) e ++ mark_piece mark.COMMA d ∷ []) q.front (head_of (lexemes q.back ++ rest)) = subst (λ y. Stands (print m (suc d) e ++ mark_piece mark.COMMA d ∷ []) q.front y) (sym (head_first (lexemes q.back) rest)) q.first in
+      let here : Stands (print m.look (suc d) e ++ mark_piece mark.COMMA d ∷ []) q.front (head_of (lexemes q.back ++ rest)) = subst (λ y. Stands (print m.look (suc d) e ++ mark_piece mark.COMMA d ∷ []) q.front y) (sym (head_first (lexemes q.back) rest)) q.first in
       let long : 0 < length (lexemes q.front) = longs (mark_piece mark.COMMA d ∷ []) e h.1 q.front (head_of (lexemes q.back ++ rest)) here in
       let short : length (lexemes q.back ++ rest) < n = omega (arith, l, long, ap length same, length-append (lexemes q.front) (lexemes q.back ++ rest)) in
       let again = lead_items x xs h.2 q.back rest q.second g n short (by_form (lexemes q.back ++ rest)) refl in
@@ -159,21 +160,21 @@ module _ (limit : ℕ) (m : Bodies) (d : ℕ) (low : d ≤ limit) (v : Env) (c :
         parses = subst (λ y. Parses limit (turns (parser.lead_turn v) (suc n)) y rest (begun e again.many)) (sym q.split) (parses_bind limit (turned (turns (parser.lead_turn v) n)) {v = q.back} {b = begun e again.many} first (parses_map limit (λ y. ret (begun e y)) again.parses refl));
       }
 
-  heads_complete : (e : Expr) (es : Exprs) → ProperExprs m (more_exprs e es) → Completes limit (print_list m d (more_exprs e es)) Closes (parser.lead_items v) (e ∷ list_of es)
+  heads_complete : (e : Expr) (es : Exprs) → ProperExprs m (more_exprs e es) → Completes limit (print_list m.look d (more_exprs e es)) Closes (parser.lead_items v) (e ∷ list_of es)
   unfolding parser.lead_items loop
   heads_complete e es h = record { at = read }
     where
-      read : (w : List Marked) (rest : List Lexeme) → Stands (print_list m d (more_exprs e es)) w (head_of rest) → Closes (head_of rest) → Parses limit (bind (loop (parser.lead_turn v)) (λ n. ret (n.items ++ n.last))) w rest (e ∷ list_of es)
+      read : (w : List Marked) (rest : List Lexeme) → Stands (print_list m.look d (more_exprs e es)) w (head_of rest) → Closes (head_of rest) → Parses limit (bind (loop (parser.lead_turn v)) (λ n. ret (n.items ++ n.last))) w rest (e ∷ list_of es)
       read w rest k g =
           let all = lead_items e es h w rest k g (suc (length (lexemes w ++ rest))) (omega arith) (by_form (lexemes w ++ rest)) refl in
           subst (Parses limit (bind (loop (parser.lead_turn v)) (λ n. ret (n.items ++ n.last))) w rest) all.same (parses_map limit {m = loop (parser.lead_turn v)} (λ n. ret (n.items ++ n.last)) {a = all.many} (record { by = all.parses.by }) refl)
 
-  either_complete : (heads : Bool) (e : Expr) (es : Exprs) → ProperExprs m (more_exprs e es) → Completes limit (print_list m d (more_exprs e es)) Closes (when heads (parser.lead_items v) (parser.items_from v)) (e ∷ list_of es)
+  either_complete : (heads : Bool) (e : Expr) (es : Exprs) → ProperExprs m (more_exprs e es) → Completes limit (print_list m.look d (more_exprs e es)) Closes (when heads (parser.lead_items v) (parser.items_from v)) (e ∷ list_of es)
   either_complete true e es h = heads_complete e es h
   either_complete false e es h = c_weaken limit (λ t g. closing e es t g) (items_complete e es h)
 
   -- behind the parenthesis
-  pub paren_complete : {F : Lexeme → Type 0} (heads : Bool) (at : ℕ) (inner : Expr) → Proper m inner → Completes limit (print m (suc d) inner ++ mark_piece mark.CLOSE_PAREN d ∷ []) F (parser.paren_of v heads at) (tree.Paren at inner)
+  pub paren_complete : {F : Lexeme → Type 0} (heads : Bool) (at : ℕ) (inner : Expr) → Proper m inner → Completes limit (print m.look (suc d) inner ++ mark_piece mark.CLOSE_PAREN d ∷ []) F (parser.paren_of v heads at) (tree.Paren at inner)
   unfolding parser.paren_of
   paren_complete heads at inner h =
       let l = listed m d inner h in

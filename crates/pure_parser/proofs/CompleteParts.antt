@@ -12,7 +12,7 @@ use Rattle.script_grammar.specs.TreeLists.{Param, exprs_of, maybe_expr_of}
 use Rattle.script_grammar.specs.Pieces.{Bodies, Piece, Ending, Operand, mark_piece, name_piece, comma_piece}
 use Rattle.script_grammar.specs.Endings.{ending, last_ending}
 use Rattle.script_grammar.specs.Print.{print, print_list, print_more, print_body}
-use Rattle.script_grammar.specs.Proper.{rank, function_rank, new_rank, are_member_tails, Proper, ProperExprs, ProperMaybe, ProperBody, HasExprs, free_of_in, all_free, InIf, assign_rank}
+use Rattle.script_grammar.specs.Proper.{rank, function_rank, new_rank, are_member_tails, HasExprs, free_of_in, all_free, InIf, assign_rank}
 use Rattle.pure_parser.specs.Parser.{Read, head_of, ret, bind, step, when, Turn, Again, Stop, loop, stopped, begun, led}
 use Rattle.pure_parser.specs.Exprs as parser
 use Rattle.pure_parser.specs.Exprs.{Env, Calls, AnAssign, APrefix, ANew, AParam, ARest, BodyParser, BodyRead, expect, begins_assign}
@@ -28,6 +28,7 @@ use Rattle.pure_parser.proofs.CompleteStmts.{c_value}
 use Rattle.pure_parser.proofs.CompleteBinds.{not_mark}
 use Rattle.pure_parser.proofs.Stops.{stop_close, stop_comma, stop_assign}
 use Rattle.pure_parser.proofs.ExprFronts.{opens_append, opens_first, opens_some, expr_opens}
+use Rattle.pure_parser.proofs.ProperIn.{Mode, Proper, ProperBody, ProperExprs, ProperMaybe}
 
 -- what goes on with no chain of members and calls, and is no `++` or `--` on its line
 pub record TailStops (t : Lexeme) : Type 0 where
@@ -60,17 +61,17 @@ abbrev pub ParamFollow : MaybeExpr → Lexeme → Type 0
 ParamFollow no_expr t = is_mark mark.ASSIGN t.kind ≡ false
 ParamFollow (some_expr e) t = continues_assign true (ending e) t ≡ false
 
-pub record CompleteCalls (limit : ℕ) (m : Bodies) (d : ℕ) (sub : Calls) : Type 0 where
-  pub assign : (w : Bool) (e : Expr) → rank e ≤ assign_rank → Proper m e → InIf w (free_of_in e) → Completes limit (print m (suc d) e) (λ t. continues_assign w (ending e) t ≡ false) (sub (AnAssign w)) e
-  pub prefix : (e : Expr) → IsPrefixed e → Proper m e → Completes limit (print m d e) (UnaryStops (ending e)) (sub APrefix) e
-  pub new : (e : Expr) → IsNew e → Proper m e → Completes limit (print m d e) (NewFollow e) (sub ANew) e
-  pub param : (p : Param) → p.rest ≡ false → ProperMaybe m (maybe_expr_of p.value) → Completes limit (print_param m (suc d) p) (ParamFollow (maybe_expr_of p.value)) (sub AParam) p
+pub record CompleteCalls (limit : ℕ) (m : Mode) (d : ℕ) (sub : Calls) : Type 0 where
+  pub assign : (w : Bool) (e : Expr) → rank e ≤ assign_rank → Proper m e → InIf w (free_of_in e) → Completes limit (print m.look (suc d) e) (λ t. continues_assign w (ending e) t ≡ false) (sub (AnAssign w)) e
+  pub prefix : (e : Expr) → IsPrefixed e → Proper m e → Completes limit (print m.look d e) (UnaryStops (ending e)) (sub APrefix) e
+  pub new : (e : Expr) → IsNew e → Proper m e → Completes limit (print m.look d e) (NewFollow e) (sub ANew) e
+  pub param : (p : Param) → p.rest ≡ false → ProperMaybe m (maybe_expr_of p.value) → Completes limit (print_param m.look (suc d) p) (ParamFollow (maybe_expr_of p.value)) (sub AParam) p
   pub rest : (n : Named) → Completes limit (mark_piece mark.ELLIPSIS (suc d) ∷ name_piece n (suc d) ∷ []) Any (sub ARest) n
 
-pub record CompleteBody (limit : ℕ) (m : Bodies) (d : ℕ) (body : BodyParser) : Type 0 where
-  pub braced : (f : FuncForm) (start end : ℕ) (simple : Bool) (items : Stmts) → ProperBody m f (tree.BracedBody items) → Completes limit (print_body m d end (tree.BracedBody items)) Any (body f start simple) (record { body = tree.BracedBody items; end = end })
+pub record CompleteBody (limit : ℕ) (m : Mode) (d : ℕ) (body : BodyParser) : Type 0 where
+  pub braced : (f : FuncForm) (start end : ℕ) (simple : Bool) (items : Stmts) → ProperBody m f start (tree.BracedBody items) → Completes limit (print_body m.look d end (tree.BracedBody items)) Any (body f start simple) (record { body = tree.BracedBody items; end = end })
 
-pub record CompleteEnv (limit : ℕ) (m : Bodies) (d : ℕ) (v : Env) : Type 0 where
+pub record CompleteEnv (limit : ℕ) (m : Mode) (d : ℕ) (v : Env) : Type 0 where
   pub calls : CompleteCalls limit m d v.sub
   pub body : CompleteBody limit m d v.body
 
@@ -91,7 +92,7 @@ new_low : (a : MaybeArgs) → new_rank a ≤ 20
 new_low tree.no_args = omega arith
 new_low (tree.some_args es comma) = omega arith
 
-pub rank_low : (m : Bodies) (e : Expr) → Proper m e → IsComma e ⊎ (rank e ≤ 20)
+pub rank_low : (m : Mode) (e : Expr) → Proper m e → IsComma e ⊎ (rank e ≤ 20)
 rank_low m (tree.This at) h = inr (omega arith)
 rank_low m (tree.Name name) h = inr (omega arith)
 rank_low m (tree.Null at) h = inr (omega arith)
@@ -131,9 +132,9 @@ pub in_right : (w a b : Bool) → (w || (a && b)) ≡ true → (w || b) ≡ true
 in_right true a b h = refl
 in_right false a b h = and_right a b h
 
-module _ (limit : ℕ) (m : Bodies) (d : ℕ) (low : d ≤ limit) (v : Env) (c : CompleteEnv limit m d v) where
-  expr_some : (e : Expr) → Proper m e → (w : List Marked) (n : Lexeme) → Stands (print m (suc d) e) w n → 0 < length (lexemes w)
-  expr_some e h w n k = opens_some begins_assign (print m (suc d) e) w n (expr_opens m (suc d) e h) k
+module _ (limit : ℕ) (m : Mode) (d : ℕ) (low : d ≤ limit) (v : Env) (c : CompleteEnv limit m d v) where
+  expr_some : (e : Expr) → Proper m e → (w : List Marked) (n : Lexeme) → Stands (print m.look (suc d) e) w n → 0 < length (lexemes w)
+  expr_some e h w n k = opens_some begins_assign (print m.look (suc d) e) w n (expr_opens m (suc d) e h) k
 
   -- expressions behind commas
 
@@ -149,7 +150,7 @@ module _ (limit : ℕ) (m : Bodies) (d : ℕ) (low : d ≤ limit) (v : Env) (c :
   Item w e = (rank e ≤ assign_rank) × Proper m e × InIf w (free_of_in e)
 
   abbrev item_pieces : Expr → List Piece
-  item_pieces e = mark_piece mark.COMMA d ∷ print m (suc d) e
+  item_pieces e = mark_piece mark.COMMA d ∷ print m.look (suc d) e
 
   abbrev ItemFollow : Bool → Expr → Lexeme → Type 0
   ItemFollow w e t = continues_assign w (ending e) t ≡ false
@@ -165,7 +166,7 @@ module _ (limit : ℕ) (m : Bodies) (d : ℕ) (low : d ≤ limit) (v : Env) (c :
   item_link w e f ke kf [] n h = absurd h
   item_link w e f ke kf (x ∷ u) n h = stop_comma w (ending e) x.lexeme h.0.kind
 
-  flat_items : (es : Exprs) → flat item_pieces (list_of es) ++ [] ≡ print_more m d es
+  flat_items : (es : Exprs) → flat item_pieces (list_of es) ++ [] ≡ print_more m.look d es
   flat_items no_exprs = refl
   flat_items (more_exprs e es) = append_assoc (item_pieces e) (flat item_pieces (list_of es)) [] ∙ ap (λ x. item_pieces e ++ x) (flat_items es)
 
@@ -182,26 +183,26 @@ module _ (limit : ℕ) (m : Bodies) (d : ℕ) (low : d ≤ limit) (v : Env) (c :
   last_lead w e (more_exprs f no_exprs) = lead_map (λ t g. stop_assign w (ending f) t g) lead_none
   last_lead w e (more_exprs f (more_exprs g es)) = last_lead w f (more_exprs g es)
 
-  pub more_complete : (w : Bool) (e : Expr) (es : Exprs) → ProperExprs m es → InIf w (all_free es) → Completes limit (print_more m d es) (ListEnd w (last_ending (ending e) es)) (loop (parser.more_turn v w)) (record { items = list_of es; last = tt })
+  pub more_complete : (w : Bool) (e : Expr) (es : Exprs) → ProperExprs m es → InIf w (all_free es) → Completes limit (print_more m.look d es) (ListEnd w (last_ending (ending e) es)) (loop (parser.more_turn v w)) (record { items = list_of es; last = tt })
   more_complete w e es h i = c_pieces limit (flat_items es) (c_loop limit (Item w) item_pieces (ItemFollow w) [] (ListEnd w (last_ending (ending e) es)) tt (parser.more_turn v w) (item_complete w) (item_some w) (item_link w) (c_look limit (λ rest g. no_comma w rest (neither_left (is_mark mark.COMMA (head_of rest).kind) (continues_assign w (last_ending (ending e) es) (head_of rest)) g))) (list_of es) (all_items w es h i) (last_lead w e es))
 
-  pub more_leads : (w : Bool) (e : Expr) (es : Exprs) → Leads (print_more m d es) (ListEnd w (last_ending (ending e) es)) (λ t. continues_assign w (ending e) t ≡ false)
+  pub more_leads : (w : Bool) (e : Expr) (es : Exprs) → Leads (print_more m.look d es) (ListEnd w (last_ending (ending e) es)) (λ t. continues_assign w (ending e) t ≡ false)
   more_leads w e no_exprs = lead_map (λ t g. stop_assign w (ending e) t g) lead_none
   more_leads w e (more_exprs f es) = lead_at (λ t s. stop_comma w (ending e) t s.kind)
 
-  one_complete : (w : Bool) (e : Expr) → rank e ≤ assign_rank → Proper m e → InIf w (free_of_in e) → Completes limit (print m (suc d) e) (ListEnd w (ending e)) (parser.expr_of v w) e
+  one_complete : (w : Bool) (e : Expr) → rank e ≤ assign_rank → Proper m e → InIf w (free_of_in e) → Completes limit (print m.look (suc d) e) (ListEnd w (ending e)) (parser.expr_of v w) e
   unfolding parser.expr_of
-  one_complete w e r h i = c_pieces limit (append-nil (print m (suc d) e)) (c_bind limit (λ x. bind (loop (parser.more_turn v w)) (λ n. ret (parser.comma_case x n.items))) (c.calls.assign w e r h i) (more_leads w e no_exprs) (c_made limit (λ n. parser.comma_case e n.items) (more_complete w e no_exprs tt (none_free w))))
+  one_complete w e r h i = c_pieces limit (append-nil (print m.look (suc d) e)) (c_bind limit (λ x. bind (loop (parser.more_turn v w)) (λ n. ret (parser.comma_case x n.items))) (c.calls.assign w e r h i) (more_leads w e no_exprs) (c_made limit (λ n. parser.comma_case e n.items) (more_complete w e no_exprs tt (none_free w))))
     where
       none_free : (w : Bool) → (w || true) ≡ true
       none_free true = refl
       none_free false = refl
 
-  comma_complete : (w : Bool) (e f : Expr) (es : Exprs) → ProperExprs m (more_exprs e (more_exprs f es)) → InIf w (all_free (more_exprs e (more_exprs f es))) → Completes limit (print_list m d (more_exprs e (more_exprs f es))) (ListEnd w (last_ending (ending e) (more_exprs f es))) (parser.expr_of v w) (tree.Comma (more_exprs e (more_exprs f es)))
+  comma_complete : (w : Bool) (e f : Expr) (es : Exprs) → ProperExprs m (more_exprs e (more_exprs f es)) → InIf w (all_free (more_exprs e (more_exprs f es))) → Completes limit (print_list m.look d (more_exprs e (more_exprs f es))) (ListEnd w (last_ending (ending e) (more_exprs f es))) (parser.expr_of v w) (tree.Comma (more_exprs e (more_exprs f es)))
   unfolding parser.expr_of
   comma_complete w e f es h i = c_value (ap (λ x. tree.Comma (more_exprs e (more_exprs f x))) (of_list es)) (c_bind limit (λ x. bind (loop (parser.more_turn v w)) (λ n. ret (parser.comma_case x n.items))) (c.calls.assign w e h.0 h.1 (in_left w (free_of_in e) (all_free (more_exprs f es)) i)) (more_leads w e (more_exprs f es)) (c_made limit (λ n. parser.comma_case e n.items) (more_complete w e (more_exprs f es) h.2 (in_right w (free_of_in e) (all_free (more_exprs f es)) i))))
 
-  by_rank : (w : Bool) (e : Expr) → Proper m e → InIf w (free_of_in e) → IsComma e ⊎ (rank e ≤ 20) → Completes limit (print m (suc d) e) (ListEnd w (ending e)) (parser.expr_of v w) e
+  by_rank : (w : Bool) (e : Expr) → Proper m e → InIf w (free_of_in e) → IsComma e ⊎ (rank e ≤ 20) → Completes limit (print m.look (suc d) e) (ListEnd w (ending e)) (parser.expr_of v w) e
   by_rank w e h i (inr r) = one_complete w e r h i
   by_rank w (tree.Comma no_exprs) h i (inl k) = absurd h.0
   by_rank w (tree.Comma (more_exprs e no_exprs)) h i (inl k) = absurd h.0
@@ -227,7 +228,7 @@ module _ (limit : ℕ) (m : Bodies) (d : ℕ) (low : d ≤ limit) (v : Env) (c :
   by_rank w (tree.Assign op target value) h i (inl k) = absurd k
 
   -- an Expression
-  pub expr_complete : (w : Bool) (e : Expr) → Proper m e → InIf w (free_of_in e) → Completes limit (print m (suc d) e) (ListEnd w (ending e)) (parser.expr_of v w) e
+  pub expr_complete : (w : Bool) (e : Expr) → Proper m e → InIf w (free_of_in e) → Completes limit (print m.look (suc d) e) (ListEnd w (ending e)) (parser.expr_of v w) e
   expr_complete w e h i = by_rank w e h i (rank_low m e h)
 
   -- arguments, behind the opening parenthesis
@@ -236,7 +237,7 @@ module _ (limit : ℕ) (m : Bodies) (d : ℕ) (low : d ≤ limit) (v : Env) (c :
   ArgsFollow e t = continues_assign true (ending e) t ≡ false
 
   arg_pieces : Expr → List Piece
-  arg_pieces e = mark_piece mark.COMMA d ∷ print m (suc d) e
+  arg_pieces e = mark_piece mark.COMMA d ∷ print m.look (suc d) e
 
   args_comma : (t : Lexeme) (ts : List Lexeme) → t.kind ≡ kind.Mark mark.COMMA → parser.args_turn v (t ∷ ts) ≡ parser.args_next v ts
   unfolding parser.args_turn
@@ -260,17 +261,17 @@ module _ (limit : ℕ) (m : Bodies) (d : ℕ) (low : d ≤ limit) (v : Env) (c :
   true_in : (x : Bool) → InIf true x
   true_in x = refl
 
-  not_close : (e : Expr) → Proper m e → (x : Marked) (w : List Marked) (n : Lexeme) → Stands (print m (suc d) e) (x ∷ w) n → is_mark mark.CLOSE_PAREN x.lexeme.kind ≡ false
-  not_close e h x w n k = not_mark mark.CLOSE_PAREN refl x.lexeme.kind (opens_first begins_assign (print m (suc d) e) x w n (expr_opens m (suc d) e h) k)
+  not_close : (e : Expr) → Proper m e → (x : Marked) (w : List Marked) (n : Lexeme) → Stands (print m.look (suc d) e) (x ∷ w) n → is_mark mark.CLOSE_PAREN x.lexeme.kind ≡ false
+  not_close e h x w n k = not_mark mark.CLOSE_PAREN refl x.lexeme.kind (opens_first begins_assign (print m.look (suc d) e) x w n (expr_opens m (suc d) e h) k)
 
-  arg_complete : (e : Expr) → Arg e → Completes limit (mark_piece mark.COMMA d ∷ print m (suc d) e) (ArgsFollow e) (parser.args_turn v) (Again e)
+  arg_complete : (e : Expr) → Arg e → Completes limit (mark_piece mark.COMMA d ∷ print m.look (suc d) e) (ArgsFollow e) (parser.args_turn v) (Again e)
   arg_complete e k = c_at limit (λ t. parser.args_next v) low (λ t ts s. args_comma t ts s.kind) (λ t s. c_front limit (bind (v.sub (AnAssign true)) (λ x. ret {A = Turn Expr Bool} (Again x))) (λ x w rest q g. next_item x.lexeme (lexemes w ++ rest) (not_close e k.1 x w (head_of rest) q)) (expr_some e k.1) (c_made limit Again (c.calls.assign true e k.0 k.1 (true_in (free_of_in e)))))
 
-  arg_some : (e : Expr) → Arg e → (u : List Marked) (n : Lexeme) → Stands (mark_piece mark.COMMA d ∷ print m (suc d) e) u n → 0 < length (lexemes u)
+  arg_some : (e : Expr) → Arg e → (u : List Marked) (n : Lexeme) → Stands (mark_piece mark.COMMA d ∷ print m.look (suc d) e) u n → 0 < length (lexemes u)
   arg_some e k [] n h = absurd h
   arg_some e k (x ∷ u) n h = omega arith
 
-  arg_link : (e f : Expr) → Arg e → Arg f → (u : List Marked) (n : Lexeme) → Stands (mark_piece mark.COMMA d ∷ print m (suc d) f) u n → ArgsFollow e (first_of (lexemes u) n)
+  arg_link : (e f : Expr) → Arg e → Arg f → (u : List Marked) (n : Lexeme) → Stands (mark_piece mark.COMMA d ∷ print m.look (suc d) f) u n → ArgsFollow e (first_of (lexemes u) n)
   arg_link e f ke kf [] n h = absurd h
   arg_link e f ke kf (x ∷ u) n h = stop_comma true (ending e) x.lexeme h.0.kind
 
@@ -289,17 +290,17 @@ module _ (limit : ℕ) (m : Bodies) (d : ℕ) (low : d ≤ limit) (v : Env) (c :
   all_args no_exprs h = tt
   all_args (more_exprs e es) h = ((h.0, h.1), all_args es h.2)
 
-  args_last : (comma : Bool) (es : List Expr) → LastLeads limit Arg (λ e. mark_piece mark.COMMA d ∷ print m (suc d) e) ArgsFollow (comma_piece comma d) Closes comma (parser.args_turn v) arg_complete arg_some arg_link (args_stop comma) es
+  args_last : (comma : Bool) (es : List Expr) → LastLeads limit Arg (λ e. mark_piece mark.COMMA d ∷ print m.look (suc d) e) ArgsFollow (comma_piece comma d) Closes comma (parser.args_turn v) arg_complete arg_some arg_link (args_stop comma) es
   args_last comma [] = tt
   args_last comma (e ∷ []) = comma_leads comma e
   args_last comma (e ∷ f ∷ es) = args_last comma (f ∷ es)
 
-  flat_args : (es : Exprs) (comma : Bool) → flat (λ e. mark_piece mark.COMMA d ∷ print m (suc d) e) (list_of es) ++ comma_piece comma d ≡ print_more m d es ++ comma_piece comma d
+  flat_args : (es : Exprs) (comma : Bool) → flat (λ e. mark_piece mark.COMMA d ∷ print m.look (suc d) e) (list_of es) ++ comma_piece comma d ≡ print_more m.look d es ++ comma_piece comma d
   flat_args no_exprs comma = refl
-  flat_args (more_exprs e es) comma = append_assoc (mark_piece mark.COMMA d ∷ print m (suc d) e) (flat (λ e. mark_piece mark.COMMA d ∷ print m (suc d) e) (list_of es)) (comma_piece comma d) ∙ ap (λ x. (mark_piece mark.COMMA d ∷ print m (suc d) e) ++ x) (flat_args es comma) ∙ sym (append_assoc (mark_piece mark.COMMA d ∷ print m (suc d) e) (print_more m d es) (comma_piece comma d))
+  flat_args (more_exprs e es) comma = append_assoc (mark_piece mark.COMMA d ∷ print m.look (suc d) e) (flat (λ e. mark_piece mark.COMMA d ∷ print m.look (suc d) e) (list_of es)) (comma_piece comma d) ∙ ap (λ x. (mark_piece mark.COMMA d ∷ print m.look (suc d) e) ++ x) (flat_args es comma) ∙ sym (append_assoc (mark_piece mark.COMMA d ∷ print m.look (suc d) e) (print_more m.look d es) (comma_piece comma d))
 
-  args_loop : (es : Exprs) (comma : Bool) → ProperExprs m es → Completes limit (print_more m d es ++ comma_piece comma d) Closes (loop (parser.args_turn v)) (record { items = list_of es; last = comma })
-  args_loop es comma h = c_pieces limit (flat_args es comma) (c_loop limit Arg (λ e. mark_piece mark.COMMA d ∷ print m (suc d) e) ArgsFollow (comma_piece comma d) Closes comma (parser.args_turn v) arg_complete arg_some arg_link (args_stop comma) (list_of es) (all_args es h) (args_last comma (list_of es)))
+  args_loop : (es : Exprs) (comma : Bool) → ProperExprs m es → Completes limit (print_more m.look d es ++ comma_piece comma d) Closes (loop (parser.args_turn v)) (record { items = list_of es; last = comma })
+  args_loop es comma h = c_pieces limit (flat_args es comma) (c_loop limit Arg (λ e. mark_piece mark.COMMA d ∷ print m.look (suc d) e) ArgsFollow (comma_piece comma d) Closes comma (parser.args_turn v) arg_complete arg_some arg_link (args_stop comma) (list_of es) (all_args es h) (args_last comma (list_of es)))
 
   more_close : (rest : List Lexeme) → Closes (head_of rest) → bare (parser.more_args v rest) ≡ Read (stopped false) [] rest
   unfolding parser.more_args
@@ -309,18 +310,18 @@ module _ (limit : ℕ) (m : Bodies) (d : ℕ) (low : d ≤ limit) (v : Env) (c :
   unfolding parser.more_args
   more_first t ts h = ap (λ x. when x (ret (stopped false)) (bind (v.sub (AnAssign true)) (led (parser.args_turn v))) (t ∷ ts)) h
 
-  args_lead : (e : Expr) (es : Exprs) (comma : Bool) → Leads (print_more m d es ++ comma_piece comma d) Closes (ArgsFollow e)
+  args_lead : (e : Expr) (es : Exprs) (comma : Bool) → Leads (print_more m.look d es ++ comma_piece comma d) Closes (ArgsFollow e)
   args_lead e no_exprs comma = comma_leads comma e
   args_lead e (more_exprs f es) comma = lead_at (λ t s. stop_comma true (ending e) t s.kind)
 
-  many_args : (es : Exprs) (comma : Bool) → ProperExprs m es → (comma ≡ true → HasExprs es) → Completes limit (print_list m d es ++ comma_piece comma d) Closes (parser.more_args v) (record { items = list_of es; last = comma })
+  many_args : (es : Exprs) (comma : Bool) → ProperExprs m es → (comma ≡ true → HasExprs es) → Completes limit (print_list m.look d es ++ comma_piece comma d) Closes (parser.more_args v) (record { items = list_of es; last = comma })
   many_args no_exprs true h k = absurd (k refl)
   many_args no_exprs false h k = c_look limit more_close
-  many_args (more_exprs e es) comma h k = c_pieces limit (sym (append_assoc (print m (suc d) e) (print_more m d es) (comma_piece comma d))) (c_front limit (bind (v.sub (AnAssign true)) (led (parser.args_turn v)))
-      (λ x w rest q g. more_first x.lexeme (lexemes w ++ rest) (not_mark mark.CLOSE_PAREN refl x.lexeme.kind (opens_first begins_assign (print m (suc d) e ++ (print_more m d es ++ comma_piece comma d)) x w (head_of rest) (opens_append begins_assign (print m (suc d) e) (print_more m d es ++ comma_piece comma d) (expr_opens m (suc d) e h.1)) q)))
-      (λ w n q. opens_some begins_assign (print m (suc d) e ++ (print_more m d es ++ comma_piece comma d)) w n (opens_append begins_assign (print m (suc d) e) (print_more m d es ++ comma_piece comma d) (expr_opens m (suc d) e h.1)) q)
+  many_args (more_exprs e es) comma h k = c_pieces limit (sym (append_assoc (print m.look (suc d) e) (print_more m.look d es) (comma_piece comma d))) (c_front limit (bind (v.sub (AnAssign true)) (led (parser.args_turn v)))
+      (λ x w rest q g. more_first x.lexeme (lexemes w ++ rest) (not_mark mark.CLOSE_PAREN refl x.lexeme.kind (opens_first begins_assign (print m.look (suc d) e ++ (print_more m.look d es ++ comma_piece comma d)) x w (head_of rest) (opens_append begins_assign (print m.look (suc d) e) (print_more m.look d es ++ comma_piece comma d) (expr_opens m (suc d) e h.1)) q)))
+      (λ w n q. opens_some begins_assign (print m.look (suc d) e ++ (print_more m.look d es ++ comma_piece comma d)) w n (opens_append begins_assign (print m.look (suc d) e) (print_more m.look d es ++ comma_piece comma d) (expr_opens m (suc d) e h.1)) q)
       (c_bind limit (led (parser.args_turn v)) (c.calls.assign true e h.0 h.1 (true_in (free_of_in e))) (args_lead e es comma) (c_made limit (begun e) (args_loop es comma h.2))))
 
-  pub args_complete : {F : Lexeme → Type 0} (es : Exprs) (comma : Bool) → ProperExprs m es → (comma ≡ true → HasExprs es) → Completes limit (print_list m d es ++ (comma_piece comma d ++ mark_piece mark.CLOSE_PAREN d ∷ [])) F (parser.args_of v) (record { items = list_of es; comma = comma })
+  pub args_complete : {F : Lexeme → Type 0} (es : Exprs) (comma : Bool) → ProperExprs m es → (comma ≡ true → HasExprs es) → Completes limit (print_list m.look d es ++ (comma_piece comma d ++ mark_piece mark.CLOSE_PAREN d ∷ [])) F (parser.args_of v) (record { items = list_of es; comma = comma })
   unfolding parser.args_of
-  args_complete es comma h k = c_pieces limit (append_assoc (print_list m d es) (comma_piece comma d) (mark_piece mark.CLOSE_PAREN d ∷ [])) (c_bind limit (λ x. bind (expect mark.CLOSE_PAREN) (λ _. ret (record { items = x.items; comma = x.last }))) (many_args es comma h k) (lead_at (λ t s. s.kind)) (c_made limit (λ _. record { items = list_of es; comma = comma }) (c_mark limit mark.CLOSE_PAREN d low refl)))
+  args_complete es comma h k = c_pieces limit (append_assoc (print_list m.look d es) (comma_piece comma d) (mark_piece mark.CLOSE_PAREN d ∷ [])) (c_bind limit (λ x. bind (expect mark.CLOSE_PAREN) (λ _. ret (record { items = x.items; comma = x.last }))) (many_args es comma h k) (lead_at (λ t s. s.kind)) (c_made limit (λ _. record { items = list_of es; comma = comma }) (c_mark limit mark.CLOSE_PAREN d low refl)))

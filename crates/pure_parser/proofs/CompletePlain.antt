@@ -12,7 +12,7 @@ use Rattle.script_grammar.specs.Tree as tree
 use Rattle.script_grammar.specs.Pieces.{Bodies, Piece, Ending, Operand, BracedArrow, Postfix, BareBinding, Keyword, DoWhile, mark_piece}
 use Rattle.script_grammar.specs.Endings.{ending, operands_ending, function_ending, body_ending}
 use Rattle.script_grammar.specs.Print.{print, print_operands}
-use Rattle.script_grammar.specs.Proper.{rank, Proper, ProperOperands, free_of_in, operands_free, InIf, are_member_tails, function_rank, new_rank, operands_level, rest_rank}
+use Rattle.script_grammar.specs.Proper.{rank, free_of_in, operands_free, InIf, are_member_tails, function_rank, new_rank, operands_level, rest_rank}
 use Rattle.pure_parser.specs.Parser.{Read, Parser, head_of, ret, bind, peek, step, when}
 use Rattle.pure_parser.specs.Exprs as parser
 use Rattle.pure_parser.specs.Exprs.{Env, AnAssign, expect, mark_of, is_op}
@@ -24,6 +24,7 @@ use Rattle.pure_parser.proofs.Completes.{Completes, Leads, lead_none, lead_at, l
 use Rattle.pure_parser.proofs.CompleteStmts.{c_value}
 use Rattle.pure_parser.proofs.CompleteParts.{CompleteEnv}
 use Rattle.pure_parser.proofs.CompleteOperators.{refuted, c_when, c_else, lead_append, LevelStops, level_less, op_levels, other_level, op_at, op_is, binary_of, binary_pieces, binary_ending, binary_level, levelled, binary_only, above, in_first, in_rest, from_complete, ReadsUnary, level_complete}
+use Rattle.pure_parser.proofs.ProperIn.{Mode, Proper, ProperOperands}
 
 -- the endings of operands
 
@@ -56,7 +57,7 @@ rest_low zero (more_operands op of_word value rest) h = omega arith
 rest_low (suc n) os h = level_low (nat_eq (suc n) 11) (suc n) h
 
 mutual
-  pub short_ending : (m : Bodies) (e : Expr) → rank e ≤ 18 → Proper m e → IsShort (ending e)
+  pub short_ending : (m : Mode) (e : Expr) → rank e ≤ 18 → Proper m e → IsShort (ending e)
   short_ending m (tree.This at) r h = tt
   short_ending m (tree.Name name) r h = tt
   short_ending m (tree.Null at) r h = tt
@@ -79,7 +80,7 @@ mutual
   short_ending m (tree.Assign op target value) r h = absurd (omega (arith, r))
   short_ending m (tree.Comma es) r h = absurd (omega (arith, r))
 
-  short_operands : (m : Bodies) (x : Ending) (n : ℕ) → n < 12 → (os : Operands) → ProperOperands m n os → IsShort x → IsShort (operands_ending x os)
+  short_operands : (m : Mode) (x : Ending) (n : ℕ) → n < 12 → (os : Operands) → ProperOperands m n os → IsShort x → IsShort (operands_ending x os)
   short_operands m x n l no_operands h k = k
   short_operands m x n l (more_operands op of_word value rest) h k = short_operands m (ending value) n l rest h.3 (short_ending m value (omega (arith, h.1, rest_low n rest l)) h.2)
 
@@ -173,24 +174,24 @@ new_no : (a : MaybeArgs) → 18 < new_rank a → ⊥
 new_no tree.no_args h = absurd (omega (arith, h))
 new_no (tree.some_args es comma) h = absurd (omega (arith, h))
 
-module _ (limit : ℕ) (m : Bodies) (d : ℕ) (low : d ≤ limit) (v : Env) (unary : ReadsUnary limit m d low v) where
+module _ (limit : ℕ) (m : Mode) (d : ℕ) (low : d ≤ limit) (v : Env) (unary : ReadsUnary limit m d low v) where
   -- `??`
 
-  lower : (w heads : Bool) (e : Expr) → rank e ≤ 15 → Proper m e → InIf w (free_of_in e) → Completes limit (print m d e) (LevelStops w 8 (ending e)) (parser.level_of v w 8 heads) e
+  lower : (w heads : Bool) (e : Expr) → rank e ≤ 15 → Proper m e → InIf w (free_of_in e) → Completes limit (print m.look d e) (LevelStops w 8 (ending e)) (parser.level_of v w 8 heads) e
   lower w heads e r h i = level_complete limit m d low v unary 8 (omega arith) w heads e r h i
 
-  with_op : (w : Bool) (f : Expr) (os : Operands) → rank (binary_of f os) ≡ 18 → rank f ≤ 15 → ProperOperands m 11 os → InIf w (operands_free os) → {G : Lexeme → Type 0} → Leads (print_operands m d os) G (λ t. is_op w 11 t.kind ≡ true)
+  with_op : (w : Bool) (f : Expr) (os : Operands) → rank (binary_of f os) ≡ 18 → rank f ≤ 15 → ProperOperands m 11 os → InIf w (operands_free os) → {G : Lexeme → Type 0} → Leads (print_operands m.look d os) G (λ t. is_op w 11 t.kind ≡ true)
   with_op w f no_operands e r h i = absurd (omega (arith, e, r))
   with_op w f (more_operands op of_word value rest) e r h i = lead_at (λ t s. op_is w 11 op of_word t s.kind h.0 (in_first w (not (of_word && nat_eq op word.IN)) (free_of_in value && operands_free rest) i))
 
   short_turn : Bool → Expr → Parser Expr
   short_turn w e = peek (λ t. when (is_op w parser.coalesce_level t.kind) (parser.operands_from w parser.coalesce_level (parser.level_of v w parser.bit_or_level false) e) (parser.or_from v w e))
 
-  coalesced : (w heads : Bool) (e : Expr) → rank e ≡ 18 → Proper m e → InIf w (free_of_in e) → Completes limit (print m d e) (LevelStops w 11 (ending e)) (parser.short_circuit v w heads) e
+  coalesced : (w heads : Bool) (e : Expr) → rank e ≡ 18 → Proper m e → InIf w (free_of_in e) → Completes limit (print m.look d e) (LevelStops w 11 (ending e)) (parser.short_circuit v w heads) e
   unfolding parser.short_circuit
   coalesced w heads e r h i =
       let l = binary_level m w 11 e (binary_only e (omega (arith, r)) (omega (arith, r))) r h i in
-      c_value l.same (c_pieces limit (binary_pieces m d l.first l.rest ∙ ap (print m d) l.same) (c_weaken limit (λ t g. subst (λ x. LevelStops w 11 x t) (sym (binary_ending l.first l.rest ∙ ap ending l.same)) g)
+      c_value l.same (c_pieces limit (binary_pieces m d l.first l.rest ∙ ap (print m.look d) l.same) (c_weaken limit (λ t g. subst (λ x. LevelStops w 11 x t) (sym (binary_ending l.first l.rest ∙ ap ending l.same)) g)
       (c_bind limit (λ x. peek (λ t. when (is_op w parser.coalesce_level t.kind) (parser.operands_from w parser.coalesce_level (parser.level_of v w parser.bit_or_level false) x) (parser.or_from v w x)))
       (lower w heads l.first l.rank_le l.proper l.in_if)
       (lead_map (λ t g. g) (behind w (ending l.first) l.rest l.operands))
@@ -198,21 +199,21 @@ module _ (limit : ℕ) (m : Bodies) (d : ℕ) (low : d ≤ limit) (v : Env) (una
       (c_weaken limit (λ t g. (level_less w 8 11 (operands_ending (ending l.first) l.rest) t (omega arith) g, g.ops 11 (omega arith)))
       (from_complete limit m d low v w 10 (omega arith) 8 (omega arith) (parser.level_of v w 8 false) (λ x k. lower w false x k.0 k.1 k.2) (ending l.first) l.first l.rest l.operands l.operands_in))))))
     where
-      behind : (w : Bool) (e : Ending) (os : Operands) → ProperOperands m 11 os → Leads (print_operands m d os) (LevelStops w 11 (operands_ending e os)) (LevelStops w 8 e)
+      behind : (w : Bool) (e : Ending) (os : Operands) → ProperOperands m 11 os → Leads (print_operands m.look d os) (LevelStops w 11 (operands_ending e os)) (LevelStops w 8 e)
       behind w e no_operands h = lead_map (λ t g. level_less w 8 11 e t (omega arith) g) lead_none
       behind w e (more_operands op of_word value rest) h = lead_at (λ t s. op_levels w 8 11 e t (op_at op of_word t s.kind ∙ h.0) (omega arith) (omega arith))
 
   -- `||` over `&&`
 
-  operands_lead : (w : Bool) (n k j : ℕ) (e : Ending) (os : Operands) → n < 12 → k < n → k ≤ j → ProperOperands m n os → Leads (print_operands m d os) (LevelStops w j (operands_ending e os)) (LevelStops w k e)
+  operands_lead : (w : Bool) (n k j : ℕ) (e : Ending) (os : Operands) → n < 12 → k < n → k ≤ j → ProperOperands m n os → Leads (print_operands m.look d os) (LevelStops w j (operands_ending e os)) (LevelStops w k e)
   operands_lead w n k j e no_operands s l q h = lead_map (λ t g. level_less w k j e t q g) lead_none
   operands_lead w n k j e (more_operands op of_word value rest) s l q h = lead_at (λ t c. op_levels w k n e t (op_at op of_word t c.kind ∙ h.0) s l)
 
-  no_coalesce : (w : Bool) (n : ℕ) (os : Operands) {G : Lexeme → Type 0} → n ≤ 10 → ProperOperands m n os → ((t : Lexeme) → G t → is_op w 11 t.kind ≡ false) → Leads (print_operands m d os) G (λ t. is_op w 11 t.kind ≡ false)
+  no_coalesce : (w : Bool) (n : ℕ) (os : Operands) {G : Lexeme → Type 0} → n ≤ 10 → ProperOperands m n os → ((t : Lexeme) → G t → is_op w 11 t.kind ≡ false) → Leads (print_operands m.look d os) G (λ t. is_op w 11 t.kind ≡ false)
   no_coalesce w n no_operands s h g = lead_map g lead_none
   no_coalesce w n (more_operands op of_word value rest) s h g = lead_at (λ t c. other_level w t.kind 11 n (op_at op of_word t c.kind ∙ h.0) (λ e. absurd (omega (arith, e, s))))
 
-  ors : (w heads : Bool) (e : Expr) → rank e ≤ 17 → Proper m e → InIf w (free_of_in e) → Completes limit (print m d e) (LevelStops w 11 (ending e)) (parser.short_circuit v w heads) e
+  ors : (w heads : Bool) (e : Expr) → rank e ≤ 17 → Proper m e → InIf w (free_of_in e) → Completes limit (print m.look d e) (LevelStops w 11 (ending e)) (parser.short_circuit v w heads) e
   unfolding parser.short_circuit parser.or_from
   ors w heads e r h i =
       let a = levelled m w 9 e (omega arith) r h i in
@@ -220,8 +221,8 @@ module _ (limit : ℕ) (m : Bodies) (d : ℕ) (low : d ≤ limit) (v : Env) (una
       let inner : operands_ending (ending b.first) b.rest ≡ ending a.first = binary_ending b.first b.rest ∙ ap ending b.same in
       let outer : operands_ending (ending a.first) a.rest ≡ ending e = binary_ending a.first a.rest ∙ ap ending a.same in
       let ends : (t : Lexeme) → LevelStops w 11 (ending e) t → LevelStops w 11 (operands_ending (ending a.first) a.rest) t = λ t g. subst (λ x. LevelStops w 11 x t) (sym outer) g in
-      let tens : Leads (print_operands m d a.rest) (LevelStops w 11 (ending e)) (LevelStops w 9 (operands_ending (ending b.first) b.rest)) = lead_map (λ t g. subst (λ x. LevelStops w 9 x t) (sym inner) g) (lead_from ends (operands_lead w 10 9 11 (ending a.first) a.rest (omega arith) (omega arith) (omega arith) a.operands)) in
-      c_value a.same (c_pieces limit (sym (append_assoc (print m d b.first) (print_operands m d b.rest) (print_operands m d a.rest)) ∙ ap (λ x. x ++ print_operands m d a.rest) (binary_pieces m d b.first b.rest ∙ ap (print m d) b.same) ∙ binary_pieces m d a.first a.rest ∙ ap (print m d) a.same)
+      let tens : Leads (print_operands m.look d a.rest) (LevelStops w 11 (ending e)) (LevelStops w 9 (operands_ending (ending b.first) b.rest)) = lead_map (λ t g. subst (λ x. LevelStops w 9 x t) (sym inner) g) (lead_from ends (operands_lead w 10 9 11 (ending a.first) a.rest (omega arith) (omega arith) (omega arith) a.operands)) in
+      c_value a.same (c_pieces limit (sym (append_assoc (print m.look d b.first) (print_operands m.look d b.rest) (print_operands m.look d a.rest)) ∙ ap (λ x. x ++ print_operands m.look d a.rest) (binary_pieces m d b.first b.rest ∙ ap (print m.look d) b.same) ∙ binary_pieces m d a.first a.rest ∙ ap (print m.look d) a.same)
       (c_bind limit (λ x. peek (λ t. when (is_op w parser.coalesce_level t.kind) (parser.operands_from w parser.coalesce_level (parser.level_of v w parser.bit_or_level false) x) (parser.or_from v w x)))
       (lower w heads b.first b.rank_le b.proper b.in_if)
       (lead_append tens (operands_lead w 9 8 9 (ending b.first) b.rest (omega arith) (omega arith) (omega arith) b.operands))
@@ -236,10 +237,10 @@ module _ (limit : ℕ) (m : Bodies) (d : ℕ) (low : d ≤ limit) (v : Env) (una
       lead_from : {qs : List Piece} {G H F : Lexeme → Type 0} → ((t : Lexeme) → H t → G t) → Leads qs G F → Leads qs H F
       lead_from f l = record { by = λ u n h g. l.by u n h (f n g) }
 
-  pub short_complete : (w heads : Bool) (e : Expr) → rank e ≤ 18 → Proper m e → InIf w (free_of_in e) → Completes limit (print m d e) (LevelStops w 11 (ending e)) (parser.short_circuit v w heads) e
+  pub short_complete : (w heads : Bool) (e : Expr) → rank e ≤ 18 → Proper m e → InIf w (free_of_in e) → Completes limit (print m.look d e) (LevelStops w 11 (ending e)) (parser.short_circuit v w heads) e
   short_complete w heads e r h i = by (nat_le (rank e) 17) refl
     where
-      by : (b : Bool) → nat_le (rank e) 17 ≡ b → Completes limit (print m d e) (LevelStops w 11 (ending e)) (parser.short_circuit v w heads) e
+      by : (b : Bool) → nat_le (rank e) 17 ≡ b → Completes limit (print m.look d e) (LevelStops w 11 (ending e)) (parser.short_circuit v w heads) e
       by true q = ors w heads e (leb-true (rank e) 17 q) h i
       by false q = coalesced w heads e (omega (arith, r, above (rank e) 17 q)) h i
 
@@ -256,9 +257,9 @@ module _ (limit : ℕ) (m : Bodies) (d : ℕ) (low : d ≤ limit) (v : Env) (una
   unfolding parser.cond_tail
   tail_at w e t ts h = ap (λ k. when (is_mark mark.QUESTION k) (step (parser.branches_of v w e)) (ret e) (t ∷ ts)) h
 
-  pub cond_short : (w heads : Bool) (e : Expr) → rank e ≤ 18 → Proper m e → InIf w (free_of_in e) → Completes limit (print m d e) (CondStops w (ending e)) (parser.cond_of v w heads) e
+  pub cond_short : (w heads : Bool) (e : Expr) → rank e ≤ 18 → Proper m e → InIf w (free_of_in e) → Completes limit (print m.look d e) (CondStops w (ending e)) (parser.cond_of v w heads) e
   unfolding parser.cond_of
-  cond_short w heads e r h i = c_pieces limit (append-nil (print m d e)) (c_bind limit (parser.cond_tail v w) (short_complete w heads e r h i) (lead_map (λ t g. g.0) lead_none) (c_look limit (λ rest g. tail_stops w e rest g.1)))
+  cond_short w heads e r h i = c_pieces limit (append-nil (print m.look d e)) (c_bind limit (parser.cond_tail v w) (short_complete w heads e r h i) (lead_map (λ t g. g.0) lead_none) (c_look limit (λ rest g. tail_stops w e rest g.1)))
 
   question_stops : (w : Bool) (e : Ending) (t : Lexeme) → t.kind ≡ kind.Mark mark.QUESTION → LevelStops w 11 e t
   question_stops w e t h = record {
@@ -267,7 +268,7 @@ module _ (limit : ℕ) (m : Bodies) (d : ℕ) (low : d ≤ limit) (v : Env) (una
   }
 
   module _ (c : CompleteEnv limit m d v) where
-    branches_complete : (w : Bool) (e a b : Expr) → rank a ≤ 20 → Proper m a → rank b ≤ 20 → Proper m b → InIf w (free_of_in b) → Completes limit (print m (suc d) a ++ (mark_piece mark.COLON d ∷ print m (suc d) b)) (λ t. continues_assign w (ending b) t ≡ false) (parser.branches_of v w e) (tree.Cond e a b)
+    branches_complete : (w : Bool) (e a b : Expr) → rank a ≤ 20 → Proper m a → rank b ≤ 20 → Proper m b → InIf w (free_of_in b) → Completes limit (print m.look (suc d) a ++ (mark_piece mark.COLON d ∷ print m.look (suc d) b)) (λ t. continues_assign w (ending b) t ≡ false) (parser.branches_of v w e) (tree.Cond e a b)
     unfolding parser.branches_of
     branches_complete w e a b ra ha rb hb i =
         c_bind limit (λ y. bind (expect mark.COLON) (λ _. bind (v.sub (AnAssign w)) (λ n. ret (tree.Cond e y n)))) (c.calls.assign true a ra ha refl) (lead_at (λ t s. stop_assign true (ending a) t (stop_colon true (ending a) t s.kind)))
@@ -276,7 +277,7 @@ module _ (limit : ℕ) (m : Bodies) (d : ℕ) (low : d ≤ limit) (v : Env) (una
     in_one : (w a b : Bool) → (w || (a && b)) ≡ true → ((w || a) ≡ true) × ((w || b) ≡ true)
     in_one w a b h = (in_first w a b h, in_rest w a b h)
 
-    pub cond_complete : (w heads : Bool) (e a b : Expr) → Proper m (tree.Cond e a b) → InIf w (free_of_in (tree.Cond e a b)) → Completes limit (print m d (tree.Cond e a b)) (λ t. continues_assign w (ending b) t ≡ false) (parser.cond_of v w heads) (tree.Cond e a b)
+    pub cond_complete : (w heads : Bool) (e a b : Expr) → Proper m (tree.Cond e a b) → InIf w (free_of_in (tree.Cond e a b)) → Completes limit (print m.look d (tree.Cond e a b)) (λ t. continues_assign w (ending b) t ≡ false) (parser.cond_of v w heads) (tree.Cond e a b)
     unfolding parser.cond_of
     cond_complete w heads e a b h i =
         let j = in_one w (free_of_in e) (free_of_in b) i in
@@ -302,9 +303,9 @@ module _ (limit : ℕ) (m : Bodies) (d : ℕ) (low : d ≤ limit) (v : Env) (una
     and_no true b h = h
     and_no false b h = refl
 
-    plain_cond : (w : Bool) (e a b : Expr) → Proper m (tree.Cond e a b) → InIf w (free_of_in (tree.Cond e a b)) → Completes limit (print m d (tree.Cond e a b)) (λ t. continues_assign w (ending b) t ≡ false) (parser.plain_of v w) (tree.Cond e a b)
+    plain_cond : (w : Bool) (e a b : Expr) → Proper m (tree.Cond e a b) → InIf w (free_of_in (tree.Cond e a b)) → Completes limit (print m.look d (tree.Cond e a b)) (λ t. continues_assign w (ending b) t ≡ false) (parser.plain_of v w) (tree.Cond e a b)
     unfolding parser.plain_of
-    plain_cond w e a b h i = c_pieces limit (append-nil (print m d (tree.Cond e a b))) (c_bind limit (parser.assign_tail v w) (cond_complete w true e a b h i) (lead_map (λ t g. g) lead_none) (c_look limit (λ rest g. assign_stops w (tree.Cond e a b) rest (and_no (is_assign_mark (head_of rest).kind) false refl))))
+    plain_cond w e a b h i = c_pieces limit (append-nil (print m.look d (tree.Cond e a b))) (c_bind limit (parser.assign_tail v w) (cond_complete w true e a b h i) (lead_map (λ t g. g) lead_none) (c_look limit (λ rest g. assign_stops w (tree.Cond e a b) rest (and_no (is_assign_mark (head_of rest).kind) false refl))))
 
     -- assignment marks are no operators
 
@@ -354,7 +355,7 @@ module _ (limit : ℕ) (m : Bodies) (d : ℕ) (low : d ≤ limit) (v : Env) (una
           ap (is_mark mark.QUESTION) h ∙ ne_eqb op mark.QUESTION (λ q. absurd (omega (arith, q, from))),
         )
 
-    plain_assign : (w : Bool) (op : ℕ) (target value : Expr) → Proper m (tree.Assign op target value) → InIf w (free_of_in (tree.Assign op target value)) → Completes limit (print m d (tree.Assign op target value)) (λ t. continues_assign w (ending value) t ≡ false) (parser.plain_of v w) (tree.Assign op target value)
+    plain_assign : (w : Bool) (op : ℕ) (target value : Expr) → Proper m (tree.Assign op target value) → InIf w (free_of_in (tree.Assign op target value)) → Completes limit (print m.look d (tree.Assign op target value)) (λ t. continues_assign w (ending value) t ≡ false) (parser.plain_of v w) (tree.Assign op target value)
     unfolding parser.plain_of
     plain_assign w op target value h i =
         let j = in_one w (free_of_in target) (free_of_in value) i in
@@ -363,9 +364,9 @@ module _ (limit : ℕ) (m : Bodies) (d : ℕ) (low : d ≤ limit) (v : Env) (una
         (λ t ts s. assign_at w target t ts (ap (λ k. is_assign_mark k && nat_le (rank target) 4) s.kind ∙ ap (λ b. b && nat_le (rank target) 4) h.0 ∙ le-leb (rank target) 4 h.1))
         (λ t s. c_value (ap (λ k. tree.Assign (mark_of k) target value) s.kind) (c_made limit (λ x. tree.Assign (mark_of t.kind) target x) (c.calls.assign w value h.3 h.4 j.1))))
 
-    plain_short : (w : Bool) (e : Expr) → rank e ≤ 18 → Proper m e → InIf w (free_of_in e) → Completes limit (print m d e) (λ t. continues_assign w (ending e) t ≡ false) (parser.plain_of v w) e
+    plain_short : (w : Bool) (e : Expr) → rank e ≤ 18 → Proper m e → InIf w (free_of_in e) → Completes limit (print m.look d e) (λ t. continues_assign w (ending e) t ≡ false) (parser.plain_of v w) e
     unfolding parser.plain_of
-    plain_short w e r h i = c_pieces limit (append-nil (print m d e)) (c_bind limit (parser.assign_tail v w) (cond_short w true e r h i)
+    plain_short w e r h i = c_pieces limit (append-nil (print m.look d e)) (c_bind limit (parser.assign_tail v w) (cond_short w true e r h i)
         (lead_map (λ t g. let k = goes_not w (ending e) t (short_ending m e r h) g in (k.level, k.question)) lead_none)
         (c_look limit (λ rest g. assign_stops w e rest (takes_not rest (goes_not w (ending e) (head_of rest) (short_ending m e r h) g) (nat_le (rank e) 4) refl))))
       where
@@ -374,7 +375,7 @@ module _ (limit : ℕ) (m : Bodies) (d : ℕ) (low : d ≤ limit) (v : Env) (una
         takes_not rest k false q = and_no (is_assign_mark (head_of rest).kind) (nat_le (rank e) 4) q
 
     -- an AssignmentExpression that is no arrow
-    pub plain_complete : (w : Bool) (e : Expr) → rank e ≤ 20 → (IsArrow e → ⊥) → Proper m e → InIf w (free_of_in e) → Completes limit (print m d e) (λ t. continues_assign w (ending e) t ≡ false) (parser.plain_of v w) e
+    pub plain_complete : (w : Bool) (e : Expr) → rank e ≤ 20 → (IsArrow e → ⊥) → Proper m e → InIf w (free_of_in e) → Completes limit (print m.look d e) (λ t. continues_assign w (ending e) t ≡ false) (parser.plain_of v w) e
     plain_complete w e r n h i = by (nat_le (rank e) 18) refl
       where
         func_no : (at : ℕ) (f : Function) → (IsArrow (tree.Func at f) → ⊥) → function_rank f ≤ 18
@@ -384,7 +385,7 @@ module _ (limit : ℕ) (m : Bodies) (d : ℕ) (low : d ≤ limit) (v : Env) (una
             none true q = absurd (k q)
             none false q = subst (λ x. (if x then 20 else 0) ≤ 18) (sym q) (omega arith)
 
-        loose : (e : Expr) → rank e ≤ 20 → (IsArrow e → ⊥) → Proper m e → InIf w (free_of_in e) → 18 < rank e → Completes limit (print m d e) (λ t. continues_assign w (ending e) t ≡ false) (parser.plain_of v w) e
+        loose : (e : Expr) → rank e ≤ 20 → (IsArrow e → ⊥) → Proper m e → InIf w (free_of_in e) → 18 < rank e → Completes limit (print m.look d e) (λ t. continues_assign w (ending e) t ≡ false) (parser.plain_of v w) e
         loose (tree.Cond test a b) r n h i k = plain_cond w test a b h i
         loose (tree.Assign op target value) r n h i k = plain_assign w op target value h i
         loose (tree.Func at f) r n h i k = absurd (omega (arith, k, func_no at f n))
@@ -406,6 +407,6 @@ module _ (limit : ℕ) (m : Bodies) (d : ℕ) (low : d ≤ limit) (v : Env) (una
         loose (tree.Unary at op of of_word) r n h i k = absurd (omega (arith, k))
         loose (tree.Update at op prefix of) r n h i k = absurd (omega (arith, k))
 
-        by : (b : Bool) → nat_le (rank e) 18 ≡ b → Completes limit (print m d e) (λ t. continues_assign w (ending e) t ≡ false) (parser.plain_of v w) e
+        by : (b : Bool) → nat_le (rank e) 18 ≡ b → Completes limit (print m.look d e) (λ t. continues_assign w (ending e) t ≡ false) (parser.plain_of v w) e
         by true q = plain_short w e (leb-true (rank e) 18 q) h i
         by false q = loose e r n h i (above (rank e) 18 q)

@@ -10,7 +10,7 @@ use Rattle.script_grammar.specs.Tree as tree
 use Rattle.script_grammar.specs.Pieces.{Bodies, Postfix, Operand, Piece, from}
 use Rattle.script_grammar.specs.Endings.{ending}
 use Rattle.script_grammar.specs.Print.{print, print_tails, first_kind}
-use Rattle.script_grammar.specs.Proper.{rank, Proper, are_member_tails, left_rank, unary_rank, new_rank, function_rank}
+use Rattle.script_grammar.specs.Proper.{rank, are_member_tails, left_rank, unary_rank, new_rank, function_rank}
 use Rattle.pure_parser.specs.Parser.{head_of, ret, bad, bind, step, when}
 use Rattle.pure_parser.specs.Exprs as parser
 use Rattle.pure_parser.specs.Exprs.{Env, ANew, APrefix, expect, chain_case, is_chain_head, again}
@@ -27,6 +27,7 @@ use Rattle.pure_parser.proofs.ExprFronts.{update_is}
 use Rattle.pure_parser.proofs.CompleteChains.{PrimComplete}
 use Rattle.pure_parser.proofs.ExprFronts.{opens_from}
 use Rattle.pure_parser.proofs.CompleteUnary.{plain_update, postfix_complete, prefix_first, operand_first}
+use Rattle.pure_parser.proofs.ProperIn.{Mode, Proper}
 
 abbrev pub no_op : Kind → Bool
 no_op k = not (is_prefix k || is_update k)
@@ -35,7 +36,7 @@ template_op : (ps : Parts) → no_op (first_kind ps) ≡ true
 template_op no_parts = refl
 template_op (more_parts e w ps) = refl
 
-func_op : (m : Bodies) (d at : ℕ) (f : Function) → rank (tree.Func at f) ≤ left_rank → Proper m (tree.Func at f) → Opens no_op (print m d (tree.Func at f)) × (ending (tree.Func at f) ≡ Operand)
+func_op : (m : Mode) (d at : ℕ) (f : Function) → rank (tree.Func at f) ≤ left_rank → Proper m (tree.Func at f) → Opens no_op (print m.look d (tree.Func at f)) × (ending (tree.Func at f) ≡ Operand)
 func_op m d at (function form.Function start end name ps comma bare body) r h = (refl, refl)
 func_op m d at (function form.Arrow start end name ps comma bare body) r h = absurd (omega (arith, r))
 func_op m d at (function form.Script start end name ps comma bare body) r h = absurd h.0
@@ -44,7 +45,7 @@ func_op m d at (function form.Getter start end name ps comma bare body) r h = ab
 func_op m d at (function form.Setter start end name ps comma bare body) r h = absurd h.0
 
 -- a left-hand side begins with no unary operator, and ends as an operand
-pub left_first : (m : Bodies) (d : ℕ) (e : Expr) → rank e ≤ left_rank → Proper m e → Opens no_op (print m d e) × (ending e ≡ Operand)
+pub left_first : (m : Mode) (d : ℕ) (e : Expr) → rank e ≤ left_rank → Proper m e → Opens no_op (print m.look d e) × (ending e ≡ Operand)
 left_first m d (tree.This at) r h = (refl, refl)
 left_first m d (tree.Name name) r h = (refl, refl)
 left_first m d (tree.Null at) r h = (refl, refl)
@@ -57,7 +58,7 @@ left_first m d (tree.Array at is comma) r h = (refl, refl)
 left_first m d (tree.Object at ps comma) r h = (refl, refl)
 left_first m d (tree.Func at f) r h = func_op m d at f r h
 left_first m d (tree.Paren at inner) r h = (refl, refl)
-left_first m d (tree.Chain head tails) r h = (opens_append no_op (print m d head) (print_tails m d tails) (left_first m d head (omega (arith, h.0)) h.1).0, refl)
+left_first m d (tree.Chain head tails) r h = (opens_append no_op (print m.look d head) (print_tails m.look d tails) (left_first m d head (omega (arith, h.0)) h.1).0, refl)
 left_first m d (tree.New at callee args) r h = (refl, refl)
 left_first m d (tree.Unary at op of is_word) r h = absurd (omega (arith, r))
 left_first m d (tree.Update at op prefix of) r h = absurd (omega (arith, r))
@@ -124,7 +125,7 @@ either_right false b h = h
 abbrev pub has_op : Kind → Bool
 has_op k = is_prefix k || is_update k
 
-pub prefixed_opens : (m : Bodies) (d : ℕ) (e : Expr) → IsPrefixed e → Proper m e → Opens has_op (print m d e)
+pub prefixed_opens : (m : Mode) (d : ℕ) (e : Expr) → IsPrefixed e → Proper m e → Opens has_op (print m.look d e)
 prefixed_opens m d (tree.Unary at op of is_word) k h = either_left (is_prefix (op_kind op is_word)) (is_update (op_kind op is_word)) (prefix_kind op is_word h.0)
 prefixed_opens m d (tree.Update at op true of) k h = either_right (is_prefix (kind.Mark op)) (is_update (kind.Mark op)) h.0
 prefixed_opens m d (tree.Update at op false of) k h = absurd k
@@ -147,21 +148,21 @@ prefixed_opens m d (tree.Cond test then_value else_value) k h = absurd k
 prefixed_opens m d (tree.Assign op target value) k h = absurd k
 prefixed_opens m d (tree.Comma es) k h = absurd k
 
-module _ (limit : ℕ) (m : Bodies) (d : ℕ) (low : d ≤ limit) (v : Env) (c : CompleteEnv limit m d v) (prim : PrimComplete limit m d v) where
+module _ (limit : ℕ) (m : Mode) (d : ℕ) (low : d ≤ limit) (v : Env) (c : CompleteEnv limit m d v) (prim : PrimComplete limit m d v) where
   operand_front : (heads : Bool) (ps : List Piece) (F : Lexeme → Type 0) (a : Expr) → Opens no_op ps → Completes limit ps F (parser.update_of v heads) a → Completes limit ps F (parser.unary_of v heads) a
   operand_front heads ps F a o k = c_front limit (parser.update_of v heads) (λ x w rest q g. operand_first limit m d low v c prim heads x.lexeme (lexemes w ++ rest) (not_true (is_prefix x.lexeme.kind || is_update x.lexeme.kind) (opens_first no_op ps x w (head_of rest) o q))) (λ w n q. opens_some no_op ps w n o q) k
 
   -- a UnaryExpression
-  pub unary_complete : (heads : Bool) (e : Expr) → rank e ≤ unary_rank → Proper m e → Completes limit (print m d e) (UnaryStops (ending e)) (parser.unary_of v heads) e
+  pub unary_complete : (heads : Bool) (e : Expr) → rank e ≤ unary_rank → Proper m e → Completes limit (print m.look d e) (UnaryStops (ending e)) (parser.unary_of v heads) e
   unary_complete heads e r h = by (unary_kind e r)
     where
-      by : UnaryOf e → Completes limit (print m d e) (UnaryStops (ending e)) (parser.unary_of v heads) e
-      by (prefixed k) = c_front limit (v.sub APrefix) (λ x w rest q g. prefix_first limit m d low v c prim heads x.lexeme (lexemes w ++ rest) (opens_first has_op (print m d e) x w (head_of rest) (prefixed_opens m d e k h) q)) (λ w n q. opens_some has_op (print m d e) w n (prefixed_opens m d e k h) q) (c.calls.prefix e k h)
-      by (left z) = let f = left_first m d e z h in operand_front heads (print m d e) (UnaryStops (ending e)) e f.0 (c_weaken limit (λ t g. record { tail = g.tail f.1; update = g.update f.1 }) (plain_update limit m d low v c prim heads e z h))
-      by (postfixed at op of q) = subst (λ y. Completes limit (print m d y) (UnaryStops (ending y)) (parser.unary_of v heads) y) (sym q) (postfix_by (subst (Proper m) q h))
+      by : UnaryOf e → Completes limit (print m.look d e) (UnaryStops (ending e)) (parser.unary_of v heads) e
+      by (prefixed k) = c_front limit (v.sub APrefix) (λ x w rest q g. prefix_first limit m d low v c prim heads x.lexeme (lexemes w ++ rest) (opens_first has_op (print m.look d e) x w (head_of rest) (prefixed_opens m d e k h) q)) (λ w n q. opens_some has_op (print m.look d e) w n (prefixed_opens m d e k h) q) (c.calls.prefix e k h)
+      by (left z) = let f = left_first m d e z h in operand_front heads (print m.look d e) (UnaryStops (ending e)) e f.0 (c_weaken limit (λ t g. record { tail = g.tail f.1; update = g.update f.1 }) (plain_update limit m d low v c prim heads e z h))
+      by (postfixed at op of q) = subst (λ y. Completes limit (print m.look d y) (UnaryStops (ending y)) (parser.unary_of v heads) y) (sym q) (postfix_by (subst (Proper m) q h))
         where
-          postfix_by : Proper m (tree.Update at op false of) → Completes limit (from at (print m d of) ++ glued_mark op d ∷ []) (UnaryStops Postfix) (parser.unary_of v heads) (tree.Update at op false of)
-          postfix_by k = operand_front heads (from at (print m d of) ++ glued_mark op d ∷ []) (UnaryStops Postfix) (tree.Update at op false of) (opens_append no_op (from at (print m d of)) (glued_mark op d ∷ []) (opens_from no_op at (print m d of) (left_first m d of k.1 k.2).0)) (c_weaken limit (λ t g. tt) (postfix_complete limit m d low v c prim heads at op of k.0 k.1 k.2))
+          postfix_by : Proper m (tree.Update at op false of) → Completes limit (from at (print m.look d of) ++ glued_mark op d ∷ []) (UnaryStops Postfix) (parser.unary_of v heads) (tree.Update at op false of)
+          postfix_by k = operand_front heads (from at (print m.look d of) ++ glued_mark op d ∷ []) (UnaryStops Postfix) (tree.Update at op false of) (opens_append no_op (from at (print m.look d of)) (glued_mark op d ∷ []) (opens_from no_op at (print m.look d of) (left_first m d of k.1 k.2).0)) (c_weaken limit (λ t g. tt) (postfix_complete limit m d low v c prim heads at op of k.0 k.1 k.2))
 
   -- a prefix operator and its operand
 
@@ -182,10 +183,10 @@ module _ (limit : ℕ) (m : Bodies) (d : ℕ) (low : d ≤ limit) (v : Env) (c :
   op_word op true = refl
   op_word op false = refl
 
-  pub unary_prefix : (at op : ℕ) (of : Expr) (w : Bool) → Proper m (tree.Unary at op of w) → Completes limit (placed (op_kind op w) at d ∷ print m d of) (UnaryStops (ending of)) (parser.prefix_of v) (tree.Unary at op of w)
+  pub unary_prefix : (at op : ℕ) (of : Expr) (w : Bool) → Proper m (tree.Unary at op of w) → Completes limit (placed (op_kind op w) at d ∷ print m.look d of) (UnaryStops (ending of)) (parser.prefix_of v) (tree.Unary at op of w)
   unary_prefix at op of w h = c_at limit (λ t. bind (parser.unary_of v false) (λ e. ret (tree.Unary t.start (mark_of t.kind) e (is_word_kind t.kind)))) low (λ t ts s. unary_here t ts (ap is_prefix s.kind ∙ prefix_kind op w h.0))
       (λ t s. c_value (ap (λ x. tree.Unary x (mark_of t.kind) of (is_word_kind t.kind)) s.starts.0 ∙ ap (λ x. tree.Unary at x of (is_word_kind t.kind)) (ap mark_of s.kind ∙ op_mark op w) ∙ ap (λ x. tree.Unary at op of x) (ap is_word_kind s.kind ∙ op_word op w)) (c_made limit (λ e. tree.Unary t.start (mark_of t.kind) e (is_word_kind t.kind)) (unary_complete false of h.1 h.2)))
 
-  pub update_prefix : (at op : ℕ) (of : Expr) → Proper m (tree.Update at op true of) → Completes limit (placed (kind.Mark op) at d ∷ print m d of) (UnaryStops (ending of)) (parser.prefix_of v) (tree.Update at op true of)
+  pub update_prefix : (at op : ℕ) (of : Expr) → Proper m (tree.Update at op true of) → Completes limit (placed (kind.Mark op) at d ∷ print m.look d of) (UnaryStops (ending of)) (parser.prefix_of v) (tree.Update at op true of)
   update_prefix at op of h = c_at limit (λ t. bind (parser.unary_of v false) (λ e. ret (tree.Update t.start (mark_of t.kind) true e))) low (λ t ts s. update_here t ts (ap is_prefix s.kind ∙ update_is (λ x. is_prefix (kind.Mark x) ≡ false) refl refl op h.0) (ap is_update s.kind ∙ h.0))
       (λ t s. c_value (ap (λ x. tree.Update x (mark_of t.kind) true of) s.starts.0 ∙ ap (λ x. tree.Update at x true of) (ap mark_of s.kind)) (c_made limit (λ e. tree.Update t.start (mark_of t.kind) true e) (unary_complete false of h.1 h.2)))

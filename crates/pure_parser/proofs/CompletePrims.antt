@@ -9,7 +9,7 @@ use Rattle.script_grammar.specs.Tree.{Named, Expr, Function, function, MaybeArgs
 use Rattle.script_grammar.specs.Tree as tree
 use Rattle.script_grammar.specs.Pieces.{Bodies}
 use Rattle.script_grammar.specs.Print.{print}
-use Rattle.script_grammar.specs.Proper.{rank, Proper, new_rank, are_member_tails}
+use Rattle.script_grammar.specs.Proper.{rank, new_rank, are_member_tails}
 use Rattle.pure_parser.specs.Parser.{Read, ret}
 use Rattle.pure_parser.specs.Exprs as parser
 use Rattle.pure_parser.specs.Exprs.{Env, atom_case}
@@ -21,6 +21,7 @@ use Rattle.pure_parser.proofs.CompleteObjects.{object_complete}
 use Rattle.pure_parser.proofs.CompleteFunctions.{func_complete}
 use Rattle.pure_parser.proofs.CompleteChains.{PrimComplete}
 use Rattle.pure_parser.proofs.CompleteParens.{paren_complete}
+use Rattle.pure_parser.proofs.ProperIn.{Mode, Proper}
 
 above_none : (b : Bool) → (if b then 2 else 4) ≤ 0 → ⊥
 above_none true h = omega (arith, h)
@@ -30,7 +31,7 @@ new_none : (a : MaybeArgs) → new_rank a ≤ 0 → ⊥
 new_none tree.no_args h = omega (arith, h)
 new_none (tree.some_args es comma) h = omega (arith, h)
 
-module _ (limit : ℕ) (m : Bodies) (d : ℕ) (low : d ≤ limit) (v : Env) (c : CompleteEnv limit m d v) (heads : Bool) where
+module _ (limit : ℕ) (m : Mode) (d : ℕ) (low : d ≤ limit) (v : Env) (c : CompleteEnv limit m d v) (heads : Bool) where
   name_at : (t : Lexeme) (ts : List Lexeme) → t.kind ≡ kind.Name → parser.prim_of v heads (t ∷ ts) ≡ Read (atom_case kind.Name t) [] ts
   unfolding parser.prim_of
   name_at t ts e = at_kind (λ u. parser.prim_of v heads (u ∷ ts) ≡ Read (atom_case kind.Name u) [] ts) kind.Name t e refl
@@ -83,7 +84,7 @@ module _ (limit : ℕ) (m : Bodies) (d : ℕ) (low : d ≤ limit) (v : Env) (c :
   unfolding parser.prim_of
   head_at t ts e = at_kind (λ u. parser.prim_of v heads (u ∷ ts) ≡ parser.template_of v u.start u.text ts) kind.TemplateHead t e refl
 
-  func_prim : (at : ℕ) (f : Function) → rank (tree.Func at f) ≤ 0 → Proper m (tree.Func at f) → Completes limit (print m d (tree.Func at f)) Any (parser.prim_of v heads) (tree.Func at f)
+  func_prim : (at : ℕ) (f : Function) → rank (tree.Func at f) ≤ 0 → Proper m (tree.Func at f) → Completes limit (print m.look d (tree.Func at f)) Any (parser.prim_of v heads) (tree.Func at f)
   func_prim at (function form.Function start end name ps comma false body) r h = c_at limit (λ t. parser.func_of v t.start) low (λ t ts s. func_at t ts s.kind) (λ t s. c_value (ap (λ x. tree.Func x (function form.Function start end name ps comma false body)) s.starts.0) (func_complete limit m d low v c t.start start end name ps comma body h.1))
   func_prim at (function form.Function start end name ps comma true body) r h = absurd h.1.2
   func_prim at (function form.Arrow start end name ps comma bare body) r h = absurd (omega (arith, r))
@@ -92,7 +93,7 @@ module _ (limit : ℕ) (m : Bodies) (d : ℕ) (low : d ≤ limit) (v : Env) (c :
   func_prim at (function form.Getter start end name ps comma bare body) r h = absurd h.0
   func_prim at (function form.Setter start end name ps comma bare body) r h = absurd h.0
 
-  pub prim_of_complete : (e : Expr) → rank e ≤ 0 → Proper m e → Completes limit (print m d e) Any (parser.prim_of v heads) e
+  pub prim_of_complete : (e : Expr) → rank e ≤ 0 → Proper m e → Completes limit (print m.look d e) Any (parser.prim_of v heads) e
   prim_of_complete (tree.This at) r h = c_at limit (λ t. ret (tree.This t.start)) low (λ t ts s. this_at t ts s.kind) (λ t s. c_value (ap tree.This s.starts.0) (c_ret limit (tree.This t.start)))
   prim_of_complete (tree.Name n) r h = c_at limit (λ t. ret (atom_case kind.Name t)) low (λ t ts s. name_at t ts s.kind) (λ t s. c_value (ap tree.Name (named_is n d t s.content s.starts.0)) (c_ret limit (atom_case kind.Name t)))
   prim_of_complete (tree.Null at) r h = c_at limit (λ t. ret (tree.Null t.start)) low (λ t ts s. null_at t ts s.kind) (λ t s. c_value (ap tree.Null s.starts.0) (c_ret limit (tree.Null t.start)))
@@ -115,5 +116,5 @@ module _ (limit : ℕ) (m : Bodies) (d : ℕ) (low : d ≤ limit) (v : Env) (c :
   prim_of_complete (tree.Assign op target value) r h = absurd (omega (arith, r))
   prim_of_complete (tree.Comma es) r h = absurd (omega (arith, r))
 
-pub prim_complete : (limit : ℕ) (m : Bodies) (d : ℕ) → d ≤ limit → (v : Env) → CompleteEnv limit m d v → PrimComplete limit m d v
+pub prim_complete : (limit : ℕ) (m : Mode) (d : ℕ) → d ≤ limit → (v : Env) → CompleteEnv limit m d v → PrimComplete limit m d v
 prim_complete limit m d low v c heads e r h = prim_of_complete limit m d low v c heads e r h

@@ -12,7 +12,7 @@ use Rattle.script_grammar.specs.TreeLists.{maybe_expr_of, maybe_stmt_of}
 use Rattle.script_grammar.specs.Pieces.{Bodies, Piece, At, Gap, Pass, Keyword, DoWhile, may_omit, mark_piece, word_piece, semi_piece, glue}
 use Rattle.script_grammar.specs.Endings.{ending, return_ending}
 use Rattle.script_grammar.specs.Print.{print, print_stmt, print_stmts, print_else, print_label, print_maybe}
-use Rattle.script_grammar.specs.Proper.{Proper, ProperOption, ProperStmt, ProperStmts, is_statement, takes_else}
+use Rattle.script_grammar.specs.Proper.{is_statement, takes_else}
 use Rattle.pure_parser.specs.Parser.{Read, Parser, head_of, ret, bad, bind, step, when}
 use Rattle.pure_parser.specs.Exprs.{expect, expr_of, named, begins_assign}
 use Rattle.pure_parser.specs.Stmts as parser
@@ -24,23 +24,24 @@ use Rattle.pure_parser.proofs.Completes.{Completes, of_kind, at_kind, lead_none,
 use Rattle.pure_parser.proofs.Stops.{omit_cases, stop_close}
 use Rattle.pure_parser.proofs.ExprFronts.{mark_elim, Opens, opens_first, opens_some, expr_opens}
 use Rattle.pure_parser.proofs.CompleteStmts.{Follows, CompleteBlock, c_value, follows_as, colon_word, semi_complete, semi_leads, expr_semi, braced_from_complete}
+use Rattle.pure_parser.proofs.ProperIn.{Mode, Proper, ProperOption, ProperStmt, ProperStmts}
 
-module _ (limit : ℕ) (m : Bodies) (d : ℕ) (low : d ≤ limit) (b : Block) (c : CompleteBlock limit m d b) (i : Bool) where
+module _ (limit : ℕ) (m : Mode) (d : ℕ) (low : d ≤ limit) (b : Block) (c : CompleteBlock limit m d b) (i : Bool) where
   -- an Expression in parentheses, and what is behind it
-  pub parens_complete : {F : Lexeme → Type 0} (e : Expr) → Proper m e → Completes limit (mark_piece mark.OPEN_PAREN d ∷ (print m (suc d) e ++ mark_piece mark.CLOSE_PAREN d ∷ [])) F (parser.parens_of b.exprs) e
+  pub parens_complete : {F : Lexeme → Type 0} (e : Expr) → Proper m e → Completes limit (mark_piece mark.OPEN_PAREN d ∷ (print m.look (suc d) e ++ mark_piece mark.CLOSE_PAREN d ∷ [])) F (parser.parens_of b.exprs) e
   unfolding parser.parens_of
   parens_complete e h = c_bind limit (λ _. bind (expr_of b.exprs true) (λ x. bind (expect mark.CLOSE_PAREN) (λ _. ret x))) (c_mark limit mark.OPEN_PAREN d low refl) lead_any
       (c_bind limit (λ x. bind (expect mark.CLOSE_PAREN) (λ _. ret x)) (c.uses.expr true e h refl) (lead_at (λ t s. stop_close true (ending e) t s.kind)) (c_made limit (λ _. e) (c_mark limit mark.CLOSE_PAREN d low refl)))
 
-  pub parens_then : {A : Type 0} {F : Lexeme → Type 0} (e : Expr) (qs : List Piece) (f : Expr → Parser A) (a : A) → Proper m e → Completes limit qs F (f e) a → Completes limit (mark_piece mark.OPEN_PAREN d ∷ (print m (suc d) e ++ (mark_piece mark.CLOSE_PAREN d ∷ qs))) F (bind (parser.parens_of b.exprs) f) a
-  parens_then e qs f a h k = c_pieces limit (ap (λ x. mark_piece mark.OPEN_PAREN d ∷ x) (append_assoc (print m (suc d) e) (mark_piece mark.CLOSE_PAREN d ∷ []) qs)) (c_bind limit f (parens_complete e h) lead_any k)
+  pub parens_then : {A : Type 0} {F : Lexeme → Type 0} (e : Expr) (qs : List Piece) (f : Expr → Parser A) (a : A) → Proper m e → Completes limit qs F (f e) a → Completes limit (mark_piece mark.OPEN_PAREN d ∷ (print m.look (suc d) e ++ (mark_piece mark.CLOSE_PAREN d ∷ qs))) F (bind (parser.parens_of b.exprs) f) a
+  parens_then e qs f a h k = c_pieces limit (ap (λ x. mark_piece mark.OPEN_PAREN d ∷ x) (append_assoc (print m.look (suc d) e) (mark_piece mark.CLOSE_PAREN d ∷ []) qs)) (c_bind limit f (parens_complete e h) lead_any k)
 
-  stmt : (s : Stmt) → ProperStmt m i s → is_statement s ≡ true → Completes limit (print_stmt m (suc d) s) (Follows s) (b.stmt (AStmt i)) s
+  stmt : (s : Stmt) → ProperStmt m i s → is_statement s ≡ true → Completes limit (print_stmt m.look (suc d) s) (Follows s) (b.stmt (AStmt i)) s
   stmt s h k = c.stmts.at (AStmt i) s h (λ _. k)
 
-  pub while_complete : (e : Expr) (s : Stmt) → ProperStmt m i (tree.While e s) → Completes limit (mark_piece mark.OPEN_PAREN d ∷ (print m (suc d) e ++ (mark_piece mark.CLOSE_PAREN d ∷ print_stmt m (suc d) s))) (Follows (tree.While e s)) (parser.while_of b i) (tree.While e s)
+  pub while_complete : (e : Expr) (s : Stmt) → ProperStmt m i (tree.While e s) → Completes limit (mark_piece mark.OPEN_PAREN d ∷ (print m.look (suc d) e ++ (mark_piece mark.CLOSE_PAREN d ∷ print_stmt m.look (suc d) s))) (Follows (tree.While e s)) (parser.while_of b i) (tree.While e s)
   unfolding parser.while_of
-  while_complete e s h = parens_then e (print_stmt m (suc d) s) (λ x. bind (b.stmt (AStmt i)) (λ y. ret (tree.While x y))) (tree.While e s) h.0 (c_made limit (tree.While e) (c_weaken limit (λ t g. follows_as refl t g) (stmt s h.2 h.1)))
+  while_complete e s h = parens_then e (print_stmt m.look (suc d) s) (λ x. bind (b.stmt (AStmt i)) (λ y. ret (tree.While x y))) (tree.While e s) h.0 (c_made limit (tree.While e) (c_weaken limit (λ t g. follows_as refl t g) (stmt s h.2 h.1)))
 
   -- `else`
 
@@ -60,26 +61,26 @@ module _ (limit : ℕ) (m : Bodies) (d : ℕ) (low : d ≤ limit) (b : Block) (c
   else_some true qs o h k = absurd (true_false h)
   else_some false qs o h k = k
 
-  pub if_complete : (e : Expr) (s : Stmt) (o : MaybeStmt) → ProperStmt m i (tree.If e s o) → Completes limit (mark_piece mark.OPEN_PAREN d ∷ (print m (suc d) e ++ (mark_piece mark.CLOSE_PAREN d ∷ (print_stmt m (suc d) s ++ print_else m d o)))) (Follows (tree.If e s o)) (parser.if_of b i) (tree.If e s o)
+  pub if_complete : (e : Expr) (s : Stmt) (o : MaybeStmt) → ProperStmt m i (tree.If e s o) → Completes limit (mark_piece mark.OPEN_PAREN d ∷ (print m.look (suc d) e ++ (mark_piece mark.CLOSE_PAREN d ∷ (print_stmt m.look (suc d) s ++ print_else m.look d o)))) (Follows (tree.If e s o)) (parser.if_of b i) (tree.If e s o)
   unfolding parser.if_of
-  if_complete e s no_stmt h = parens_then e (print_stmt m (suc d) s ++ []) (λ x. bind (b.stmt (AStmt i)) (λ y. bind (parser.else_behind b i y) (λ z. ret (tree.If x y (maybe_stmt_of z))))) (tree.If e s no_stmt) h.0
+  if_complete e s no_stmt h = parens_then e (print_stmt m.look (suc d) s ++ []) (λ x. bind (b.stmt (AStmt i)) (λ y. bind (parser.else_behind b i y) (λ z. ret (tree.If x y (maybe_stmt_of z))))) (tree.If e s no_stmt) h.0
       (c_bind limit (λ y. bind (parser.else_behind b i y) (λ z. ret (tree.If e y (maybe_stmt_of z)))) (stmt s h.2 h.1)
       (lead_map (λ t g. record { no_else = λ _. g.no_else refl; no_colon = g.no_colon }) lead_none)
       (c_made limit (λ z. tree.If e s (maybe_stmt_of z)) (c_look limit (λ rest g. else_none (takes_else s) rest (g.no_else refl)))))
-  if_complete e s (some_stmt x) h = parens_then e (print_stmt m (suc d) s ++ (word_piece word.ELSE d ∷ print_stmt m (suc d) x)) (λ x. bind (b.stmt (AStmt i)) (λ y. bind (parser.else_behind b i y) (λ z. ret (tree.If x y (maybe_stmt_of z))))) (tree.If e s (some_stmt x)) h.0
+  if_complete e s (some_stmt x) h = parens_then e (print_stmt m.look (suc d) s ++ (word_piece word.ELSE d ∷ print_stmt m.look (suc d) x)) (λ x. bind (b.stmt (AStmt i)) (λ y. bind (parser.else_behind b i y) (λ z. ret (tree.If x y (maybe_stmt_of z))))) (tree.If e s (some_stmt x)) h.0
       (c_bind limit (λ y. bind (parser.else_behind b i y) (λ z. ret (tree.If e y (maybe_stmt_of z)))) (stmt s h.2 h.1)
       (lead_at (λ t q. record { no_else = λ y. absurd (true_false (sym y ∙ h.3)); no_colon = colon_word word.ELSE t q.kind }))
-      (c_made limit (λ z. tree.If e s (maybe_stmt_of z)) (else_some (takes_else s) (word_piece word.ELSE d ∷ print_stmt m (suc d) x) (Some x) h.3
+      (c_made limit (λ z. tree.If e s (maybe_stmt_of z)) (else_some (takes_else s) (word_piece word.ELSE d ∷ print_stmt m.look (suc d) x) (Some x) h.3
       (c_at limit (λ t. bind (b.stmt (AStmt i)) (λ y. ret (Some y))) low (λ t ts q. else_here t ts q.kind) (λ t q. c_made limit Some (c_weaken limit (λ t g. follows_as refl t g) (stmt x h.4.1 h.4.0)))))))
 
-  pub do_complete : (s : Stmt) (e : Expr) (semi : Bool) → ProperStmt m i (tree.Do s e semi) → Completes limit (print_stmt m (suc d) s ++ (word_piece word.WHILE d ∷ mark_piece mark.OPEN_PAREN d ∷ (print m (suc d) e ++ (mark_piece mark.CLOSE_PAREN d ∷ semi_piece DoWhile semi d)))) (Follows (tree.Do s e semi)) (parser.do_of b i) (tree.Do s e semi)
+  pub do_complete : (s : Stmt) (e : Expr) (semi : Bool) → ProperStmt m i (tree.Do s e semi) → Completes limit (print_stmt m.look (suc d) s ++ (word_piece word.WHILE d ∷ mark_piece mark.OPEN_PAREN d ∷ (print m.look (suc d) e ++ (mark_piece mark.CLOSE_PAREN d ∷ semi_piece DoWhile semi d)))) (Follows (tree.Do s e semi)) (parser.do_of b i) (tree.Do s e semi)
   unfolding parser.do_of
   do_complete s e semi h = c_bind limit (λ y. bind (parser.expect_word word.WHILE) (λ _. bind (parser.parens_of b.exprs) (λ x. bind (parser.semi_of DoWhile) (λ z. ret (tree.Do y x z))))) (stmt s h.1 h.0)
       (lead_at (λ t q. record { no_else = λ _. ap (is_word word.ELSE) q.kind; no_colon = colon_word word.WHILE t q.kind }))
       (c_bind limit (λ _. bind (parser.parens_of b.exprs) (λ x. bind (parser.semi_of DoWhile) (λ z. ret (tree.Do s x z)))) (c_word limit word.WHILE d low refl) lead_any
       (parens_then e (semi_piece DoWhile semi d) (λ x. bind (parser.semi_of DoWhile) (λ z. ret (tree.Do s x z))) (tree.Do s e semi) h.2 (c_made limit (tree.Do s e) (semi_complete limit m d low DoWhile semi))))
 
-  pub block_complete : {F : Lexeme → Type 0} (ss : Stmts) → ProperStmts m i ss → Completes limit (print_stmts m d ss ++ mark_piece mark.CLOSE_BRACE d ∷ []) F (parser.block_stmt b i) (tree.Block ss)
+  pub block_complete : {F : Lexeme → Type 0} (ss : Stmts) → ProperStmts m i ss → Completes limit (print_stmts m.look d ss ++ mark_piece mark.CLOSE_BRACE d ∷ []) F (parser.block_stmt b i) (tree.Block ss)
   unfolding parser.block_stmt
   block_complete ss h = c_made limit tree.Block (braced_from_complete limit m d low b.stmt c.stmts i ss h)
 
@@ -161,10 +162,10 @@ module _ (limit : ℕ) (m : Bodies) (d : ℕ) (low : d ≤ limit) (b : Block) (c
   unfolding parser.thrown_of
   thrown_here t ts l = ap (λ x. when x bad (expr_of b.exprs true) (t ∷ ts)) l
 
-  pub throw_complete : {F : Lexeme → Type 0} (e : Expr) (semi : Bool) → Proper m e → Completes limit (glue (print m (suc d) e) ++ semi_piece (ending e) semi d) F (parser.throw_of b.exprs) (tree.Throw e semi)
+  pub throw_complete : {F : Lexeme → Type 0} (e : Expr) (semi : Bool) → Proper m e → Completes limit (glue (print m.look (suc d) e) ++ semi_piece (ending e) semi d) F (parser.throw_of b.exprs) (tree.Throw e semi)
   unfolding parser.throw_of
   throw_complete e semi h = c_bind limit (λ x. bind (parser.semi_of (ending x)) (λ z. ret (tree.Throw x z)))
-      (c_front limit (expr_of b.exprs true) (λ x w rest k g. thrown_here x.lexeme (lexemes w ++ rest) (glue_line begins_assign (print m (suc d) e) x w (head_of rest) (expr_opens m (suc d) e h) k)) (λ w n k. glue_some begins_assign (print m (suc d) e) w n (expr_opens m (suc d) e h) k) (c_glue (print m (suc d) e) (expr_of b.exprs true) e (c.uses.expr true e h refl)))
+      (c_front limit (expr_of b.exprs true) (λ x w rest k g. thrown_here x.lexeme (lexemes w ++ rest) (glue_line begins_assign (print m.look (suc d) e) x w (head_of rest) (expr_opens m (suc d) e h) k)) (λ w n k. glue_some begins_assign (print m.look (suc d) e) w n (expr_opens m (suc d) e h) k) (c_glue (print m.look (suc d) e) (expr_of b.exprs true) e (c.uses.expr true e h refl)))
       (expr_semi limit m d low e semi)
       (c_made limit (tree.Throw e) (semi_complete limit m d low (ending e) semi))
 
@@ -203,7 +204,7 @@ module _ (limit : ℕ) (m : Bodies) (d : ℕ) (low : d ≤ limit) (b : Block) (c
   semi_returns : (t : Lexeme) → t.kind ≡ kind.Mark mark.SEMICOLON → parser.ends_return t ≡ true
   semi_returns t e = or_left (t.after_line || is_mark mark.SEMICOLON t.kind || is_mark mark.CLOSE_BRACE t.kind) (is_end t.kind) (or_left (t.after_line || is_mark mark.SEMICOLON t.kind) (is_mark mark.CLOSE_BRACE t.kind) (or_right t.after_line (is_mark mark.SEMICOLON t.kind) (ap (is_mark mark.SEMICOLON) e)))
 
-  pub return_complete : {F : Lexeme → Type 0} (o : MaybeExpr) (semi : Bool) → ProperOption m o → Completes limit (glue (print_maybe m (suc d) o) ++ semi_piece (return_ending o) semi d) F (parser.return_of b.exprs) (tree.Return o semi)
+  pub return_complete : {F : Lexeme → Type 0} (o : MaybeExpr) (semi : Bool) → ProperOption m o → Completes limit (glue (print_maybe m.look (suc d) o) ++ semi_piece (return_ending o) semi d) F (parser.return_of b.exprs) (tree.Return o semi)
   unfolding parser.return_of
   return_complete no_expr semi h = c_bind limit (λ x. bind (parser.semi_of (return_ending (maybe_expr_of x))) (λ z. ret (tree.Return (maybe_expr_of x) z)))
       (c_look limit {F = λ t. parser.ends_return t ≡ true} returned_none)
@@ -211,8 +212,8 @@ module _ (limit : ℕ) (m : Bodies) (d : ℕ) (low : d ≤ limit) (b : Block) (c
       (c_made limit (tree.Return no_expr) (semi_complete limit m d low Keyword semi))
   return_complete (some_expr e) semi h = c_bind limit (λ x. bind (parser.semi_of (return_ending (maybe_expr_of x))) (λ z. ret (tree.Return (maybe_expr_of x) z)))
       (c_front limit (bind (expr_of b.exprs true) (λ x. ret (Some x)))
-      (λ x w rest k g. returned_here x.lexeme (lexemes w ++ rest) (none_of x.lexeme.after_line (is_mark mark.SEMICOLON x.lexeme.kind) (is_mark mark.CLOSE_BRACE x.lexeme.kind) (is_end x.lexeme.kind) (glue_line begins_assign (print m (suc d) e) x w (head_of rest) (expr_opens m (suc d) e h) k) (goes_value x.lexeme.kind (opens_first begins_assign (print m (suc d) e) x w (head_of rest) (expr_opens m (suc d) e h) (glue_stands (print m (suc d) e) (x ∷ w) (head_of rest) k)))))
-      (λ w n k. glue_some begins_assign (print m (suc d) e) w n (expr_opens m (suc d) e h) k)
-      (c_glue (print m (suc d) e) (bind (expr_of b.exprs true) (λ x. ret (Some x))) (Some e) (c_made limit Some (c.uses.expr true e h refl))))
+      (λ x w rest k g. returned_here x.lexeme (lexemes w ++ rest) (none_of x.lexeme.after_line (is_mark mark.SEMICOLON x.lexeme.kind) (is_mark mark.CLOSE_BRACE x.lexeme.kind) (is_end x.lexeme.kind) (glue_line begins_assign (print m.look (suc d) e) x w (head_of rest) (expr_opens m (suc d) e h) k) (goes_value x.lexeme.kind (opens_first begins_assign (print m.look (suc d) e) x w (head_of rest) (expr_opens m (suc d) e h) (glue_stands (print m.look (suc d) e) (x ∷ w) (head_of rest) k)))))
+      (λ w n k. glue_some begins_assign (print m.look (suc d) e) w n (expr_opens m (suc d) e h) k)
+      (c_glue (print m.look (suc d) e) (bind (expr_of b.exprs true) (λ x. ret (Some x))) (Some e) (c_made limit Some (c.uses.expr true e h refl))))
       (expr_semi limit m d low e semi)
       (c_made limit (tree.Return (some_expr e)) (semi_complete limit m d low (ending e) semi))

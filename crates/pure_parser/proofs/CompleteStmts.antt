@@ -13,7 +13,7 @@ use Rattle.script_grammar.specs.TreeLists.{stmts_of}
 use Rattle.script_grammar.specs.Pieces.{Bodies, Piece, Ending, may_omit, mark_piece, name_piece, semi_piece}
 use Rattle.script_grammar.specs.Endings.{ending}
 use Rattle.script_grammar.specs.Print.{print, print_stmt, print_stmts, print_function}
-use Rattle.script_grammar.specs.Proper.{rank, Proper, ProperStmt, ProperStmts, ProperFunction, is_statement, takes_else, free_of_in, InIf, assign_rank}
+use Rattle.script_grammar.specs.Proper.{rank, is_statement, takes_else, free_of_in, InIf, assign_rank}
 use Rattle.script_grammar.specs.Script.{IsOf}
 use Rattle.pure_parser.specs.Parser.{Read, Parser, head_of, ret, bad, bind, step, when, Again, Stop}
 use Rattle.pure_parser.specs.Exprs.{Env, AnAssign, expect, expr_of, name_of, named, function_of}
@@ -29,6 +29,7 @@ use Rattle.pure_parser.proofs.CompleteLoops.{c_loop, LastLeads}
 use Rattle.pure_parser.proofs.Stops.{stop_semi, omit_stops, ends_expr}
 use Rattle.pure_parser.proofs.ExprFronts.{opens_first, opens_some}
 use Rattle.pure_parser.proofs.StmtFronts.{starts, stmt_opens}
+use Rattle.pure_parser.proofs.ProperIn.{Mode, Proper, ProperFunction, ProperStmt, ProperStmts}
 
 -- What may follow a statement: no `else` that it would take, and no colon.
 pub record Follows (s : Stmt) (t : Lexeme) : Type 0 where
@@ -39,15 +40,15 @@ pub record Follows (s : Stmt) (t : Lexeme) : Type 0 where
 abbrev pub EndsList : Lexeme → Type 0
 EndsList t = ends_items t.kind ≡ true
 
-pub record CompleteUses (limit : ℕ) (m : Bodies) (d : ℕ) (v : Env) : Type 0 where
-  pub expr : (w : Bool) (e : Expr) → Proper m e → InIf w (free_of_in e) → Completes limit (print m (suc d) e) (λ t. continues_expr w (ending e) t ≡ false) (expr_of v w) e
-  pub assign : (w : Bool) (e : Expr) → rank e ≤ assign_rank → Proper m e → InIf w (free_of_in e) → Completes limit (print m (suc d) e) (λ t. continues_assign w (ending e) t ≡ false) (v.sub (AnAssign w)) e
-  pub function : (n : Named) (g : Function) → IsOf form.Function (Some n) g → ProperFunction m g → Completes limit (print_function m d g) Any (function_of v form.Function (Some n)) g
+pub record CompleteUses (limit : ℕ) (m : Mode) (d : ℕ) (v : Env) : Type 0 where
+  pub expr : (w : Bool) (e : Expr) → Proper m e → InIf w (free_of_in e) → Completes limit (print m.look (suc d) e) (λ t. continues_expr w (ending e) t ≡ false) (expr_of v w) e
+  pub assign : (w : Bool) (e : Expr) → rank e ≤ assign_rank → Proper m e → InIf w (free_of_in e) → Completes limit (print m.look (suc d) e) (λ t. continues_assign w (ending e) t ≡ false) (v.sub (AnAssign w)) e
+  pub function : (n : Named) (g : Function) → IsOf form.Function (Some n) g → ProperFunction m g → Completes limit (print_function m.look d g) Any (function_of v form.Function (Some n)) g
 
-pub record CompleteStmts (limit : ℕ) (m : Bodies) (d : ℕ) (stmt : StmtCalls) : Type 0 where
-  pub at : (p : Place) (s : Stmt) → ProperStmt m (is_inside p) s → (is_item p ≡ false → is_statement s ≡ true) → Completes limit (print_stmt m (suc d) s) (Follows s) (stmt p) s
+pub record CompleteStmts (limit : ℕ) (m : Mode) (d : ℕ) (stmt : StmtCalls) : Type 0 where
+  pub at : (p : Place) (s : Stmt) → ProperStmt m (is_inside p) s → (is_item p ≡ false → is_statement s ≡ true) → Completes limit (print_stmt m.look (suc d) s) (Follows s) (stmt p) s
 
-pub record CompleteBlock (limit : ℕ) (m : Bodies) (d : ℕ) (b : Block) : Type 0 where
+pub record CompleteBlock (limit : ℕ) (m : Mode) (d : ℕ) (b : Block) : Type 0 where
   pub uses : CompleteUses limit m d b.exprs
   pub stmts : CompleteStmts limit m d b.stmt
   pub label : (n : Named) → Completes limit (name_piece n (suc d) ∷ []) Any b.label n
@@ -74,7 +75,7 @@ pub of_list : (ss : Stmts) → stmts_of (list_of ss) ≡ ss
 of_list no_stmts = refl
 of_list (more_stmts s ss) = ap (more_stmts s) (of_list ss)
 
-module _ (limit : ℕ) (m : Bodies) (d : ℕ) (low : d ≤ limit) where
+module _ (limit : ℕ) (m : Mode) (d : ℕ) (low : d ≤ limit) where
   -- a semicolon
 
   semi_here : (e : Ending) (t : Lexeme) (ts : List Lexeme) → t.kind ≡ kind.Mark mark.SEMICOLON → parser.semi_of e (t ∷ ts) ≡ Read true [] ts
@@ -112,9 +113,9 @@ module _ (limit : ℕ) (m : Bodies) (d : ℕ) (low : d ≤ limit) where
 
   -- lists of statements
 
-  flat_stmts : (ss : Stmts) → flat (λ s. print_stmt m (suc d) s) (list_of ss) ++ [] ≡ print_stmts m d ss
+  flat_stmts : (ss : Stmts) → flat (λ s. print_stmt m.look (suc d) s) (list_of ss) ++ [] ≡ print_stmts m.look d ss
   flat_stmts no_stmts = refl
-  flat_stmts (more_stmts s ss) = append_assoc (print_stmt m (suc d) s) (flat (λ s. print_stmt m (suc d) s) (list_of ss)) [] ∙ ap (λ x. print_stmt m (suc d) s ++ x) (flat_stmts ss)
+  flat_stmts (more_stmts s ss) = append_assoc (print_stmt m.look (suc d) s) (flat (λ s. print_stmt m.look (suc d) s) (list_of ss)) [] ∙ ap (λ x. print_stmt m.look (suc d) s ++ x) (flat_stmts ss)
 
   all_stmts : (i : Bool) (ss : Stmts) → ProperStmts m i ss → AllK (λ s. ProperStmt m i s) (list_of ss)
   all_stmts i no_stmts h = tt
@@ -143,12 +144,12 @@ module _ (limit : ℕ) (m : Bodies) (d : ℕ) (low : d ≤ limit) where
       by : (k : Kind) → t.kind ≡ k → is_word word.ELSE k ≡ false → is_mark mark.COLON k ≡ false → Follows s t
       by k e a c = record { no_else = λ _. ap (is_word word.ELSE) e ∙ a; no_colon = ap (is_mark mark.COLON) e ∙ c }
 
-  stmt_some : (i : Bool) (s : Stmt) → ProperStmt m i s → (w : List Marked) (n : Lexeme) → Stands (print_stmt m (suc d) s) w n → 0 < length (lexemes w)
-  stmt_some i s k w n h = opens_some starts (print_stmt m (suc d) s) w n (stmt_opens m (suc d) i s k) h
+  stmt_some : (i : Bool) (s : Stmt) → ProperStmt m i s → (w : List Marked) (n : Lexeme) → Stands (print_stmt m.look (suc d) s) w n → 0 < length (lexemes w)
+  stmt_some i s k w n h = opens_some starts (print_stmt m.look (suc d) s) w n (stmt_opens m (suc d) i s k) h
 
-  stmt_first : (i : Bool) (s : Stmt) → ProperStmt m i s → (w : List Marked) (n : Lexeme) → Stands (print_stmt m (suc d) s) w n → starts (first_of (lexemes w) n).kind ≡ true
+  stmt_first : (i : Bool) (s : Stmt) → ProperStmt m i s → (w : List Marked) (n : Lexeme) → Stands (print_stmt m.look (suc d) s) w n → starts (first_of (lexemes w) n).kind ≡ true
   stmt_first i s k [] n h = absurd (omega (arith, stmt_some i s k [] n h))
-  stmt_first i s k (x ∷ w) n h = opens_first starts (print_stmt m (suc d) s) x w n (stmt_opens m (suc d) i s k) h
+  stmt_first i s k (x ∷ w) n h = opens_first starts (print_stmt m.look (suc d) s) x w n (stmt_opens m (suc d) i s k) h
 
   module _ (stmt : StmtCalls) (c : CompleteStmts limit m d stmt) where
     item_at : (i : Bool) (t : Lexeme) (ts : List Lexeme) → ends_items t.kind ≡ false → parser.stmt_turn stmt i (t ∷ ts) ≡ bind (stmt (AnItem i)) (λ s. ret (Again s)) (t ∷ ts)
@@ -159,26 +160,26 @@ module _ (limit : ℕ) (m : Bodies) (d : ℕ) (low : d ≤ limit) where
     unfolding parser.stmt_turn
     list_ends i rest h = ap (λ b. bare (when b (ret (Stop tt)) (bind (stmt (AnItem i)) (λ s. ret (Again s))) rest)) h
 
-    item_complete : (i : Bool) (s : Stmt) → ProperStmt m i s → Completes limit (print_stmt m (suc d) s) (Follows s) (parser.stmt_turn stmt i) (Again s)
-    item_complete i s k = c_front limit (bind (stmt (AnItem i)) (λ s. ret (Again s))) (λ x w rest h g. item_at i x.lexeme (lexemes w ++ rest) (starts_goes x.lexeme.kind (opens_first starts (print_stmt m (suc d) s) x w (head_of rest) (stmt_opens m (suc d) i s k) h))) (stmt_some i s k) (c_made limit Again (c.at (AnItem i) s k (λ e. absurd (true_false e))))
+    item_complete : (i : Bool) (s : Stmt) → ProperStmt m i s → Completes limit (print_stmt m.look (suc d) s) (Follows s) (parser.stmt_turn stmt i) (Again s)
+    item_complete i s k = c_front limit (bind (stmt (AnItem i)) (λ s. ret (Again s))) (λ x w rest h g. item_at i x.lexeme (lexemes w ++ rest) (starts_goes x.lexeme.kind (opens_first starts (print_stmt m.look (suc d) s) x w (head_of rest) (stmt_opens m (suc d) i s k) h))) (stmt_some i s k) (c_made limit Again (c.at (AnItem i) s k (λ e. absurd (true_false e))))
 
-    last_leads : (i : Bool) (xs : List Stmt) → LastLeads limit (λ s. ProperStmt m i s) (λ s. print_stmt m (suc d) s) Follows [] EndsList tt (parser.stmt_turn stmt i) (item_complete i) (stmt_some i) (λ x y kx ky w n h. starts_follows x (first_of (lexemes w) n) (stmt_first i y ky w n h)) (c_look limit (list_ends i)) xs
+    last_leads : (i : Bool) (xs : List Stmt) → LastLeads limit (λ s. ProperStmt m i s) (λ s. print_stmt m.look (suc d) s) Follows [] EndsList tt (parser.stmt_turn stmt i) (item_complete i) (stmt_some i) (λ x y kx ky w n h. starts_follows x (first_of (lexemes w) n) (stmt_first i y ky w n h)) (c_look limit (list_ends i)) xs
     last_leads i [] = tt
     last_leads i (x ∷ []) = lead_map (λ t h. ends_follows x t h) lead_none
     last_leads i (x ∷ y ∷ xs) = last_leads i (y ∷ xs)
 
-    pub stmts_complete : (i : Bool) (ss : Stmts) → ProperStmts m i ss → Completes limit (print_stmts m d ss) EndsList (parser.stmts_from stmt i) (list_of ss)
+    pub stmts_complete : (i : Bool) (ss : Stmts) → ProperStmts m i ss → Completes limit (print_stmts m.look d ss) EndsList (parser.stmts_from stmt i) (list_of ss)
     unfolding parser.stmts_from
-    stmts_complete i ss h = c_made limit (λ x. x.items) (c_pieces limit (flat_stmts ss) (c_loop limit (λ s. ProperStmt m i s) (λ s. print_stmt m (suc d) s) Follows [] EndsList tt (parser.stmt_turn stmt i) (item_complete i) (stmt_some i) (λ x y kx ky w n h. starts_follows x (first_of (lexemes w) n) (stmt_first i y ky w n h)) (c_look limit (list_ends i)) (list_of ss) (all_stmts i ss h) (last_leads i (list_of ss))))
+    stmts_complete i ss h = c_made limit (λ x. x.items) (c_pieces limit (flat_stmts ss) (c_loop limit (λ s. ProperStmt m i s) (λ s. print_stmt m.look (suc d) s) Follows [] EndsList tt (parser.stmt_turn stmt i) (item_complete i) (stmt_some i) (λ x y kx ky w n h. starts_follows x (first_of (lexemes w) n) (stmt_first i y ky w n h)) (c_look limit (list_ends i)) (list_of ss) (all_stmts i ss h) (last_leads i (list_of ss))))
 
     closing : {G : Lexeme → Type 0} → Leads (mark_piece mark.CLOSE_BRACE d ∷ []) G EndsList
     closing = lead_at (λ t s. at_kind EndsList (kind.Mark mark.CLOSE_BRACE) t s.kind refl)
 
     -- behind the first brace
-    pub braced_from_complete : {F : Lexeme → Type 0} (i : Bool) (ss : Stmts) → ProperStmts m i ss → Completes limit (print_stmts m d ss ++ mark_piece mark.CLOSE_BRACE d ∷ []) F (parser.braced_from stmt i) ss
+    pub braced_from_complete : {F : Lexeme → Type 0} (i : Bool) (ss : Stmts) → ProperStmts m i ss → Completes limit (print_stmts m.look d ss ++ mark_piece mark.CLOSE_BRACE d ∷ []) F (parser.braced_from stmt i) ss
     unfolding parser.braced_from
     braced_from_complete i ss h = c_value (of_list ss) (c_bind limit (λ xs. bind (expect mark.CLOSE_BRACE) (λ _. ret (stmts_of xs))) (stmts_complete i ss h) closing (c_made limit (λ _. stmts_of (list_of ss)) (c_mark limit mark.CLOSE_BRACE d low refl)))
 
-    pub braced_complete : {F : Lexeme → Type 0} (i : Bool) (ss : Stmts) → ProperStmts m i ss → Completes limit (mark_piece mark.OPEN_BRACE d ∷ (print_stmts m d ss ++ mark_piece mark.CLOSE_BRACE d ∷ [])) F (parser.braced_of stmt i) ss
+    pub braced_complete : {F : Lexeme → Type 0} (i : Bool) (ss : Stmts) → ProperStmts m i ss → Completes limit (mark_piece mark.OPEN_BRACE d ∷ (print_stmts m.look d ss ++ mark_piece mark.CLOSE_BRACE d ∷ [])) F (parser.braced_of stmt i) ss
     unfolding parser.braced_of
     braced_complete i ss h = c_bind limit (λ _. parser.braced_from stmt i) (c_mark limit mark.OPEN_BRACE d low refl) lead_any (braced_from_complete i ss h)

@@ -11,7 +11,6 @@ use Rattle.script_grammar.specs.TreeLists.{maybe_expr_of, stmts_of}
 use Rattle.script_grammar.specs.Pieces.{Bodies, Piece, mark_piece, word_piece, name_piece}
 use Rattle.script_grammar.specs.Endings.{ending}
 use Rattle.script_grammar.specs.Print.{print, print_stmts, print_catch_param}
-use Rattle.script_grammar.specs.Proper.{Proper, ProperStmt, ProperStmts}
 use Rattle.pure_parser.specs.Parser.{Read, Parser, head_of, ret, bind, step, when, Turn, Again, Stop, loop}
 use Rattle.pure_parser.specs.Exprs.{expect, again}
 use Rattle.pure_parser.specs.Stmts as parser
@@ -26,10 +25,11 @@ use Rattle.script_grammar.specs.Tree.{Clauses}
 use Rattle.script_grammar.specs.Tree.{no_clauses, more_clauses}
 use Rattle.script_grammar.specs.TreeLists.{Clause, clauses_of}
 use Rattle.script_grammar.specs.Print.{print_clauses, print_test}
-use Rattle.script_grammar.specs.Proper.{ProperClauses, defaults}
+use Rattle.script_grammar.specs.Proper.{defaults}
 use Rattle.pure_parser.proofs.CompleteLoops.{LastLeads}
 use Rattle.pure_parser.proofs.CompleteStmts.{EndsList, CompleteBlock, c_value, name_complete, stmts_complete, braced_complete, list_of, of_list}
 use Rattle.pure_parser.proofs.CompleteSimple.{parens_then}
+use Rattle.pure_parser.proofs.ProperIn.{Mode, Proper, ProperClauses, ProperStmt, ProperStmts}
 
 -- clauses up to a default, and those behind it
 
@@ -57,9 +57,9 @@ no_defaults no_clauses h = tt
 no_defaults (more_clauses no_expr items cs) h = absurd (omega (arith, h))
 no_defaults (more_clauses (some_expr e) items cs) h = no_defaults cs h
 
-module _ (limit : ℕ) (m : Bodies) (d : ℕ) (low : d ≤ limit) (b : Block) (c : CompleteBlock limit m d b) (i : Bool) where
+module _ (limit : ℕ) (m : Mode) (d : ℕ) (low : d ≤ limit) (b : Block) (c : CompleteBlock limit m d b) (i : Bool) where
   abbrev clause_pieces : Clause → List Piece
-  clause_pieces x = print_test m d (maybe_expr_of x.test) ++ (mark_piece mark.COLON d ∷ print_stmts m d (stmts_of x.items))
+  clause_pieces x = print_test m.look d (maybe_expr_of x.test) ++ (mark_piece mark.COLON d ∷ print_stmts m.look d (stmts_of x.items))
 
   abbrev IsCase : Clause → Type 0
   IsCase x = (e : Expr) × (ss : Stmts) × (x ≡ one_case e ss) × Proper m e × ProperStmts m i ss
@@ -68,13 +68,13 @@ module _ (limit : ℕ) (m : Bodies) (d : ℕ) (low : d ≤ limit) (b : Block) (c
   abbrev ClauseFollow : Clause → Lexeme → Type 0
   ClauseFollow x t = EndsList t
 
-  case_complete : (e : Expr) (ss : Stmts) → Proper m e → ProperStmts m i ss → Completes limit (print m (suc d) e ++ (mark_piece mark.COLON d ∷ print_stmts m d ss)) EndsList (parser.case_of b i) (one_case e ss)
+  case_complete : (e : Expr) (ss : Stmts) → Proper m e → ProperStmts m i ss → Completes limit (print m.look (suc d) e ++ (mark_piece mark.COLON d ∷ print_stmts m.look d ss)) EndsList (parser.case_of b i) (one_case e ss)
   unfolding parser.case_of
   case_complete e ss h k = c_bind limit (λ x. bind (expect mark.COLON) (λ _. bind (parser.stmts_from b.stmt i) (λ ys. ret (parser.clause (Some x) ys)))) (c.uses.expr true e h refl) (lead_at (λ t q. stop_colon true (ending e) t q.kind))
       (c_bind limit (λ _. bind (parser.stmts_from b.stmt i) (λ ys. ret (parser.clause (Some e) ys))) (c_mark limit mark.COLON d low refl) lead_any
       (c_made limit (parser.clause (Some e)) (stmts_complete limit m d low b.stmt c.stmts i ss k)))
 
-  default_complete : (ss : Stmts) → ProperStmts m i ss → Completes limit (mark_piece mark.COLON d ∷ print_stmts m d ss) EndsList (parser.default_of b i) (parser.clause None (list_of ss))
+  default_complete : (ss : Stmts) → ProperStmts m i ss → Completes limit (mark_piece mark.COLON d ∷ print_stmts m.look d ss) EndsList (parser.default_of b i) (parser.clause None (list_of ss))
   unfolding parser.default_of
   default_complete ss k = c_bind limit (λ _. bind (parser.stmts_from b.stmt i) (λ ys. ret (parser.clause None ys))) (c_mark limit mark.COLON d low refl) lead_any
       (c_made limit (parser.clause None) (stmts_complete limit m d low b.stmt c.stmts i ss k))
@@ -111,8 +111,8 @@ module _ (limit : ℕ) (m : Bodies) (d : ℕ) (low : d ≤ limit) (b : Block) (c
   default_list : (t : Lexeme) → t.kind ≡ kind.Word word.DEFAULT → EndsList t
   default_list t e = at_kind EndsList (kind.Word word.DEFAULT) t e refl
 
-  pieces_case : (e : Expr) (ss : Stmts) → clause_pieces (one_case e ss) ≡ word_piece word.CASE d ∷ (print m (suc d) e ++ (mark_piece mark.COLON d ∷ print_stmts m d ss))
-  pieces_case e ss = ap (λ x. word_piece word.CASE d ∷ (print m (suc d) e ++ (mark_piece mark.COLON d ∷ print_stmts m d x))) (of_list ss)
+  pieces_case : (e : Expr) (ss : Stmts) → clause_pieces (one_case e ss) ≡ word_piece word.CASE d ∷ (print m.look (suc d) e ++ (mark_piece mark.COLON d ∷ print_stmts m.look d ss))
+  pieces_case e ss = ap (λ x. word_piece word.CASE d ∷ (print m.look (suc d) e ++ (mark_piece mark.COLON d ∷ print_stmts m.look d x))) (of_list ss)
 
   c_case : (x : Clause) → IsCase x → Completes limit (clause_pieces x) (ClauseFollow x) (parser.case_turn b i) (Again x)
   c_case x k = subst (λ y. Completes limit (clause_pieces y) EndsList (parser.case_turn b i) (Again y)) (sym k.2) (c_pieces limit (sym (pieces_case k.0 k.1)) (c_at limit (λ t. bind (parser.case_of b i) (again {A = Clause} {B = Unit {0}})) low (λ t ts q. case_here t ts q.kind) (λ t q. c_made limit Again (case_complete k.0 k.1 k.3 k.4))))
@@ -140,19 +140,19 @@ module _ (limit : ℕ) (m : Bodies) (d : ℕ) (low : d ≤ limit) (b : Block) (c
   all_cases (more_clauses no_expr items cs) a h = absurd a
   all_cases (more_clauses (some_expr e) items cs) a h = ((e, items, refl, h.0, h.1), all_cases cs a h.2)
 
-  flat_cases : (cs : Clauses) (qs : List Piece) → AllCases cs → flat clause_pieces (cases_of cs) ++ qs ≡ print_clauses m d cs ++ qs
+  flat_cases : (cs : Clauses) (qs : List Piece) → AllCases cs → flat clause_pieces (cases_of cs) ++ qs ≡ print_clauses m.look d cs ++ qs
   flat_cases no_clauses qs a = refl
   flat_cases (more_clauses no_expr items cs) qs a = absurd a
   flat_cases (more_clauses (some_expr e) items cs) qs a =
       append_assoc (clause_pieces (one_case e items)) (flat clause_pieces (cases_of cs)) qs
       ∙ ap (λ x. clause_pieces (one_case e items) ++ x) (flat_cases cs qs a)
-      ∙ ap (λ x. x ++ (print_clauses m d cs ++ qs)) (pieces_case e items)
-      ∙ append_assoc (print_test m d (some_expr e)) (mark_piece mark.COLON d ∷ print_stmts m d items) (print_clauses m d cs ++ qs)
-      ∙ ap (λ x. print_test m d (some_expr e) ++ (mark_piece mark.COLON d ∷ x)) (sym (append_assoc (print_stmts m d items) (print_clauses m d cs) qs))
-      ∙ sym (append_assoc (print_test m d (some_expr e)) (mark_piece mark.COLON d ∷ (print_stmts m d items ++ print_clauses m d cs)) qs)
+      ∙ ap (λ x. x ++ (print_clauses m.look d cs ++ qs)) (pieces_case e items)
+      ∙ append_assoc (print_test m.look d (some_expr e)) (mark_piece mark.COLON d ∷ print_stmts m.look d items) (print_clauses m.look d cs ++ qs)
+      ∙ ap (λ x. print_test m.look d (some_expr e) ++ (mark_piece mark.COLON d ∷ x)) (sym (append_assoc (print_stmts m.look d items) (print_clauses m.look d cs) qs))
+      ∙ sym (append_assoc (print_test m.look d (some_expr e)) (mark_piece mark.COLON d ∷ (print_stmts m.look d items ++ print_clauses m.look d cs)) qs)
 
   -- cases behind the default
-  behind_complete : (cs : Clauses) → AllCases cs → ProperClauses m i cs → Completes limit (print_clauses m d cs ++ []) Closes (loop (parser.case_turn b i)) (record { items = cases_of cs; last = tt })
+  behind_complete : (cs : Clauses) → AllCases cs → ProperClauses m i cs → Completes limit (print_clauses m.look d cs ++ []) Closes (loop (parser.case_turn b i)) (record { items = cases_of cs; last = tt })
   behind_complete cs a h = c_pieces limit (flat_cases cs [] a) (c_loop limit IsCase clause_pieces ClauseFollow [] Closes tt (parser.case_turn b i) c_case clause_some clause_link (c_look limit cases_end) (cases_of cs) (all_cases cs a h) (last_lead [] Closes tt (parser.case_turn b i) c_case (c_look limit cases_end) (lead_map closes_list lead_none) (cases_of cs)))
 
   -- The clauses: cases, and where there is one the default and the cases behind it.
@@ -165,7 +165,7 @@ module _ (limit : ℕ) (m : Bodies) (d : ℕ) (low : d ≤ limit) (b : Block) (c
     proper_front : ProperClauses m i front
     proper_items : ProperStmts m i items
     proper_back : ProperClauses m i back
-    pieces : print_clauses m d cs ≡ print_clauses m d front ++ (word_piece word.DEFAULT d ∷ ((mark_piece mark.COLON d ∷ print_stmts m d items) ++ (print_clauses m d back ++ [])))
+    pieces : print_clauses m.look d cs ≡ print_clauses m.look d front ++ (word_piece word.DEFAULT d ∷ ((mark_piece mark.COLON d ∷ print_stmts m.look d items) ++ (print_clauses m.look d back ++ [])))
     list : cases_of cs ≡ cases_of front ++ parser.clause None (list_of items) ∷ cases_of back
 
   data Shape (cs : Clauses) : Type 0 where
@@ -183,9 +183,9 @@ module _ (limit : ℕ) (m : Bodies) (d : ℕ) (low : d ≤ limit) (b : Block) (c
     proper_front = (h, k, q.proper_front);
     proper_items = q.proper_items;
     proper_back = q.proper_back;
-    pieces = ap (λ x. print_test m d (some_expr e) ++ (mark_piece mark.COLON d ∷ (print_stmts m d items ++ x))) q.pieces
-        ∙ ap (λ x. print_test m d (some_expr e) ++ (mark_piece mark.COLON d ∷ x)) (sym (append_assoc (print_stmts m d items) (print_clauses m d q.front) _))
-        ∙ sym (append_assoc (print_test m d (some_expr e)) (mark_piece mark.COLON d ∷ (print_stmts m d items ++ print_clauses m d q.front)) _);
+    pieces = ap (λ x. print_test m.look d (some_expr e) ++ (mark_piece mark.COLON d ∷ (print_stmts m.look d items ++ x))) q.pieces
+        ∙ ap (λ x. print_test m.look d (some_expr e) ++ (mark_piece mark.COLON d ∷ x)) (sym (append_assoc (print_stmts m.look d items) (print_clauses m.look d q.front) _))
+        ∙ sym (append_assoc (print_test m.look d (some_expr e)) (mark_piece mark.COLON d ∷ (print_stmts m.look d items ++ print_clauses m.look d q.front)) _);
     list = ap (λ x. one_case e items ∷ x) q.list;
   })
 
@@ -200,39 +200,39 @@ module _ (limit : ℕ) (m : Bodies) (d : ℕ) (low : d ≤ limit) (b : Block) (c
     proper_front = tt;
     proper_items = h.1;
     proper_back = h.2;
-    pieces = ap (λ x. word_piece word.DEFAULT d ∷ mark_piece mark.COLON d ∷ (print_stmts m d items ++ x)) (sym (append-nil (print_clauses m d cs)));
+    pieces = ap (λ x. word_piece word.DEFAULT d ∷ mark_piece mark.COLON d ∷ (print_stmts m.look d items ++ x)) (sym (append-nil (print_clauses m.look d cs)));
     list = refl;
   })
   shape_of (more_clauses (some_expr e) items cs) n h = before e items cs h.0 h.1 (shape_of cs n h.2)
 
-  back_leads : (cs : Clauses) → AllCases cs → Leads (print_clauses m d cs ++ []) Closes EndsList
+  back_leads : (cs : Clauses) → AllCases cs → Leads (print_clauses m.look d cs ++ []) Closes EndsList
   back_leads no_clauses a = lead_map closes_list lead_none
   back_leads (more_clauses no_expr items cs) a = absurd a
   back_leads (more_clauses (some_expr e) items cs) a = lead_at (λ t q. case_list t q.kind)
 
-  default_stop : (items : Stmts) → ProperStmts m i items → Completes limit (word_piece word.DEFAULT d ∷ mark_piece mark.COLON d ∷ print_stmts m d items) EndsList (parser.clause_turn b i) (Stop (Some (parser.clause None (list_of items))))
+  default_stop : (items : Stmts) → ProperStmts m i items → Completes limit (word_piece word.DEFAULT d ∷ mark_piece mark.COLON d ∷ print_stmts m.look d items) EndsList (parser.clause_turn b i) (Stop (Some (parser.clause None (list_of items))))
   default_stop items h = c_at limit (λ t. bind (parser.default_of b i) (λ x. ret (Stop (Some x)))) low (λ t ts q. default_here t ts q.kind) (λ t q. c_made limit (λ x. Stop (Some x)) (default_complete items h))
 
-  by_shape : (cs : Clauses) → ProperClauses m i cs → Shape cs → Completes limit (print_clauses m d cs) Closes (parser.clauses_from b i) (cases_of cs)
+  by_shape : (cs : Clauses) → ProperClauses m i cs → Shape cs → Completes limit (print_clauses m.look d cs) Closes (parser.clauses_from b i) (cases_of cs)
   unfolding parser.clauses_from parser.more_clauses
-  by_shape cs h (all a) = c_value (append-nil (cases_of cs)) (c_pieces limit (append-nil (print_clauses m d cs)) (c_bind limit (λ x. bind (parser.more_clauses b i x.last) (λ ys. ret (x.items ++ ys)))
-      (c_pieces limit (flat_cases cs [] a ∙ append-nil (print_clauses m d cs)) (c_loop limit IsCase clause_pieces ClauseFollow [] Closes None (parser.clause_turn b i) c_clause clause_some clause_link (c_look limit clauses_end) (cases_of cs) (all_cases cs a h) (last_lead [] Closes None (parser.clause_turn b i) c_clause (c_look limit clauses_end) (lead_map closes_list lead_none) (cases_of cs))))
+  by_shape cs h (all a) = c_value (append-nil (cases_of cs)) (c_pieces limit (append-nil (print_clauses m.look d cs)) (c_bind limit (λ x. bind (parser.more_clauses b i x.last) (λ ys. ret (x.items ++ ys)))
+      (c_pieces limit (flat_cases cs [] a ∙ append-nil (print_clauses m.look d cs)) (c_loop limit IsCase clause_pieces ClauseFollow [] Closes None (parser.clause_turn b i) c_clause clause_some clause_link (c_look limit clauses_end) (cases_of cs) (all_cases cs a h) (last_lead [] Closes None (parser.clause_turn b i) c_clause (c_look limit clauses_end) (lead_map closes_list lead_none) (cases_of cs))))
       lead_none
       (c_made limit (λ ys. cases_of cs ++ ys) (c_ret limit []))))
   by_shape cs h (parts q) =
       let x : Clause = parser.clause None (list_of q.items) in
-      c_value (sym q.list) (c_pieces limit (append_assoc (print_clauses m d q.front) (word_piece word.DEFAULT d ∷ mark_piece mark.COLON d ∷ print_stmts m d q.items) (print_clauses m d q.back ++ []) ∙ sym q.pieces)
+      c_value (sym q.list) (c_pieces limit (append_assoc (print_clauses m.look d q.front) (word_piece word.DEFAULT d ∷ mark_piece mark.COLON d ∷ print_stmts m.look d q.items) (print_clauses m.look d q.back ++ []) ∙ sym q.pieces)
       (c_bind limit (λ y. bind (parser.more_clauses b i y.last) (λ ys. ret (y.items ++ ys)))
-      (c_pieces limit (flat_cases q.front (word_piece word.DEFAULT d ∷ mark_piece mark.COLON d ∷ print_stmts m d q.items) q.front_cases) (c_loop limit IsCase clause_pieces ClauseFollow (word_piece word.DEFAULT d ∷ mark_piece mark.COLON d ∷ print_stmts m d q.items) EndsList (Some x) (parser.clause_turn b i) c_clause clause_some clause_link (default_stop q.items q.proper_items) (cases_of q.front) (all_cases q.front q.front_cases q.proper_front) (last_lead (word_piece word.DEFAULT d ∷ mark_piece mark.COLON d ∷ print_stmts m d q.items) EndsList (Some x) (parser.clause_turn b i) c_clause (default_stop q.items q.proper_items) (lead_at (λ t r. default_list t r.kind)) (cases_of q.front))))
+      (c_pieces limit (flat_cases q.front (word_piece word.DEFAULT d ∷ mark_piece mark.COLON d ∷ print_stmts m.look d q.items) q.front_cases) (c_loop limit IsCase clause_pieces ClauseFollow (word_piece word.DEFAULT d ∷ mark_piece mark.COLON d ∷ print_stmts m.look d q.items) EndsList (Some x) (parser.clause_turn b i) c_clause clause_some clause_link (default_stop q.items q.proper_items) (cases_of q.front) (all_cases q.front q.front_cases q.proper_front) (last_lead (word_piece word.DEFAULT d ∷ mark_piece mark.COLON d ∷ print_stmts m.look d q.items) EndsList (Some x) (parser.clause_turn b i) c_clause (default_stop q.items q.proper_items) (lead_at (λ t r. default_list t r.kind)) (cases_of q.front))))
       (back_leads q.back q.back_cases)
       (c_made limit (λ ys. cases_of q.front ++ ys) (c_made limit (λ y. x ∷ y.items) (behind_complete q.back q.back_cases q.proper_back)))))
 
-  clauses_complete : (cs : Clauses) → defaults cs ≤ 1 → ProperClauses m i cs → Completes limit (print_clauses m d cs) Closes (parser.clauses_from b i) (cases_of cs)
+  clauses_complete : (cs : Clauses) → defaults cs ≤ 1 → ProperClauses m i cs → Completes limit (print_clauses m.look d cs) Closes (parser.clauses_from b i) (cases_of cs)
   clauses_complete cs n h = by_shape cs h (shape_of cs n h)
 
-  pub switch_complete : {F : Lexeme → Type 0} (e : Expr) (cs : Clauses) → ProperStmt m i (tree.Switch e cs) → Completes limit (mark_piece mark.OPEN_PAREN d ∷ (print m (suc d) e ++ (mark_piece mark.CLOSE_PAREN d ∷ mark_piece mark.OPEN_BRACE d ∷ (print_clauses m d cs ++ mark_piece mark.CLOSE_BRACE d ∷ [])))) F (parser.switch_of b i) (tree.Switch e cs)
+  pub switch_complete : {F : Lexeme → Type 0} (e : Expr) (cs : Clauses) → ProperStmt m i (tree.Switch e cs) → Completes limit (mark_piece mark.OPEN_PAREN d ∷ (print m.look (suc d) e ++ (mark_piece mark.CLOSE_PAREN d ∷ mark_piece mark.OPEN_BRACE d ∷ (print_clauses m.look d cs ++ mark_piece mark.CLOSE_BRACE d ∷ [])))) F (parser.switch_of b i) (tree.Switch e cs)
   unfolding parser.switch_of
-  switch_complete e cs h = parens_then limit m d low b c i e (mark_piece mark.OPEN_BRACE d ∷ (print_clauses m d cs ++ mark_piece mark.CLOSE_BRACE d ∷ [])) (λ x. bind (expect mark.OPEN_BRACE) (λ _. bind (parser.clauses_from b i) (λ ys. bind (expect mark.CLOSE_BRACE) (λ _. ret (tree.Switch x (clauses_of ys)))))) (tree.Switch e cs) h.0
+  switch_complete e cs h = parens_then limit m d low b c i e (mark_piece mark.OPEN_BRACE d ∷ (print_clauses m.look d cs ++ mark_piece mark.CLOSE_BRACE d ∷ [])) (λ x. bind (expect mark.OPEN_BRACE) (λ _. bind (parser.clauses_from b i) (λ ys. bind (expect mark.CLOSE_BRACE) (λ _. ret (tree.Switch x (clauses_of ys)))))) (tree.Switch e cs) h.0
       (c_bind limit (λ _. bind (parser.clauses_from b i) (λ ys. bind (expect mark.CLOSE_BRACE) (λ _. ret (tree.Switch e (clauses_of ys))))) (c_mark limit mark.OPEN_BRACE d low refl) lead_any
       (c_value (ap (tree.Switch e) (of_cases cs)) (c_bind limit (λ ys. bind (expect mark.CLOSE_BRACE) (λ _. ret (tree.Switch e (clauses_of ys)))) (clauses_complete cs h.1 h.2) (lead_at (λ t q. q.kind))
       (c_made limit (λ _. tree.Switch e (clauses_of (cases_of cs))) (c_mark limit mark.CLOSE_BRACE d low refl)))))
@@ -255,9 +255,9 @@ module _ (limit : ℕ) (m : Bodies) (d : ℕ) (low : d ≤ limit) (b : Block) (c
   catch_complete None = c_look limit no_catch
   catch_complete (Some n) = c_at limit (λ t. bind parser.catch_name (λ x. ret (Some x))) low (λ t ts q. catch_here t ts q.kind) (λ t q. c_made limit Some (catch_name_complete n))
 
-  pub try_complete : {F : Lexeme → Type 0} (ss : Stmts) (o : Option Named) (hs : Stmts) → ProperStmt m i (tree.Try ss o hs) → Completes limit (mark_piece mark.OPEN_BRACE d ∷ (print_stmts m d ss ++ (mark_piece mark.CLOSE_BRACE d ∷ word_piece word.CATCH d ∷ (print_catch_param o d ++ (mark_piece mark.OPEN_BRACE d ∷ (print_stmts m d hs ++ mark_piece mark.CLOSE_BRACE d ∷ [])))))) F (parser.try_of b i) (tree.Try ss o hs)
+  pub try_complete : {F : Lexeme → Type 0} (ss : Stmts) (o : Option Named) (hs : Stmts) → ProperStmt m i (tree.Try ss o hs) → Completes limit (mark_piece mark.OPEN_BRACE d ∷ (print_stmts m.look d ss ++ (mark_piece mark.CLOSE_BRACE d ∷ word_piece word.CATCH d ∷ (print_catch_param o d ++ (mark_piece mark.OPEN_BRACE d ∷ (print_stmts m.look d hs ++ mark_piece mark.CLOSE_BRACE d ∷ [])))))) F (parser.try_of b i) (tree.Try ss o hs)
   unfolding parser.try_of
-  try_complete ss o hs h = c_pieces limit (ap (λ x. mark_piece mark.OPEN_BRACE d ∷ x) (append_assoc (print_stmts m d ss) (mark_piece mark.CLOSE_BRACE d ∷ []) (word_piece word.CATCH d ∷ (print_catch_param o d ++ (mark_piece mark.OPEN_BRACE d ∷ (print_stmts m d hs ++ mark_piece mark.CLOSE_BRACE d ∷ []))))))
+  try_complete ss o hs h = c_pieces limit (ap (λ x. mark_piece mark.OPEN_BRACE d ∷ x) (append_assoc (print_stmts m.look d ss) (mark_piece mark.CLOSE_BRACE d ∷ []) (word_piece word.CATCH d ∷ (print_catch_param o d ++ (mark_piece mark.OPEN_BRACE d ∷ (print_stmts m.look d hs ++ mark_piece mark.CLOSE_BRACE d ∷ []))))))
       (c_bind limit (λ x. bind (parser.expect_word word.CATCH) (λ _. bind parser.catch_param (λ y. bind (parser.braced_of b.stmt i) (λ z. ret (tree.Try x y z))))) (braced_complete limit m d low b.stmt c.stmts i ss h.0) lead_any
       (c_bind limit (λ _. bind parser.catch_param (λ y. bind (parser.braced_of b.stmt i) (λ z. ret (tree.Try ss y z)))) (c_word limit word.CATCH d low refl) lead_any
       (c_bind limit (λ y. bind (parser.braced_of b.stmt i) (λ z. ret (tree.Try ss y z))) (catch_complete o) (lead_at (λ t q. q.kind))

@@ -14,7 +14,7 @@ use Rattle.script_grammar.specs.Tree.{Named, Expr, Exprs, no_exprs, more_exprs, 
 use Rattle.script_grammar.specs.Tree as tree
 use Rattle.script_grammar.specs.Pieces.{Bodies, whole, Piece, At, Gap, Pass, Wanted, Exactly, AnyWord, from, begins_with, is_wanted}
 use Rattle.script_grammar.specs.Print.{print, print_stmt, print_more, above}
-use Rattle.script_grammar.specs.Proper.{Proper, ProperStmt, is_statement}
+use Rattle.script_grammar.specs.Proper.{is_statement}
 use Rattle.pure_parser.specs.Parser.{head_of, no_room}
 use Rattle.pure_parser.specs.Exprs.{begins_assign}
 use Rattle.pure_parser.specs.Stmts.{Place, AnItem, AStmt, is_item, is_inside, begins_stmt, begins_plain, begins_declaration}
@@ -24,11 +24,12 @@ use Rattle.pure_parser.proofs.Stands.{Marked, Stands}
 use Rattle.pure_parser.proofs.Complete.{Parses, DeepFront, deep_front, deep_at, parses_no_room}
 use Rattle.pure_parser.proofs.Completes.{Completes}
 use Rattle.pure_parser.proofs.ExprFronts.{OfKind, Opens, opens_append, opens_first, opens_some, expr_opens}
+use Rattle.pure_parser.proofs.ProperIn.{Mode, Proper, ProperStmt}
 
 deep_from : (limit n : ℕ) (ps : List Piece) → DeepFront limit ps → DeepFront limit (from n ps)
 deep_from limit n ps f = subst (λ x. DeepFront limit (from n x)) (sym f.split) (deep_at limit (record f.first { starts = n ∷ f.first.starts }) f.others f.below)
 
-func_deep : (limit : ℕ) (m : Bodies) (d at : ℕ) (f : Function) → limit < d → Proper m (tree.Func at f) → DeepFront limit (print m d (tree.Func at f))
+func_deep : (limit : ℕ) (m : Mode) (d at : ℕ) (f : Function) → limit < d → Proper m (tree.Func at f) → DeepFront limit (print m.look d (tree.Func at f))
 func_deep limit m d at (function form.Function start end name ps comma bare body) l h = deep_at limit _ _ l
 func_deep limit m d at (function form.Arrow start end name ps comma false body) l h = deep_at limit _ _ l
 func_deep limit m d at (function form.Arrow start end name no_params comma true body) l h = absurd h.1.2
@@ -45,7 +46,7 @@ above_deep : (limit d : ℕ) → limit < d → limit < suc (above d)
 above_deep limit zero h = absurd (omega (arith, h))
 above_deep limit (suc d) h = h
 
-pub expr_deep : (limit : ℕ) (m : Bodies) (d : ℕ) (e : Expr) → limit < d → Proper m e → DeepFront limit (print m d e)
+pub expr_deep : (limit : ℕ) (m : Mode) (d : ℕ) (e : Expr) → limit < d → Proper m e → DeepFront limit (print m.look d e)
 expr_deep limit m d (tree.This at) l h = deep_at limit _ _ l
 expr_deep limit m d (tree.Name name) l h = deep_at limit _ _ l
 expr_deep limit m d (tree.Null at) l h = deep_at limit _ _ l
@@ -67,22 +68,22 @@ expr_deep limit m d (tree.Binary first rest) l h = deep_front limit _ _ (expr_de
 expr_deep limit m d (tree.Cond test a b) l h = deep_front limit _ _ (expr_deep limit m d test l h.1)
 expr_deep limit m d (tree.Assign op target value) l h = deep_front limit _ _ (expr_deep limit m d target l h.2)
 expr_deep limit m d (tree.Comma no_exprs) l h = absurd h.0
-expr_deep limit m d (tree.Comma (more_exprs x xs)) l h = deep_front limit (print m (suc (above d)) x) (print_more m (above d) xs) (expr_deep limit m (suc (above d)) x (above_deep limit d l) h.1.1)
+expr_deep limit m d (tree.Comma (more_exprs x xs)) l h = deep_front limit (print m.look (suc (above d)) x) (print_more m.look (above d) xs) (expr_deep limit m (suc (above d)) x (above_deep limit d l) h.1.1)
 
 -- an expression that begins with a prefix operator or `new` is one deeper at its front
-pub unary_deep : (limit : ℕ) (m : Bodies) (d at op : ℕ) (of : Expr) (of_word : Bool) → limit ≤ d → DeepFront limit (print m d (tree.Unary at op of of_word))
+pub unary_deep : (limit : ℕ) (m : Mode) (d at op : ℕ) (of : Expr) (of_word : Bool) → limit ≤ d → DeepFront limit (print m.look d (tree.Unary at op of of_word))
 unary_deep limit m d at op of of_word l = deep_at limit _ _ (omega (arith, l))
 
-pub update_deep : (limit : ℕ) (m : Bodies) (d at op : ℕ) (of : Expr) → limit ≤ d → DeepFront limit (print m d (tree.Update at op true of))
+pub update_deep : (limit : ℕ) (m : Mode) (d at op : ℕ) (of : Expr) → limit ≤ d → DeepFront limit (print m.look d (tree.Update at op true of))
 update_deep limit m d at op of l = deep_at limit _ _ (omega (arith, l))
 
-pub new_deep : (limit : ℕ) (m : Bodies) (d at : ℕ) (callee : Expr) (args : tree.MaybeArgs) → limit ≤ d → DeepFront limit (print m d (tree.New at callee args))
+pub new_deep : (limit : ℕ) (m : Mode) (d at : ℕ) (callee : Expr) (args : tree.MaybeArgs) → limit ≤ d → DeepFront limit (print m.look d (tree.New at callee args))
 new_deep limit m d at callee args l = deep_at limit _ _ (omega (arith, l))
 
-declared_deep : (limit : ℕ) (m : Bodies) (d : ℕ) (f : Function) → limit < d → DeepFront limit (print_stmt m d (tree.Declared f))
+declared_deep : (limit : ℕ) (m : Mode) (d : ℕ) (f : Function) → limit < d → DeepFront limit (print_stmt m.look d (tree.Declared f))
 declared_deep limit m d (function f start end name ps comma bare body) l = deep_at limit _ _ l
 
-pub stmt_deep : (limit : ℕ) (m : Bodies) (d : ℕ) (i : Bool) (s : Stmt) → limit < d → ProperStmt m i s → DeepFront limit (print_stmt m d s)
+pub stmt_deep : (limit : ℕ) (m : Mode) (d : ℕ) (i : Bool) (s : Stmt) → limit < d → ProperStmt m i s → DeepFront limit (print_stmt m.look d s)
 stmt_deep limit m d i (tree.Block items) l h = deep_at limit _ _ l
 stmt_deep limit m d i tree.Empty l h = deep_at limit _ _ l
 stmt_deep limit m d i (tree.Debugger semi) l h = deep_at limit _ _ l
@@ -149,15 +150,15 @@ value_opens p (At s ∷ ps) o h = of_place s.kind o h
 value_opens p (Gap e ∷ ps) o h = absurd o
 value_opens p (Pass ∷ ps) o h = absurd o
 
-declared_opens : (m : Bodies) (d : ℕ) (p : Place) (f : Function) → is_item p ≡ true → Opens (begins_stmt p) (print_stmt m d (tree.Declared f))
+declared_opens : (m : Mode) (d : ℕ) (p : Place) (f : Function) → is_item p ≡ true → Opens (begins_stmt p) (print_stmt m.look d (tree.Declared f))
 declared_opens m d p (function f start end name ps comma bare body) h = function_begins p h
 
-pub place_opens : (m : Bodies) (d : ℕ) (p : Place) (s : Stmt) → ProperStmt m (is_inside p) s → (is_item p ≡ false → is_statement s ≡ true) → Opens (begins_stmt p) (print_stmt m d s)
+pub place_opens : (m : Mode) (d : ℕ) (p : Place) (s : Stmt) → ProperStmt m (is_inside p) s → (is_item p ≡ false → is_statement s ≡ true) → Opens (begins_stmt p) (print_stmt m.look d s)
 place_opens m d p (tree.Block items) h i = refl
 place_opens m d p tree.Empty h i = refl
 place_opens m d p (tree.Debugger semi) h i = refl
 place_opens m d p (tree.Binding c binds semi) h i = binding_begins p c i
-place_opens m d p (tree.Value e semi) h i = opens_append (begins_stmt p) (print m (suc d) e) _ (value_opens p (print m (suc d) e) (expr_opens m (suc d) e h.2) (begins_same (is_word word.FUNCTION) m whole (suc d) 1 e ∙ h.1))
+place_opens m d p (tree.Value e semi) h i = opens_append (begins_stmt p) (print m.look (suc d) e) _ (value_opens p (print m.look (suc d) e) (expr_opens m (suc d) e h.2) (begins_same (is_word word.FUNCTION) m.look whole (suc d) 1 e ∙ h.1))
 place_opens m d p (tree.If test then_stmt else_stmt) h i = refl
 place_opens m d p (tree.Do body test semi) h i = refl
 place_opens m d p (tree.While test body) h i = refl

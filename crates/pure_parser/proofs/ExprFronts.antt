@@ -13,11 +13,12 @@ use Rattle.script_grammar.specs.Tree.{Named, Expr, Exprs, no_exprs, more_exprs, 
 use Rattle.script_grammar.specs.Tree as tree
 use Rattle.script_grammar.specs.Pieces.{Bodies, Piece, At, Gap, Pass, Wanted, Exactly, AnyWord, IsWanted, from, begins_with, is_wanted}
 use Rattle.script_grammar.specs.Print.{print, print_func, print_tails, print_operands, print_more, above, first_kind}
-use Rattle.script_grammar.specs.Proper.{Proper, ProperFunction, IsFuncExpression, operands_level}
+use Rattle.script_grammar.specs.Proper.{IsFuncExpression, operands_level}
 use Rattle.pure_parser.specs.Exprs.{begins_assign, begins_word, begins_mark}
 use Rattle.pure_parser.proofs.Friendly.{first_of}
 use Rattle.pure_parser.proofs.Stands.{Marked, lexemes, Stands}
 use Rattle.pure_parser.proofs.Tests.{false_true, true_false, or_cases, and_left, and_right, bool_cases}
+use Rattle.pure_parser.proofs.ProperIn.{Mode, Proper, ProperFunction}
 
 -- which words and marks begin an AssignmentExpression
 
@@ -149,7 +150,7 @@ update_is P a b op h = by (bool_cases (nat_le op mark.INCREMENT))
     by (inl e) = subst P (sym (omega (arith, low, leb-true op mark.INCREMENT e))) a
     by (inr e) = subst P (sym (above_it e)) b
 
-func_opens : (m : Bodies) (d at : ℕ) (f : Function) → IsFuncExpression at f → ProperFunction m f → Opens begins_assign (print_func m d at f)
+func_opens : (m : Mode) (d at : ℕ) (f : Function) → IsFuncExpression at f → ProperFunction m f → Opens begins_assign (print_func m.look d at f)
 func_opens m d at (function form.Function start end name ps comma bare body) h k = refl
 func_opens m d at (function form.Script start end name ps comma bare body) h k = absurd h
 func_opens m d at (function form.Method start end name ps comma bare body) h k = absurd h
@@ -166,7 +167,7 @@ template_opens : (parts : Parts) → begins_assign (first_kind parts) ≡ true
 template_opens no_parts = refl
 template_opens (more_parts value behind rest) = refl
 
-pub expr_opens : (m : Bodies) (d : ℕ) (e : Expr) → Proper m e → Opens begins_assign (print m d e)
+pub expr_opens : (m : Mode) (d : ℕ) (e : Expr) → Proper m e → Opens begins_assign (print m.look d e)
 expr_opens m d (tree.This at) h = refl
 expr_opens m d (tree.Name name) h = refl
 expr_opens m d (tree.Null at) h = refl
@@ -179,16 +180,16 @@ expr_opens m d (tree.Array at is comma) h = refl
 expr_opens m d (tree.Object at ps comma) h = refl
 expr_opens m d (tree.Func at f) h = func_opens m d at f h.0 h.1
 expr_opens m d (tree.Paren at inner) h = refl
-expr_opens m d (tree.Chain head tails) h = opens_append begins_assign (print m d head) (print_tails m d tails) (expr_opens m d head h.1)
+expr_opens m d (tree.Chain head tails) h = opens_append begins_assign (print m.look d head) (print_tails m.look d tails) (expr_opens m d head h.1)
 expr_opens m d (tree.New at callee args) h = refl
 expr_opens m d (tree.Unary at op of is_word) h = prefix_begins op is_word h.0
 expr_opens m d (tree.Update at op true of) h = update_is (λ x. begins_mark x ≡ true) refl refl op h.0
-expr_opens m d (tree.Update at op false of) h = opens_append begins_assign (from at (print m d of)) _ (opens_from begins_assign at (print m d of) (expr_opens m d of h.2))
-expr_opens m d (tree.Binary first rest) h = opens_append begins_assign (print m d first) (print_operands m d rest) (expr_opens m d first h.3)
-expr_opens m d (tree.Cond test then_value else_value) h = opens_append begins_assign (print m d test) _ (expr_opens m d test h.1)
-expr_opens m d (tree.Assign op target value) h = opens_append begins_assign (print m d target) _ (expr_opens m d target h.2)
+expr_opens m d (tree.Update at op false of) h = opens_append begins_assign (from at (print m.look d of)) _ (opens_from begins_assign at (print m.look d of) (expr_opens m d of h.2))
+expr_opens m d (tree.Binary first rest) h = opens_append begins_assign (print m.look d first) (print_operands m.look d rest) (expr_opens m d first h.3)
+expr_opens m d (tree.Cond test then_value else_value) h = opens_append begins_assign (print m.look d test) _ (expr_opens m d test h.1)
+expr_opens m d (tree.Assign op target value) h = opens_append begins_assign (print m.look d target) _ (expr_opens m d target h.2)
 expr_opens m d (tree.Comma no_exprs) h = absurd h.0
-expr_opens m d (tree.Comma (more_exprs x xs)) h = opens_append begins_assign (print m (suc (above d)) x) (print_more m (above d) xs) (expr_opens m (suc (above d)) x h.1.1)
+expr_opens m d (tree.Comma (more_exprs x xs)) h = opens_append begins_assign (print m.look (suc (above d)) x) (print_more m.look (above d) xs) (expr_opens m (suc (above d)) x h.1.1)
 
 -- behind a name that is first no colon stands
 
@@ -230,7 +231,7 @@ second_from n (At s ∷ a) h = h
 second_from n (Gap e ∷ a) h = h
 second_from n (Pass ∷ a) h = h
 
-tails_next : (m : Bodies) (d : ℕ) (ts : Tails) → NextNot (print_tails m d ts)
+tails_next : (m : Mode) (d : ℕ) (ts : Tails) → NextNot (print_tails m.look d ts)
 tails_next m d no_tails = tt
 tails_next m d (more_tails (tree.Dot w) ts) = refl
 tails_next m d (more_tails (tree.Index e) ts) = refl
@@ -247,18 +248,18 @@ op_not_colon : (op : ℕ) (is_word : Bool) → op_level op is_word < no_level �
 op_not_colon op true h = refl
 op_not_colon op false h = not_colon op (λ e. absurd (omega (arith, h, ap mark_level e)))
 
-operands_next : (m : Bodies) (d : ℕ) (os : Operands) → operands_level os < no_level → NextNot (print_operands m d os)
+operands_next : (m : Mode) (d : ℕ) (os : Operands) → operands_level os < no_level → NextNot (print_operands m.look d os)
 operands_next m d no_operands h = tt
 operands_next m d (more_operands op is_word value rest) h = op_not_colon op is_word h
 
-more_next : (m : Bodies) (d : ℕ) (es : Exprs) → NextNot (print_more m d es)
+more_next : (m : Mode) (d : ℕ) (es : Exprs) → NextNot (print_more m.look d es)
 more_next m d no_exprs = tt
 more_next m d (more_exprs x es) = refl
 
 assign_not : (op : ℕ) → is_assign_op op ≡ true → op ≡ mark.COLON → ⊥
 assign_not op h e = true_false (sym h ∙ ap is_assign_op e)
 
-func_second : (m : Bodies) (d at : ℕ) (f : Function) → IsFuncExpression at f → ProperFunction m f → Second (print_func m d at f)
+func_second : (m : Mode) (d at : ℕ) (f : Function) → IsFuncExpression at f → ProperFunction m f → Second (print_func m.look d at f)
 func_second m d at (function form.Function start end name ps comma bare body) h k = λ n. absurd (false_true n)
 func_second m d at (function form.Script start end name ps comma bare body) h k = absurd h
 func_second m d at (function form.Method start end name ps comma bare body) h k = absurd h
@@ -279,7 +280,7 @@ op_not_name : (op : ℕ) (is_word : Bool) → is_name (op_kind op is_word) ≡ t
 op_not_name op true h = false_true h
 op_not_name op false h = false_true h
 
-pub expr_second : (m : Bodies) (d : ℕ) (e : Expr) → Proper m e → Second (print m d e)
+pub expr_second : (m : Mode) (d : ℕ) (e : Expr) → Proper m e → Second (print m.look d e)
 expr_second m d (tree.This at) h = λ n. tt
 expr_second m d (tree.Name name) h = λ n. tt
 expr_second m d (tree.Null at) h = λ n. tt
@@ -292,16 +293,16 @@ expr_second m d (tree.Array at is comma) h = λ n. absurd (false_true n)
 expr_second m d (tree.Object at ps comma) h = λ n. absurd (false_true n)
 expr_second m d (tree.Func at f) h = func_second m d at f h.0 h.1
 expr_second m d (tree.Paren at inner) h = λ n. absurd (false_true n)
-expr_second m d (tree.Chain head tails) h = second_append begins_assign (print m d head) (print_tails m d tails) (expr_opens m d head h.1) (expr_second m d head h.1) (tails_next m d tails)
+expr_second m d (tree.Chain head tails) h = second_append begins_assign (print m.look d head) (print_tails m.look d tails) (expr_opens m d head h.1) (expr_second m d head h.1) (tails_next m d tails)
 expr_second m d (tree.New at callee args) h = λ n. absurd (false_true n)
 expr_second m d (tree.Unary at op of is_word) h = λ n. absurd (op_not_name op is_word n)
 expr_second m d (tree.Update at op true of) h = λ n. absurd (false_true n)
-expr_second m d (tree.Update at op false of) h = second_append begins_assign (from at (print m d of)) _ (opens_from begins_assign at (print m d of) (expr_opens m d of h.2)) (second_from at (print m d of) (expr_second m d of h.2)) (not_colon op (update_is (λ x. x ≡ mark.COLON → ⊥) (λ e. absurd (omega (arith, e))) (λ e. absurd (omega (arith, e))) op h.0))
-expr_second m d (tree.Binary first rest) h = second_append begins_assign (print m d first) (print_operands m d rest) (expr_opens m d first h.3) (expr_second m d first h.3) (operands_next m d rest h.1)
-expr_second m d (tree.Cond test then_value else_value) h = second_append begins_assign (print m d test) _ (expr_opens m d test h.1) (expr_second m d test h.1) refl
-expr_second m d (tree.Assign op target value) h = second_append begins_assign (print m d target) _ (expr_opens m d target h.2) (expr_second m d target h.2) (not_colon op (assign_not op h.0))
+expr_second m d (tree.Update at op false of) h = second_append begins_assign (from at (print m.look d of)) _ (opens_from begins_assign at (print m.look d of) (expr_opens m d of h.2)) (second_from at (print m.look d of) (expr_second m d of h.2)) (not_colon op (update_is (λ x. x ≡ mark.COLON → ⊥) (λ e. absurd (omega (arith, e))) (λ e. absurd (omega (arith, e))) op h.0))
+expr_second m d (tree.Binary first rest) h = second_append begins_assign (print m.look d first) (print_operands m.look d rest) (expr_opens m d first h.3) (expr_second m d first h.3) (operands_next m d rest h.1)
+expr_second m d (tree.Cond test then_value else_value) h = second_append begins_assign (print m.look d test) _ (expr_opens m d test h.1) (expr_second m d test h.1) refl
+expr_second m d (tree.Assign op target value) h = second_append begins_assign (print m.look d target) _ (expr_opens m d target h.2) (expr_second m d target h.2) (not_colon op (assign_not op h.0))
 expr_second m d (tree.Comma no_exprs) h = absurd h.0
-expr_second m d (tree.Comma (more_exprs x xs)) h = second_append begins_assign (print m (suc (above d)) x) (print_more m (above d) xs) (expr_opens m (suc (above d)) x h.1.1) (expr_second m (suc (above d)) x h.1.1) (more_next m (above d) xs)
+expr_second m d (tree.Comma (more_exprs x xs)) h = second_append begins_assign (print m.look (suc (above d)) x) (print_more m.look (above d) xs) (expr_opens m (suc (above d)) x h.1.1) (expr_second m (suc (above d)) x h.1.1) (more_next m (above d) xs)
 
 any_not_colon : (k : Kind) → is_any_word k ≡ true → is_mark mark.COLON k ≡ false
 any_not_colon kind.Name h = refl

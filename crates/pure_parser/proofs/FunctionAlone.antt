@@ -20,6 +20,8 @@ use Rattle.pure_parser.specs.Exprs.{Env, AParam, ARest, ParamsEnd, Plain, Traili
 use Rattle.pure_parser.specs.Stmts as parser
 use Rattle.script_grammar.specs.Endings.{body_ending, function_ending}
 use Rattle.pure_parser.specs.Follow.{continues_assign}
+use Rattle.pure_parser.proofs.ProperIn as inner
+use Rattle.pure_parser.proofs.ProperIn.{whole_mode, in_function}
 use Rattle.pure_parser.proofs.Friendly.{Inside}
 use Rattle.pure_parser.proofs.Tests.{true_false, mark_known, name_known, end_known}
 use Rattle.pure_parser.proofs.Fitting.{FitsAll, all_none, all_append, all_mark, all_name, all_same, lexeme_of_kind}
@@ -202,7 +204,7 @@ module _ (v : Env) (l : LocalEnv v) where
 
 -- completeness
 
-module _ (limit d : ℕ) (low : d ≤ limit) (v : Env) (c : CompleteEnv limit whole d v) where
+module _ (limit d : ℕ) (low : d ≤ limit) (v : Env) (c : CompleteEnv limit whole_mode d v) where
   param_here : (t : Lexeme) (ts : List Lexeme) → t.kind ≡ kind.Name → parser.strict_param v (t ∷ ts) ≡ bind (v.sub AParam) Exprs.again (t ∷ ts)
   unfolding parser.strict_param
   param_here t ts e = at_kind (λ u. parser.strict_param v (u ∷ ts) ≡ bind (v.sub AParam) Exprs.again (u ∷ ts)) kind.Name t e refl
@@ -215,10 +217,10 @@ module _ (limit d : ℕ) (low : d ≤ limit) (v : Env) (c : CompleteEnv limit wh
   place_some s ps [] x h = absurd h
   place_some s ps (y ∷ w) x h = omega arith
 
-  called : (n : Named) (o : MaybeExpr) → ProperMaybe whole o → Completes limit {A = Turn Param ParamsEnd} (name_piece n (suc d) ∷ print_initializer whole (suc d) o) (ParamFollow o) (bind (v.sub AParam) Exprs.again) (Again (param n (option_of o)))
-  called n o h = c_made limit Again (subst (λ x. Completes limit (name_piece n (suc d) ∷ print_initializer whole (suc d) x) (ParamFollow x) (v.sub AParam) (param n (option_of o))) (of_maybe o) (c.calls.param (param n (option_of o)) refl (subst (ProperMaybe whole) (sym (of_maybe o)) h)))
+  called : (n : Named) (o : MaybeExpr) → inner.ProperMaybe whole_mode o → Completes limit {A = Turn Param ParamsEnd} (name_piece n (suc d) ∷ print_initializer whole (suc d) o) (ParamFollow o) (bind (v.sub AParam) Exprs.again) (Again (param n (option_of o)))
+  called n o h = c_made limit Again (subst (λ x. Completes limit (name_piece n (suc d) ∷ print_initializer whole (suc d) x) (ParamFollow x) (v.sub AParam) (param n (option_of o))) (of_maybe o) (c.calls.param (param n (option_of o)) refl (subst (inner.ProperMaybe whole_mode) (sym (of_maybe o)) h)))
 
-  one_complete : (n : Named) (o : MaybeExpr) → ProperMaybe whole o → Completes limit (name_piece n (suc d) ∷ print_initializer whole (suc d) o) (ParamFollow o) (parser.strict_param v) (Again (param n (option_of o)))
+  one_complete : (n : Named) (o : MaybeExpr) → inner.ProperMaybe whole_mode o → Completes limit (name_piece n (suc d) ∷ print_initializer whole (suc d) o) (ParamFollow o) (parser.strict_param v) (Again (param n (option_of o)))
   one_complete n o h = c_front limit (bind (v.sub AParam) Exprs.again) (λ x w rest q g. param_here x.lexeme (lexemes w ++ rest) q.0.kind) (place_some _ (print_initializer whole (suc d) o)) (called n o h)
 
   rest_complete : (n : Named) → Completes limit (mark_piece mark.ELLIPSIS (suc d) ∷ name_piece n (suc d) ∷ []) Any (parser.strict_param v) (Stop (Rest n))
@@ -240,10 +242,10 @@ module _ (limit d : ℕ) (low : d ≤ limit) (v : Env) (c : CompleteEnv limit wh
   unfolding parser.strict_turn
   turn_close rest h = ap (λ k. bare (when (is_mark mark.COMMA k) (step (parser.strict_next v)) (ret (Stop Plain)) rest)) h
 
-  each : (p : Param) → IsSingle limit whole d p → Completes limit (single_pieces limit whole d (suc d) p) (ParamFollow (maybe_expr_of p.value)) (parser.strict_turn v) (Again p)
+  each : (p : Param) → IsSingle limit whole_mode d p → Completes limit (single_pieces limit whole_mode d (suc d) p) (ParamFollow (maybe_expr_of p.value)) (parser.strict_turn v) (Again p)
   each p k = c_at limit (λ t. parser.strict_next v) low (λ t ts s. turn_comma t ts s.kind) (λ t s. c_front limit (parser.strict_param v) (λ x w rest q g. next_param x.lexeme (lexemes w ++ rest) (ap (is_mark mark.CLOSE_PAREN) q.0.kind)) (place_some _ (print_initializer whole (suc d) (maybe_expr_of p.value))) (c_value (ap Again (same_param p k.0)) (one_complete p.name (maybe_expr_of p.value) k.1)))
 
-  stop : (e : ParamsEnd) → Completes limit (end_pieces limit whole d (suc d) e) (Closes limit whole d) (parser.strict_turn v) (Stop e)
+  stop : (e : ParamsEnd) → Completes limit (end_pieces limit whole_mode d (suc d) e) (Closes limit whole_mode d) (parser.strict_turn v) (Stop e)
   stop Plain = c_look limit turn_close
   stop Trailing = c_at limit (λ t. parser.strict_next v) low (λ t ts s. turn_comma t ts s.kind) (λ t s. c_look limit next_close)
   stop (Rest n) = c_at limit (λ t. parser.strict_next v) low (λ t ts s. turn_comma t ts s.kind) (λ t s. c_front limit (parser.strict_param v) (λ x w rest q g. next_param x.lexeme (lexemes w ++ rest) (ap (is_mark mark.CLOSE_PAREN) q.0.kind)) (place_some _ (name_piece n (suc d) ∷ [])) (c_weaken limit (λ t g. tt) (rest_complete n)))
@@ -268,13 +270,13 @@ module _ (limit d : ℕ) (low : d ≤ limit) (v : Env) (c : CompleteEnv limit wh
   abbrev many_of : Params → Bool → Many Param ParamsEnd
   many_of ps comma = record { items = singles ps; last = ends_as ps comma }
 
-  strict_complete : (ps : Params) (comma : Bool) → AreParams ps comma → ProperParams whole ps → Completes limit (print_params whole (suc d) d ps ++ comma_piece comma d) (Closes limit whole d) (parser.strict_params v) (many_of ps comma)
+  strict_complete : (ps : Params) (comma : Bool) → AreParams ps comma → inner.ProperParams whole_mode ps → Completes limit (print_params whole (suc d) d ps ++ comma_piece comma d) (Closes limit whole_mode d) (parser.strict_params v) (many_of ps comma)
   strict_complete no_params true h k = absurd (true_false h)
   strict_complete no_params false h k = c_look limit more_none
   strict_complete (more_params n o rest ps) comma h k = c_front limit (bind (parser.strict_param v) (Exprs.params_led (parser.strict_turn v))) (λ x w r q g. more_some x.lexeme (lexemes w ++ r) (first_not n o rest ps comma x w (head_of r) q)) (first_some n o rest ps comma)
-      (params_complete limit whole d (suc d) (parser.strict_turn v) each stop (parser.strict_param v) one_complete rest_complete n o rest ps comma h k)
+      (params_complete limit whole_mode d (suc d) (parser.strict_turn v) each stop (parser.strict_param v) one_complete rest_complete n o rest ps comma h k)
 
-  listed_complete : (start : ℕ) (ps : Params) (comma : Bool) → AreParams ps comma → ProperParams whole ps → Completes limit (print_params whole (suc d) d ps ++ (comma_piece comma d ++ mark_piece mark.CLOSE_PAREN d ∷ [])) Any (parser.strict_listed v start) (head_case start (many_of ps comma))
+  listed_complete : (start : ℕ) (ps : Params) (comma : Bool) → AreParams ps comma → inner.ProperParams whole_mode ps → Completes limit (print_params whole (suc d) d ps ++ (comma_piece comma d ++ mark_piece mark.CLOSE_PAREN d ∷ [])) Any (parser.strict_listed v start) (head_case start (many_of ps comma))
   unfolding parser.strict_listed
   listed_complete start ps comma h k = c_pieces limit (append_assoc (print_params whole (suc d) d ps) (comma_piece comma d) (mark_piece mark.CLOSE_PAREN d ∷ [])) (c_bind limit (λ x. bind (expect mark.CLOSE_PAREN) (λ _. ret (head_case start x))) (strict_complete ps comma h k) (lead_at (λ t s. s.kind)) (c_made limit (λ _. head_case start (many_of ps comma)) (c_mark limit mark.CLOSE_PAREN d low refl)))
 
@@ -288,10 +290,10 @@ module _ (limit d : ℕ) (low : d ≤ limit) (v : Env) (c : CompleteEnv limit wh
 
   record StrictHead (bare : Bool) (start : ℕ) (ps : Params) (comma : Bool) : Type 0 where
     head : Head
-    is : HeadFor limit whole d low v c start ps comma bare head
-    reads : Completes limit (head_pieces limit whole d low v c bare start ps comma) Any (parser.strict_head v) head
+    is : HeadFor limit whole_mode d low v c start ps comma bare head
+    reads : Completes limit (head_pieces limit whole_mode d low v c bare start ps comma) Any (parser.strict_head v) head
 
-  paren_head : (start : ℕ) (ps : Params) (comma : Bool) → AreParams ps comma → ProperParams whole ps → StrictHead false start ps comma
+  paren_head : (start : ℕ) (ps : Params) (comma : Bool) → AreParams ps comma → inner.ProperParams whole_mode ps → StrictHead false start ps comma
   paren_head start ps comma h k =
       let q = ended_more ps comma (λ _. h) in
       record {
@@ -307,7 +309,7 @@ module _ (limit d : ℕ) (low : d ≤ limit) (v : Env) (c : CompleteEnv limit wh
     reads = c_at limit (λ t. ret (bare_head t)) low (λ t ts s. head_name t ts s.kind) (λ t s. c_value (ap (λ x. record { start = x; params = param (named t) None ∷ []; comma = false; bare = true }) s.starts.0 ∙ ap (λ x. record { start = n.at; params = param x None ∷ []; comma = false; bare = true }) (named_is n d t s.content s.starts.0)) (c_ret limit (bare_head t)));
   }
 
-  strict_head : (bare : Bool) (start : ℕ) (ps : Params) (comma : Bool) → AreParams ps comma → BareIf bare form.Arrow start ps comma → ProperParams whole ps → StrictHead bare start ps comma
+  strict_head : (bare : Bool) (start : ℕ) (ps : Params) (comma : Bool) → AreParams ps comma → BareIf bare form.Arrow start ps comma → inner.ProperParams whole_mode ps → StrictHead bare start ps comma
   strict_head true start no_params comma a b k = absurd b
   strict_head true start (more_params n (some_expr e) rest ps) comma a b k = absurd b
   strict_head true start (more_params n no_expr true ps) comma a b k = absurd b
@@ -315,38 +317,38 @@ module _ (limit d : ℕ) (low : d ≤ limit) (v : Env) (c : CompleteEnv limit wh
   strict_head true start (more_params n no_expr false no_params) comma a b k = subst (λ x. StrictHead true start (more_params n no_expr false no_params) x) (sym b.0) (subst (λ x. StrictHead true x (more_params n no_expr false no_params) false) (sym b.1) (name_head n))
   strict_head false start ps comma a b k = paren_head start ps comma a k
 
-  body_reads : (h : Head) (end : ℕ) (b : Body) → ProperBody whole form.Arrow b → Completes limit (print_body whole d end b) (λ t. continues_assign true (body_ending b) t ≡ false) (parser.strict_body v h) (record { body = b; end = end })
+  body_reads : (h : Head) (end : ℕ) (b : Body) → inner.ProperBody whole_mode form.Arrow h.start b → Completes limit (print_body whole d end b) (λ t. continues_assign true (body_ending b) t ≡ false) (parser.strict_body v h) (record { body = b; end = end })
   unfolding parser.strict_body Exprs.arrow_body
-  body_reads h end b k = record { at = λ w rest q g. record { by = ((body_complete limit whole d low v c true h end b k refl).at w rest q g).by } }
+  body_reads h end b k = record { at = λ w rest q g. record { by = ((body_complete limit whole_mode d low v c true h end b k refl).at w rest q g).by } }
 
   -- what may follow a function
   abbrev pub FunctionFollow : Function → Lexeme → Type 0
   FunctionFollow x t = continues_assign true (function_ending x) t ≡ false
 
-  arrow_as : (start end : ℕ) (ps : Params) (comma bare : Bool) (b : Body) (h : Head) → HeadFor limit whole d low v c start ps comma bare h → function_case form.Arrow None h (record { body = b; end = end }) ≡ function form.Arrow start end None ps comma bare b
+  arrow_as : (start end : ℕ) (ps : Params) (comma bare : Bool) (b : Body) (h : Head) → HeadFor limit whole_mode d low v c start ps comma bare h → function_case form.Arrow None h (record { body = b; end = end }) ≡ function form.Arrow start end None ps comma bare b
   arrow_as start end ps comma bare b h q =
       ap (λ x. function form.Arrow x end None (params_of h.params) h.comma h.bare b) q.0
       ∙ ap (λ x. function form.Arrow start end None x h.comma h.bare b) q.1
       ∙ ap (λ x. function form.Arrow start end None ps x h.bare b) q.2
       ∙ ap (λ x. function form.Arrow start end None ps comma x b) q.3
 
-  same_pieces : (start end : ℕ) (ps : Params) (comma bare : Bool) (b : Body) → head_pieces limit whole d low v c bare start ps comma ++ (glued_mark mark.ARROW d ∷ print_body whole d end b) ≡ print_function whole d (function form.Arrow start end None ps comma bare b)
+  same_pieces : (start end : ℕ) (ps : Params) (comma bare : Bool) (b : Body) → head_pieces limit whole_mode d low v c bare start ps comma ++ (glued_mark mark.ARROW d ∷ print_body whole d end b) ≡ print_function whole d (function form.Arrow start end None ps comma bare b)
   same_pieces start end ps comma true b = refl
   same_pieces start end ps comma false b = refl
 
-  arrow_complete : (start end : ℕ) (ps : Params) (comma bare : Bool) (b : Body) → ProperFunction whole (function form.Arrow start end None ps comma bare b) → Completes limit (print_function whole d (function form.Arrow start end None ps comma bare b)) (FunctionFollow (function form.Arrow start end None ps comma bare b)) (parser.arrow_alone v) (function form.Arrow start end None ps comma bare b)
+  arrow_complete : (start end : ℕ) (ps : Params) (comma bare : Bool) (b : Body) → inner.ProperFunction whole_mode (function form.Arrow start end None ps comma bare b) → Completes limit (print_function whole d (function form.Arrow start end None ps comma bare b)) (FunctionFollow (function form.Arrow start end None ps comma bare b)) (parser.arrow_alone v) (function form.Arrow start end None ps comma bare b)
   unfolding parser.arrow_alone
   arrow_complete start end ps comma bare b k =
       let h = strict_head bare start ps comma k.0 k.2 k.3 in
       c_pieces limit (same_pieces start end ps comma bare b) (c_value (arrow_as start end ps comma bare b h.head h.is)
       (c_bind limit (λ x. bind Exprs.arrow_mark (λ _. bind (parser.strict_body v x) (λ y. ret (function_case form.Arrow None x y)))) h.reads lead_any
-      (c_bind limit (λ _. bind (parser.strict_body v h.head) (λ y. ret (function_case form.Arrow None h.head y))) (arrow_mark_complete limit whole d low v c) lead_any
-      (c_made limit (function_case form.Arrow None h.head) (body_reads h.head end b k.4)))))
+      (c_bind limit (λ _. bind (parser.strict_body v h.head) (λ y. ret (function_case form.Arrow None h.head y))) (arrow_mark_complete limit whole_mode d low v c) lead_any
+      (c_made limit (function_case form.Arrow None h.head) (body_reads h.head end b (subst (λ x. inner.ProperBody whole_mode form.Arrow x b) (sym h.is.0) k.4))))))
 
-  plain_complete : (f : FuncForm) → PlainForm f → (start end : ℕ) (ps : Params) (comma bare : Bool) (b : Body) → ProperFunction whole (function f start end None ps comma bare b) → {F : Lexeme → Type 0} → Completes limit (print_function whole d (function f start end None ps comma bare b)) F (Exprs.function_of v f None) (function f start end None ps comma bare b)
-  plain_complete f i start end ps comma bare b k = function_complete limit whole d low v c f None i start end ps comma bare b k
+  plain_complete : (f : FuncForm) → PlainForm f → (start end : ℕ) (ps : Params) (comma bare : Bool) (b : Body) → inner.ProperFunction whole_mode (function f start end None ps comma bare b) → {F : Lexeme → Type 0} → Completes limit (print_function whole d (function f start end None ps comma bare b)) F (Exprs.function_of v f None) (function f start end None ps comma bare b)
+  plain_complete f i start end ps comma bare b k = function_complete limit whole_mode d low v c f None i start end ps comma bare b k
 
-  either_complete : (f : FuncForm) (start end : ℕ) (ps : Params) (comma bare : Bool) (b : Body) → ProperFunction whole (function f start end None ps comma bare b) → Completes limit (print_function whole d (function f start end None ps comma bare b)) (FunctionFollow (function f start end None ps comma bare b)) (when (parser.is_arrow_form f) (parser.arrow_alone v) (Exprs.function_of v f None)) (function f start end None ps comma bare b)
+  either_complete : (f : FuncForm) (start end : ℕ) (ps : Params) (comma bare : Bool) (b : Body) → inner.ProperFunction whole_mode (function f start end None ps comma bare b) → Completes limit (print_function whole d (function f start end None ps comma bare b)) (FunctionFollow (function f start end None ps comma bare b)) (when (parser.is_arrow_form f) (parser.arrow_alone v) (Exprs.function_of v f None)) (function f start end None ps comma bare b)
   either_complete form.Arrow start end ps comma bare b k = arrow_complete start end ps comma bare b k
   either_complete form.Function start end ps comma bare b k = plain_complete form.Function tt start end ps comma bare b k
   either_complete form.Method start end ps comma bare b k = plain_complete form.Method tt start end ps comma bare b k
@@ -354,10 +356,10 @@ module _ (limit d : ℕ) (low : d ≤ limit) (v : Env) (c : CompleteEnv limit wh
   either_complete form.Setter start end ps comma bare b k = plain_complete form.Setter tt start end ps comma bare b k
   either_complete form.Script start end ps comma bare b k = absurd k.1
 
-  by_form : (f g : FuncForm) (start end : ℕ) (name : Option Named) (ps : Params) (comma bare : Bool) (b : Body) → g ≡ f → name ≡ None → ProperFunction whole (function g start end name ps comma bare b) → Completes limit (print_function whole d (function g start end name ps comma bare b)) (FunctionFollow (function g start end name ps comma bare b)) (when (parser.is_arrow_form f) (parser.arrow_alone v) (Exprs.function_of v f None)) (function g start end name ps comma bare b)
+  by_form : (f g : FuncForm) (start end : ℕ) (name : Option Named) (ps : Params) (comma bare : Bool) (b : Body) → g ≡ f → name ≡ None → inner.ProperFunction whole_mode (function g start end name ps comma bare b) → Completes limit (print_function whole d (function g start end name ps comma bare b)) (FunctionFollow (function g start end name ps comma bare b)) (when (parser.is_arrow_form f) (parser.arrow_alone v) (Exprs.function_of v f None)) (function g start end name ps comma bare b)
   by_form f g start end name ps comma bare b e h k =
       subst (λ x. Completes limit (print_function whole d (function g start end name ps comma bare b)) (FunctionFollow (function g start end name ps comma bare b)) (when (parser.is_arrow_form x) (parser.arrow_alone v) (Exprs.function_of v x None)) (function g start end name ps comma bare b)) e
-      (subst (λ x. ProperFunction whole (function g start end x ps comma bare b) → Completes limit (print_function whole d (function g start end x ps comma bare b)) (FunctionFollow (function g start end x ps comma bare b)) (when (parser.is_arrow_form g) (parser.arrow_alone v) (Exprs.function_of v g None)) (function g start end x ps comma bare b)) (sym h) (λ q. either_complete g start end ps comma bare b q) k)
+      (subst (λ x. inner.ProperFunction whole_mode (function g start end x ps comma bare b) → Completes limit (print_function whole d (function g start end x ps comma bare b)) (FunctionFollow (function g start end x ps comma bare b)) (when (parser.is_arrow_form g) (parser.arrow_alone v) (Exprs.function_of v g None)) (function g start end x ps comma bare b)) (sym h) (λ q. either_complete g start end ps comma bare b q) k)
 
   function_end : (x : Function) (t : Lexeme) → is_end t.kind ≡ true → FunctionFollow x t
   function_end x t h = stop_assign true (function_ending x) t (stop_end true (function_ending x) t (end_known t.kind h))
@@ -366,4 +368,4 @@ module _ (limit d : ℕ) (low : d ≤ limit) (v : Env) (c : CompleteEnv limit wh
   unfolding parser.alone_of
   alone_complete f (function g start end name ps comma bare b) o k =
       let x : Function = function g start end name ps comma bare b in
-      c_pieces limit (append-nil (print_function whole d x) ∙ alone_print d x) (c_bind limit parser.end_of (by_form f g start end name ps comma bare b o.0 o.1 (proper_alone x k)) (lead_map (λ t h. function_end x t h) lead_none) (end_complete limit x))
+      c_pieces limit (append-nil (print_function whole d x) ∙ alone_print d x) (c_bind limit parser.end_of (by_form f g start end name ps comma bare b o.0 o.1 (in_function x (proper_alone x k))) (lead_map (λ t h. function_end x t h) lead_none) (end_complete limit x))

@@ -59,6 +59,7 @@ pub mod PassedLaws
 pub mod Passing
 pub mod PassingLaws
 pub mod Partnered
+pub mod ProperIn
 pub mod Refuse
 pub mod Rows
 pub mod ScriptLaws

@@ -12,7 +12,6 @@ use Rattle.script_grammar.specs.Tree.{Stmt, Binds, Function, function}
 use Rattle.script_grammar.specs.Tree as tree
 use Rattle.script_grammar.specs.Pieces.{Bodies, Piece, At, Gap, Pass, Wanted, Exactly, AnyWord}
 use Rattle.script_grammar.specs.Print.{print, print_stmt}
-use Rattle.script_grammar.specs.Proper.{ProperStmt}
 use Rattle.pure_parser.specs.Parser.{Parser, head_of, ret, step, when}
 use Rattle.pure_parser.specs.Exprs.{begins_assign, begins_word, begins_mark}
 use Rattle.pure_parser.specs.Stmts as parser
@@ -20,6 +19,7 @@ use Rattle.pure_parser.specs.Stmts.{Place, AnItem, AStmt, Block, is_item, is_ins
 use Rattle.pure_parser.proofs.Tests.{false_true, true_false}
 use Rattle.pure_parser.proofs.Completes.{of_kind, at_kind}
 use Rattle.pure_parser.proofs.ExprFronts.{OfKind, word_elim, mark_elim, Opens, opens_append, expr_opens}
+use Rattle.pure_parser.proofs.ProperIn.{Mode, ProperStmt}
 
 -- what no statement begins with, and what ends a list of them or stands behind a statement
 abbrev pub starts : Kind → Bool
@@ -53,15 +53,15 @@ decl_starts decl.Var = refl
 decl_starts decl.Let = refl
 decl_starts decl.Const = refl
 
-declared_opens : (m : Bodies) (d : ℕ) (f : Function) → Opens starts (print_stmt m d (tree.Declared f))
+declared_opens : (m : Mode) (d : ℕ) (f : Function) → Opens starts (print_stmt m.look d (tree.Declared f))
 declared_opens m d (function form start end name ps comma bare body) = refl
 
-pub stmt_opens : (m : Bodies) (d : ℕ) (i : Bool) (s : Stmt) → ProperStmt m i s → Opens starts (print_stmt m d s)
+pub stmt_opens : (m : Mode) (d : ℕ) (i : Bool) (s : Stmt) → ProperStmt m i s → Opens starts (print_stmt m.look d s)
 stmt_opens m d i (tree.Block items) h = refl
 stmt_opens m d i tree.Empty h = refl
 stmt_opens m d i (tree.Debugger semi) h = refl
 stmt_opens m d i (tree.Binding c binds semi) h = decl_starts c
-stmt_opens m d i (tree.Value e semi) h = opens_append starts (print m (suc d) e) _ (opens_map begins_assign starts assign_starts (print m (suc d) e) (expr_opens m (suc d) e h.2))
+stmt_opens m d i (tree.Value e semi) h = opens_append starts (print m.look (suc d) e) _ (opens_map begins_assign starts assign_starts (print m.look (suc d) e) (expr_opens m (suc d) e h.2))
 stmt_opens m d i (tree.If test then_stmt else_stmt) h = refl
 stmt_opens m d i (tree.Do body test semi) h = refl
 stmt_opens m d i (tree.While test body) h = refl

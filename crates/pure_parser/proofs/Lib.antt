@@ -37,6 +37,7 @@ pub mod Completes
 pub mod DeepFronts
 pub mod ExprEnds
 pub mod ExprFronts
+pub mod FillLaws
 pub mod Filling
 pub mod FirstFaults
 pub mod Fitting
@@ -55,6 +56,7 @@ pub mod Lone
 pub mod Nested
 pub mod NestedTrees
 pub mod PartLaws
+pub mod PassedIn
 pub mod PassedLaws
 pub mod Passing
 pub mod PassingLaws

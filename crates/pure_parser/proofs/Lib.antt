@@ -59,6 +59,7 @@ pub mod PartLaws
 pub mod PassedIn
 pub mod PassedLaws
 pub mod Passing
+pub mod PassingComplete
 pub mod PassingLaws
 pub mod Partnered
 pub mod ProperIn

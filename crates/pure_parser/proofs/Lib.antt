@@ -58,6 +58,7 @@ pub mod NestedTrees
 pub mod PartLaws
 pub mod PassedIn
 pub mod PassedLaws
+pub mod PassedParts
 pub mod Passing
 pub mod PassingComplete
 pub mod PassingLaws

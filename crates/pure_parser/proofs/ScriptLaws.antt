@@ -54,7 +54,7 @@ pub record ScriptOf (ts : List Lexeme) (items : Stmts) : Type 0 where
 
 -- the three laws
 
-end_kind : (t : Lexeme) → t.kind ≡ kind.End → is_end t.kind ≡ true
+pub end_kind : (t : Lexeme) → t.kind ≡ kind.End → is_end t.kind ≡ true
 end_kind t e = ap is_end e
 
 script_inner : (w : List Lexeme) (items : Stmts) (n : Lexeme) → IsScript w n items → AllInner w
@@ -67,7 +67,7 @@ script_part u v items s = record {
   is = record { inner = u ++ v; end = end_lexeme; split = sym (append_assoc u v (end_lexeme ∷ [])); ends = refl; items = items; is = s; deep_is = refl };
 }
 
-marks_append : (u v : List Marked) → marks (u ++ v) ≡ marks u ++ marks v
+pub marks_append : (u v : List Marked) → marks (u ++ v) ≡ marks u ++ marks v
 marks_append [] v = refl
 marks_append (x ∷ u) v = ap (λ y. x.depth ∷ y) (marks_append u v)
 

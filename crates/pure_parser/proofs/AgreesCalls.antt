@@ -51,7 +51,7 @@ module _ (bodies : ℕ → Body) where
     spanned_at ts (bad_at vs) r s m = ap (λ x. spanned_reply ts x) m
     spanned_at ts (deep_at vs) r s m = ap (λ x. spanned_reply ts x) m
 
-    spanned_agrees : {e l : Parser Expr} → Agrees judge (ExprK bodies) e l → Agrees judge SpannedK (spanned e) (spanned l)
+    pub spanned_agrees : {e l : Parser Expr} → Agrees judge (ExprK bodies) e l → Agrees judge SpannedK (spanned e) (spanned l)
     spanned_agrees {e = e} {l = l} h = record { at = λ ts. subst (λ q. MeetsAt judge SpannedK (judged judge q) (spanned e ts) (spanned l ts)) (sym (spanned_records ts (l ts))) (spanned_at ts (judged judge (records (l ts))) (e ts) (l ts) (h.at ts)) }
 
     pub arrow_mark_agrees : Agrees judge AnyK parser.arrow_mark parser.arrow_mark

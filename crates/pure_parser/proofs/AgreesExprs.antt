@@ -203,7 +203,7 @@ module _ (bodies : ℕ → Body) where
           agrees_when judge (parser.is_getter f) (agrees_made judge (λ _. record { start = start; params = []; comma = false; bare = false }) (λ _. record { start = start; params = []; comma = false; bare = false }) (expect_agrees mark.CLOSE_PAREN) (λ _ _ _. record { starts = refl; params = tt; commas = refl; bares = refl }))
           (agrees_when judge (parser.is_setter f) (one_agrees start) (listed_agrees start))
 
-      params_head_agrees : (f : FuncForm) → Agrees judge (HeadK bodies) (parser.params_head v f) (parser.params_head u f)
+      pub params_head_agrees : (f : FuncForm) → Agrees judge (HeadK bodies) (parser.params_head v f) (parser.params_head u f)
       unfolding parser.params_head
       params_head_agrees f = agrees_peek judge (λ t. agrees_when judge (is_mark mark.OPEN_PAREN t.kind) (agrees_step judge (form_params_agrees f t.start)) (agrees_bad judge))
 

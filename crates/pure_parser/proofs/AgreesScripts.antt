@@ -105,7 +105,7 @@ module _ (bodies : ℕ → Body) (braced : (n : ℕ) → body_ending (bodies n) 
         by (inl h) = subst (λ z. Meets body_in_place (BodyK bodies start) (own (t ∷ ts)) z) (sym (passing_here bodies room f start simple2 t ts h)) (subst (λ v. MeetsAt body_in_place (BodyK bodies start) v (own (t ∷ ts)) (put_before (record_at bodies room f start simple2 (t ∷ ts) ∷ []) (passed_reply bodies room f start simple2 ts))) (sym verdict) (by_reply t ts (record_at bodies room f start simple2 (t ∷ ts)) (own (t ∷ ts)) (s (t ∷ ts)) (((reading_sound 0 (everything in_place room).stmts (in_place_sound room 0).stmts).braced f start simple).at (t ∷ ts))))
         by (inr h) = subst (λ z. Meets body_in_place (BodyK bodies start) (own (t ∷ ts)) z) (sym (passing_no bodies room f start simple2 (t ∷ ts) h)) (reading_no (everything in_place room).stmts f start simple (t ∷ ts) h)
 
-    body_agrees : ((ts : List Lexeme) → Silent (own ts)) → Agrees body_in_place (BodyK bodies start) own (passing bodies room f start simple2)
+    pub body_agrees : ((ts : List Lexeme) → Silent (own ts)) → Agrees body_in_place (BodyK bodies start) own (passing bodies room f start simple2)
     body_agrees s = record { at = body_at s }
 
   -- all calls

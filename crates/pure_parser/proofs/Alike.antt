@@ -182,7 +182,7 @@ module _ (bodies : ℕ → Body) where
   props_same (p ∷ ps) [] h = absurd h
   props_same (p ∷ ps) (q ∷ qs) h = ap (λ x. more_props x (props_of qs)) h.0.same ∙ ap (more_props (fill_prop bodies p)) (props_same ps qs h.1)
 
-  params_same : (ps qs : List Param) → ListK ParamK ps qs → params_of qs ≡ fill_params bodies (params_of ps)
+  pub params_same : (ps qs : List Param) → ListK ParamK ps qs → params_of qs ≡ fill_params bodies (params_of ps)
   params_same [] [] h = refl
   params_same [] (q ∷ qs) h = absurd h
   params_same (p ∷ ps) [] h = absurd h

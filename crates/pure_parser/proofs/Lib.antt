@@ -1,6 +1,7 @@
 mod CornerRows
 mod DepthRows
 pub mod Agrees
+pub mod AgreesAlone
 pub mod AgreesCalls
 pub mod AgreesExprs
 pub mod AgreesScripts
@@ -56,6 +57,7 @@ pub mod Lone
 pub mod Nested
 pub mod NestedTrees
 pub mod PartLaws
+pub mod PassedAlone
 pub mod PassedIn
 pub mod PassedLaws
 pub mod PassedParts

@@ -66,10 +66,10 @@ env_complete limit room d e = record { calls = (in_place_complete limit room d e
 
 -- an AssignmentExpression
 
-assign_complete : (limit room d : ℕ) → room + d ≡ limit → (w : Bool) (x : Lexeme) (u : List Lexeme) (e : Expr) → IsAssign whole w d u x e → Completes limit (print whole (suc d) e) (λ t. continues_assign w (ending e) t ≡ false) (read_assign room w) e
+pub assign_complete : (limit room d : ℕ) → room + d ≡ limit → (w : Bool) (x : Lexeme) (u : List Lexeme) (e : Expr) → IsAssign whole w d u x e → Completes limit (print whole (suc d) e) (λ t. continues_assign w (ending e) t ≡ false) (read_assign room w) e
 assign_complete limit room d q w x u e s = (env_complete limit room d q).calls.assign w e s.level (in_expr e s.proper) s.in_if
 
-no_assign : (w : Bool) (e : Expr) → continues_assign w (ending e) end_lexeme ≡ false
+pub no_assign : (w : Bool) (e : Expr) → continues_assign w (ending e) end_lexeme ≡ false
 no_assign w e = stop_assign w (ending e) end_lexeme (stop_end w (ending e) end_lexeme refl)
 
 assign_inner : (d : ℕ) (w : Bool) (u : List Lexeme) (e : Expr) → IsExpr whole w (suc d) 20 u e → AllInner u
@@ -105,10 +105,10 @@ one_assign w d u x y a b s t =
 
 -- an Expression
 
-expression_complete : (limit room d : ℕ) → room + d ≡ limit → (w : Bool) (x : Lexeme) (u : List Lexeme) (e : Expr) → IsExpression whole w d u x e → Completes limit (print whole (suc d) e) (λ t. continues_expr w (ending e) t ≡ false) (read_expression room w) e
+pub expression_complete : (limit room d : ℕ) → room + d ≡ limit → (w : Bool) (x : Lexeme) (u : List Lexeme) (e : Expr) → IsExpression whole w d u x e → Completes limit (print whole (suc d) e) (λ t. continues_expr w (ending e) t ≡ false) (read_expression room w) e
 expression_complete limit room d q w x u e s = expr_complete limit whole_mode d (omega (arith, q)) (env_with room) (env_complete limit room d q) w e (in_expr e s.proper) s.in_if
 
-no_expr : (w : Bool) (e : Expr) → continues_expr w (ending e) end_lexeme ≡ false
+pub no_expr : (w : Bool) (e : Expr) → continues_expr w (ending e) end_lexeme ≡ false
 no_expr w e = stop_end w (ending e) end_lexeme refl
 
 expression_inner : (d : ℕ) (w : Bool) (u : List Lexeme) (e : Expr) → IsExpr whole w (suc d) 21 u e → AllInner u

@@ -53,6 +53,7 @@ pub mod LocalExprs
 pub mod LocalHeads
 pub mod LocalRace
 pub mod LocalStmts
+pub mod Longest
 pub mod Lone
 pub mod Nested
 pub mod NestedTrees

@@ -75,10 +75,10 @@ script_part d u v items s = record {
   is = record { inner = u ++ v; end = end_lexeme; split = sym (append_assoc u v (end_lexeme ∷ [])); ends = refl; items = items; is = s; deep_is = refl };
 }
 
-no_assign : (w : Bool) (e : Expr) → continues_assign w (ending e) end_lexeme ≡ false
+pub no_assign : (w : Bool) (e : Expr) → continues_assign w (ending e) end_lexeme ≡ false
 no_assign w e = stop_assign w (ending e) end_lexeme (stop_end w (ending e) end_lexeme refl)
 
-no_expr : (w : Bool) (e : Expr) → continues_expr w (ending e) end_lexeme ≡ false
+pub no_expr : (w : Bool) (e : Expr) → continues_expr w (ending e) end_lexeme ≡ false
 no_expr w e = stop_end w (ending e) end_lexeme refl
 
 module _ (bodies : ℕ → Body) (braced : AreBraced bodies) where
@@ -107,7 +107,7 @@ module _ (bodies : ℕ → Body) (braced : AreBraced bodies) where
 
   -- an AssignmentExpression
 
-  assign_complete : (limit room d : ℕ) → room + d ≡ limit → (w : Bool) (x : Lexeme) (u : List Lexeme) (e : Expr) → IsAssign passed w d u x e → Completes limit (print passed (suc d) e) (λ t. continues_assign w (ending e) t ≡ false) (pass_assign room w) (fill bodies e)
+  pub assign_complete : (limit room d : ℕ) → room + d ≡ limit → (w : Bool) (x : Lexeme) (u : List Lexeme) (e : Expr) → IsAssign passed w d u x e → Completes limit (print passed (suc d) e) (λ t. continues_assign w (ending e) t ≡ false) (pass_assign room w) (fill bodies e)
   assign_complete limit room d q w x u e s = c_pieces limit (print_fill bodies braced (suc d) e) (c_weaken limit (λ t g. ap (λ y. continues_assign w y t) (ending_fill bodies braced e) ∙ g) ((pass_complete limit room d q).calls.assign w (fill bodies e) (subst (λ y. y ≤ assign_rank) (sym (rank_fill bodies braced e)) s.level) (has_expr bodies braced e s.proper) (filled_in w e s.in_if)))
 
   pub assign_decides : (room d : ℕ) → room + d ≡ depth_limit → (w : Bool) → Decides (AssignPart passed w d) (pass_assign room w)
@@ -142,7 +142,7 @@ module _ (bodies : ℕ → Body) (braced : AreBraced bodies) where
 
   -- an Expression
 
-  expression_complete : (limit room d : ℕ) → room + d ≡ limit → (w : Bool) (x : Lexeme) (u : List Lexeme) (e : Expr) → IsExpression passed w d u x e → Completes limit (print passed (suc d) e) (λ t. continues_expr w (ending e) t ≡ false) (pass_expression room w) (fill bodies e)
+  pub expression_complete : (limit room d : ℕ) → room + d ≡ limit → (w : Bool) (x : Lexeme) (u : List Lexeme) (e : Expr) → IsExpression passed w d u x e → Completes limit (print passed (suc d) e) (λ t. continues_expr w (ending e) t ≡ false) (pass_expression room w) (fill bodies e)
   expression_complete limit room d q w x u e s = c_pieces limit (print_fill bodies braced (suc d) e) (c_weaken limit (λ t g. ap (λ y. continues_expr w y t) (ending_fill bodies braced e) ∙ g) (expr_complete limit (passed_mode bodies) d (omega (arith, q)) (pass_env room) (pass_complete limit room d q) w (fill bodies e) (has_expr bodies braced e s.proper) (filled_in w e s.in_if)))
 
   pub expression_decides : (room d : ℕ) → room + d ≡ depth_limit → (w : Bool) → Decides (ExpressionPart passed w d) (pass_expression room w)

@@ -11,7 +11,7 @@ nil_from [] r e = refl
 nil_from (u ∷ us) r e = absurd (omega (arith, ap length e, length-append us r))
 
 -- a list that ends as another is one lexeme longer is that lexeme
-one_from : (us : List Lexeme) (x : Lexeme) (r : List Lexeme) → us ++ r ≡ x ∷ r → us ≡ x ∷ []
+pub one_from : (us : List Lexeme) (x : Lexeme) (r : List Lexeme) → us ++ r ≡ x ∷ r → us ≡ x ∷ []
 one_from [] x r e = absurd (omega (arith, ap length e))
 one_from (u ∷ us) x r e = cc (nil_from us r (rest_same e))
   where
@@ -27,7 +27,7 @@ bad_short x r (Read a rs us) e = cc
 bad_short {A} x r (Bad rs us) e = ap (λ y. Bad [] y) (one_from us x r (bad_rest A us x r (sym e)))
 bad_short x r (Deep rs us) e = cc
 
-left_bare : {A : Type 0} (s : Reply A) → left (bare s) ≡ left s
+pub left_bare : {A : Type 0} (s : Reply A) → left (bare s) ≡ left s
 left_bare (Read a rs us) = refl
 left_bare (Bad rs us) = refl
 left_bare (Deep rs us) = refl

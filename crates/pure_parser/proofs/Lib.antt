@@ -59,6 +59,7 @@ pub mod Nested
 pub mod NestedTrees
 pub mod PartLaws
 pub mod PassedAlone
+pub mod PassedBodies
 pub mod PassedIn
 pub mod PassedLaws
 pub mod PassedParts

@@ -10,6 +10,7 @@ use Rattle.script_grammar.specs.Kinds.{op_kind, decl_word}
 use Rattle.script_grammar.specs.Tree.{Named, Expr, Exprs, no_exprs, more_exprs, MaybeExpr, no_expr, some_expr, MaybeArgs, no_args, some_args, Parts, no_parts, more_parts, Items, no_items, more_items, Operands, no_operands, more_operands, Tail, Tails, no_tails, more_tails, Key, Prop, Props, no_props, more_props, Function, function, Params, no_params, more_params, Body, Binds, no_binds, more_binds, Init, Each, Clauses, no_clauses, more_clauses, Stmt, Stmts, no_stmts, more_stmts, MaybeStmt, no_stmt, some_stmt}
 use Rattle.script_grammar.specs.Tree as tree
 use Rattle.script_grammar.specs.Pieces.{Bodies, whole, passed, Piece, At, Fits, Opener, template, open_at_end, comma_piece, mark_piece, template_piece, Exactly, open_behind, text_piece, Slot, word_piece}
+use Rattle.script_grammar.specs.Script.{print_braced}
 use Rattle.script_grammar.specs.Print
 use Rattle.script_grammar.specs.Proper.{Proper, ProperExprs, ProperMaybe, ProperOption, ProperArgs, ProperParts, ProperItems, ProperOperands, ProperTails, ProperTail, ProperKey, ProperProp, ProperProps, ProperFunction, ProperParams, ProperBody, ProperBinds, ProperInit, ProperEach, ProperClauses, ProperStmts, ProperElse, ProperStmt, operands_level}
 use Rattle.pure_parser.proofs.Fitting.{fits_part}
@@ -238,3 +239,7 @@ mutual
   nested_stmt m d i (tree.Label name body) p = name_cons _ _ refl (mark_cons mark.COLON d _ (omega arith) (nested_stmt m (suc d) i body p.1))
   nested_stmt m d i (tree.Try body param handler) p = word_cons _ word.TRY _ refl (braces _ _ (Print.print_stmts m d body) _ refl refl (nested_stmts m d i body p.0) (word_cons _ word.CATCH _ refl (nested_append (catch_nested param d) (braces _ _ (Print.print_stmts m d handler) [] refl refl (nested_stmts m d i handler p.1) nested_none))))
   nested_stmt m d i (tree.Declared f) p = nested_declared m d f p.1
+
+-- a braced body whose own statements are read
+pub nested_own : (m : Bodies) (d end : ℕ) (items : Stmts) → ProperStmts m true items → Nested (print_braced m d end items)
+nested_own m d end items p = braces _ _ (Print.print_stmts m d items) [] refl refl (nested_stmts m d true items p) nested_none

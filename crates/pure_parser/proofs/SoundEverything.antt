@@ -12,6 +12,7 @@ use Rattle.script_grammar.specs.Tree as tree
 use Rattle.script_grammar.specs.TreeLists.{stmts_of}
 use Rattle.script_grammar.specs.Pieces.{Bodies, whole, closing_mark}
 use Rattle.script_grammar.specs.Print.{print_stmts}
+use Rattle.script_grammar.specs.Proper.{ProperStmts}
 use Rattle.pure_parser.specs.Parser.{Reply, Read, Bad, Deep, Parser, ret, bad, step}
 use Rattle.pure_parser.specs.Exprs.{name_of, named}
 use Rattle.pure_parser.specs.Stmts as parser
@@ -42,7 +43,7 @@ use Rattle.pure_parser.proofs.SoundParts.{looser}
 use Rattle.script_grammar.specs.declared.token.Decl.TheVariants as decl
 use Rattle.pure_parser.specs.Parser.{deep}
 use Rattle.script_grammar.specs.Kinds.{is_end}
-use Rattle.script_grammar.specs.Script.{IsStatements, IsScript}
+use Rattle.script_grammar.specs.Script.{IsStatements, IsScript, print_braced}
 use Rattle.pure_parser.proofs.SoundScripts.{valued_is, semi_written, semicolon}
 use Rattle.pure_parser.proofs.Fitting.{all_closing}
 use Rattle.pure_parser.proofs.Sound.{LeadsAt}
@@ -51,9 +52,14 @@ use Rattle.pure_parser.proofs.SoundParts.{SoundBody, IsBraced}
 use Rattle.pure_parser.proofs.SoundCalls.{nothing, nothing_sound, assign_begun, no_calls_sound, case_sound}
 use Rattle.pure_parser.proofs.SoundScripts.{binding_sound, declared_sound, stmt_sound}
 
--- a braced body that is read in place
+-- a braced body whose own statements are read
+pub record IsOwn (m : Bodies) (d : ℕ) (u : List Lexeme) (b : BodyRead) : Type 0 where
+  pub items : Stmts
+  pub is : b.body ≡ tree.BracedBody items
+  pub proper : ProperStmts m true items
+  pub fits : FitsAll (print_braced m d b.end items) u
 
-module _ (d : ℕ) (stmt : StmtCalls) (s : SoundStmts whole d stmt) where
+module _ (m : Bodies) (d : ℕ) (stmt : StmtCalls) (s : SoundStmts m d stmt) where
   closing_some : next.Mended AtFront (Plain (λ u (e : ℕ). FitsAll (closing_mark mark.CLOSE_BRACE e d ∷ []) u))
   closing_some = record { end = lexeme_of_kind (kind.Mark mark.CLOSE_BRACE) ∷ []; of = 0; starts = λ n f. record { omits = refl }; is = λ n f. all_closing mark.CLOSE_BRACE d (lexeme_of_kind (kind.Mark mark.CLOSE_BRACE)) refl }
 
@@ -67,17 +73,18 @@ module _ (d : ℕ) (stmt : StmtCalls) (s : SoundStmts whole d stmt) where
   unfolding parser.close_body
   close_body_sound ss = next_peek (λ t. at_when (is_mark mark.CLOSE_BRACE t.kind) (λ h. at_step t (next_ret {a = record { body = tree.BracedBody (stmts_of ss); end = t.end }} (λ n. (refl, all_closing mark.CLOSE_BRACE d t (mark_known mark.CLOSE_BRACE t.kind h))))) (λ h. next_at t (next_bad (closed_some ss)))) (next_bad (closed_some ss))
 
-  reading_braced : (form : FuncForm) (start : ℕ) (simple : Bool) → Sound Inside (IsBraced whole d form) (parser.reading stmt form start simple)
+  pub own_sound : (form : FuncForm) (start : ℕ) (simple : Bool) → Sound Inside (IsOwn m d) (parser.reading stmt form start simple)
   unfolding parser.reading
-  reading_braced form start simple = plain_of (past_bind {E = IsMark mark.OPEN_BRACE d} (expect_sound mark.OPEN_BRACE d) (λ u _ q. next_bind (next_inside (stmts_sound whole d stmt s true)) (λ w ss. next_map (λ v b n h r. record {
+  own_sound form start simple = plain_of (past_bind {E = IsMark mark.OPEN_BRACE d} (expect_sound mark.OPEN_BRACE d) (λ u _ q. next_bind (next_inside (stmts_sound m d stmt s true)) (λ w ss. next_map (λ v b n h r. record {
     items = stmts_of ss;
     is = h.0;
     proper = r.proper;
     fits = all_append q (close_all w v n r.fits h.1);
   }) (close_body_sound ss))))
 
-  pub reading_sound : SoundBody whole d (parser.reading stmt)
-  reading_sound = record { braced = reading_braced }
+-- one that is read in place
+pub reading_sound : (d : ℕ) (stmt : StmtCalls) → SoundStmts whole d stmt → SoundBody whole d (parser.reading stmt)
+reading_sound d stmt s = record { braced = λ form start simple. sound_map (λ u b h. record { items = h.items; is = h.is; proper = h.proper; fits = h.fits }) (own_sound whole d stmt s form start simple) }
 
 -- What begins a statement is completed by some end.
 

@@ -60,6 +60,7 @@ pub mod NestedTrees
 pub mod PartLaws
 pub mod PassedAlone
 pub mod PassedBodies
+pub mod PassedHeads
 pub mod PassedIn
 pub mod PassedLaws
 pub mod PassedParts

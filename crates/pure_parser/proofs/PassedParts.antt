@@ -96,10 +96,10 @@ module _ (bodies : ℕ → Body) (braced : AreBraced bodies) where
   abbrev pub pass_statements : ℕ → Parser Stmts
   pass_statements room = parser.script_of (everything (passed_over bodies) room).stmts
 
-  pass_sound : (room d : ℕ) → SoundEnv passed d (pass_env room)
+  pub pass_sound : (room d : ℕ) → SoundEnv passed d (pass_env room)
   pass_sound room d = record { calls = (passed_over_sound bodies braced room d).exprs; body = passing_sound bodies braced d room }
 
-  pass_complete : (limit room d : ℕ) → room + d ≡ limit → CompleteEnv limit (passed_mode bodies) d (pass_env room)
+  pub pass_complete : (limit room d : ℕ) → room + d ≡ limit → CompleteEnv limit (passed_mode bodies) d (pass_env room)
   pass_complete limit room d e = record { calls = (passed_over_complete limit bodies room d e).exprs; body = passing_complete limit d (omega (arith, e)) bodies room }
 
   filled_in : (w : Bool) (e : Expr) → InIf w (free_of_in e) → InIf w (free_of_in (fill bodies e))

@@ -1,17 +1,16 @@
 -- A function that is read alone, its own statements by both parsers: the one reads the bodies inside in place, and the other
 -- passes them over. They agree.
-use Rattle.std.proofs.Common.{◌≡◌, ℕ, List, [], ◌∷◌, refl, sym, ap, ◌∙◌, subst, Bool, true, false, Option, None}
+use Rattle.std.proofs.Common.{◌≡◌, ℕ, refl, sym, ap, ◌∙◌, subst, Bool, true, None}
 use Rattle.script_grammar.specs.declared.token.FuncForm.{FuncForm}
 use Rattle.script_grammar.specs.declared.token.FuncForm.TheVariants as form
 use Rattle.script_grammar.specs.declared.token.mark.TheConstants as mark
-use Rattle.script_grammar.specs.Lexeme.{Lexeme}
 use Rattle.script_grammar.specs.Kinds.{is_mark, is_name}
 use Rattle.script_grammar.specs.Tree.{Body, Function, function}
 use Rattle.script_grammar.specs.Tree as tree
 use Rattle.script_grammar.specs.TreeLists.{params_of}
 use Rattle.script_grammar.specs.Pieces.{BracedArrow}
 use Rattle.script_grammar.specs.Endings.{body_ending}
-use Rattle.pure_parser.specs.Parser.{Recorded, Reply, Parser, ret, bind, Again, Stop, stopped}
+use Rattle.pure_parser.specs.Parser.{Recorded, Reply, ret, bind, Again, Stop, stopped}
 use Rattle.pure_parser.specs.Exprs
 use Rattle.pure_parser.specs.Exprs.{Env, Call, AnAssign, AParam, ARest, BodyParser, BodyRead, Plain, Trailing, Rest, Head, passing, spanned, head_case, bare_head, function_case, is_simple, short_body, params_head, function_of}
 use Rattle.pure_parser.specs.Stmts as parser

@@ -10,7 +10,7 @@ use Rattle.script_grammar.specs.Lexeme.{Lexeme}
 use Rattle.script_grammar.specs.Kinds.{is_mark, is_name, is_assign_op, op_kind, op_level, mark_level, is_prefix_op, is_arrow_form}
 use Rattle.script_grammar.specs.Tree.{Named, Expr, Params, no_params, more_params, MaybeExpr, no_expr, some_expr, Function, function, Body, Tails, no_tails, more_tails, Operands, no_operands, more_operands, Parts, no_parts, more_parts}
 use Rattle.script_grammar.specs.Tree as tree
-use Rattle.script_grammar.specs.Pieces.{Bodies, Piece, At, Gap, Pass, Opener, paren, open_behind, open_at_end, comma_piece, mark_piece, name_piece, glued_mark, placed, from}
+use Rattle.script_grammar.specs.Pieces.{Piece, At, Gap, Pass, Opener, paren, open_behind, open_at_end, comma_piece, mark_piece, name_piece, glued_mark, placed, from}
 use Rattle.script_grammar.specs.Endings.{ending}
 use Rattle.script_grammar.specs.Print.{print, print_params, print_tails, print_operands, print_body, first_kind}
 use Rattle.script_grammar.specs.Proper.{rank, HasTails, HasOperands, operands_level, first_rank}

@@ -6,7 +6,7 @@ use Rattle.script_grammar.specs.Lexeme.{Lexeme}
 use Rattle.script_grammar.specs.Kinds.{is_mark, is_name}
 use Rattle.script_grammar.specs.Tree.{Named, Expr, MaybeExpr, no_expr, some_expr, Params, no_params, more_params}
 use Rattle.script_grammar.specs.TreeLists.{Param, maybe_expr_of}
-use Rattle.script_grammar.specs.Pieces.{Bodies, Piece, mark_piece, name_piece, comma_piece}
+use Rattle.script_grammar.specs.Pieces.{Piece, mark_piece, name_piece, comma_piece}
 use Rattle.script_grammar.specs.Print.{print_params, print_more_params, print_initializer}
 use Rattle.script_grammar.specs.Proper.{AreParams}
 use Rattle.pure_parser.specs.Parser.{Read, head_of, rest_of, ret, bind, step, when, Turn, Again, Stop, loop, stopped, begun, Many}

@@ -13,7 +13,7 @@ use Rattle.script_grammar.specs.Kinds.{is_mark, is_word, decl_word}
 use Rattle.script_grammar.specs.Tree.{Named, Expr, Stmt, Stmts, no_stmts, more_stmts, MaybeStmt, no_stmt, some_stmt, MaybeExpr, no_expr, some_expr, Binds, no_binds, more_binds, Function, function}
 use Rattle.script_grammar.specs.Tree as tree
 use Rattle.script_grammar.specs.TreeLists.{Bind, maybe_expr_of, binds_of}
-use Rattle.script_grammar.specs.Pieces.{Bodies, Piece, Ending, BareBinding, may_omit, mark_piece, word_piece, name_piece, semi_piece}
+use Rattle.script_grammar.specs.Pieces.{Piece, Ending, BareBinding, may_omit, mark_piece, word_piece, name_piece, semi_piece}
 use Rattle.script_grammar.specs.Endings.{ending, binds_ending, bind_ending}
 use Rattle.script_grammar.specs.Print.{print, print_stmt, print_maybe, print_binds, print_more_binds, print_initializer}
 use Rattle.script_grammar.specs.Proper.{rank, HasBinds, is_statement, free_of_in, maybe_free, binds_free, InIf}

@@ -9,7 +9,7 @@ use Rattle.script_grammar.specs.Kinds.{is_mark, is_arrow_form}
 use Rattle.script_grammar.specs.Tree.{Named, Expr, MaybeExpr, no_expr, some_expr, Function, function}
 use Rattle.script_grammar.specs.Tree as tree
 use Rattle.script_grammar.specs.TreeLists.{Param, maybe_expr_of}
-use Rattle.script_grammar.specs.Pieces.{Bodies, mark_piece, name_piece}
+use Rattle.script_grammar.specs.Pieces.{mark_piece, name_piece}
 use Rattle.script_grammar.specs.Endings.{ending}
 use Rattle.script_grammar.specs.Print.{print}
 use Rattle.script_grammar.specs.Proper.{rank, free_of_in, InIf, assign_rank}

@@ -10,7 +10,7 @@ use Rattle.script_grammar.specs.Kinds.{is_mark, is_word, is_any_word}
 use Rattle.script_grammar.specs.Tree.{Expr, MaybeArgs, no_args, some_args, Tail, Tails, no_tails, more_tails, Function, function, Parts, no_parts, more_parts, Exprs}
 use Rattle.script_grammar.specs.Tree as tree
 use Rattle.script_grammar.specs.TreeLists.{exprs_of, tails_of}
-use Rattle.script_grammar.specs.Pieces.{Bodies, comma_piece, mark_piece, any_word}
+use Rattle.script_grammar.specs.Pieces.{comma_piece, mark_piece, any_word}
 use Rattle.script_grammar.specs.Endings.{ending}
 use Rattle.script_grammar.specs.Print.{print, print_list, print_tails, print_tail, first_kind}
 use Rattle.script_grammar.specs.Proper.{rank, HasTails, is_member_tail, are_member_tails, new_rank}

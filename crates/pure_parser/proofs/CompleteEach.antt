@@ -10,7 +10,7 @@ use Rattle.script_grammar.specs.Lexeme.{Lexeme}
 use Rattle.script_grammar.specs.Kinds.{is_mark, is_word, is_name, is_var}
 use Rattle.script_grammar.specs.Tree.{Named, Expr, Stmt, Stmts, no_stmts, more_stmts, MaybeStmt, no_stmt, some_stmt, MaybeExpr, no_expr, some_expr, Binds, no_binds, more_binds, Function, function}
 use Rattle.script_grammar.specs.Tree as tree
-use Rattle.script_grammar.specs.Pieces.{Bodies, whole, Wanted, Exactly, AnyWord, IsWanted, is_wanted, begins_with, Piece, At, Gap, Pass, mark_piece, name_piece, semi_piece}
+use Rattle.script_grammar.specs.Pieces.{whole, Wanted, Exactly, AnyWord, IsWanted, is_wanted, begins_with, Piece, At, Gap, Pass, mark_piece, name_piece, semi_piece}
 use Rattle.script_grammar.specs.Endings.{ending}
 use Rattle.script_grammar.specs.Print.{print, print_stmt}
 use Rattle.script_grammar.specs.Proper.{HasBinds, IsDeclaration, is_statement}

@@ -10,7 +10,7 @@ use Rattle.script_grammar.specs.Kinds.{is_name, is_end}
 use Rattle.script_grammar.specs.Tree.{Named, Expr, Stmt, Stmts, Function, function}
 use Rattle.script_grammar.specs.Tree as tree
 use Rattle.script_grammar.specs.TreeLists.{stmts_of}
-use Rattle.script_grammar.specs.Pieces.{Bodies, whole, mark_piece, closing_mark, name_piece}
+use Rattle.script_grammar.specs.Pieces.{whole, mark_piece, closing_mark, name_piece}
 use Rattle.script_grammar.specs.Print.{print_stmts, print_stmt, print_function}
 use Rattle.script_grammar.specs.Proper.{}
 use Rattle.script_grammar.specs.Proper as plain

@@ -9,7 +9,7 @@ use Rattle.script_grammar.specs.Kinds.{is_mark, is_name}
 use Rattle.script_grammar.specs.Tree.{Named, Expr, MaybeExpr, no_expr, some_expr, Params, no_params, more_params, Function, function, Body, BracedBody, ShortBody, Stmts}
 use Rattle.script_grammar.specs.Tree as tree
 use Rattle.script_grammar.specs.TreeLists.{Param, params_of, maybe_expr_of}
-use Rattle.script_grammar.specs.Pieces.{Bodies, Piece, mark_piece, name_piece, comma_piece, placed}
+use Rattle.script_grammar.specs.Pieces.{Piece, mark_piece, name_piece, comma_piece, placed}
 use Rattle.script_grammar.specs.Print.{print_params, print_initializer, print_body, print_function, parenthesized, print_name}
 use Rattle.script_grammar.specs.Proper.{AreParams, SuitsForm, IsOneParam}
 use Rattle.pure_parser.specs.Parser.{Read, head_of, ret, bind, step, when, Turn, Again, Stop, stopped}

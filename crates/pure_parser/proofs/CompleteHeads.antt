@@ -8,7 +8,7 @@ use Rattle.script_grammar.specs.Kinds.{is_mark}
 use Rattle.script_grammar.specs.Tree.{Named, Expr, MaybeExpr, no_expr, some_expr, Params, no_params, more_params, Function, function, Body, BracedBody, ShortBody, Stmts}
 use Rattle.script_grammar.specs.Tree as tree
 use Rattle.script_grammar.specs.TreeLists.{params_of}
-use Rattle.script_grammar.specs.Pieces.{Bodies, whole, Piece, mark_piece, glued_mark, until}
+use Rattle.script_grammar.specs.Pieces.{whole, Piece, mark_piece, glued_mark, until}
 use Rattle.script_grammar.specs.Endings.{ending, body_ending}
 use Rattle.script_grammar.specs.Print.{print, print_params, print_body, parenthesized}
 use Rattle.script_grammar.specs.Proper.{rank, AreParams, IsBare, BareIf, free_of_in, body_free, InIf, assign_rank, begins_brace}

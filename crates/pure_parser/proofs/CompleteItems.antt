@@ -8,7 +8,7 @@ use Rattle.script_grammar.specs.Kinds.{is_mark}
 use Rattle.script_grammar.specs.Tree.{Expr, MaybeExpr, no_expr, some_expr, Items, no_items, more_items, Parts, no_parts, more_parts}
 use Rattle.script_grammar.specs.Tree as tree
 use Rattle.script_grammar.specs.TreeLists.{Part, items_of, parts_of, maybe_expr_of}
-use Rattle.script_grammar.specs.Pieces.{Bodies, Ending, BracedArrow, Postfix, Operand, BareBinding, Keyword, DoWhile, Piece, mark_piece, comma_piece, template_piece}
+use Rattle.script_grammar.specs.Pieces.{Ending, BracedArrow, Postfix, Operand, BareBinding, Keyword, DoWhile, Piece, mark_piece, comma_piece, template_piece}
 use Rattle.script_grammar.specs.Endings.{ending}
 use Rattle.script_grammar.specs.Print.{print, print_maybe, print_items, print_parts}
 use Rattle.script_grammar.specs.Proper.{rank, AreItems, is_hole, assign_rank}

@@ -10,7 +10,7 @@ use Rattle.script_grammar.specs.Kinds.{is_mark, is_word, is_update, kind_level, 
 use Rattle.script_grammar.specs.Tree.{Expr, Operands, no_operands, more_operands, MaybeArgs, Function, function}
 use Rattle.script_grammar.specs.Tree as tree
 use Rattle.script_grammar.specs.TreeLists.{Operand, operands_of}
-use Rattle.script_grammar.specs.Pieces.{Bodies, Piece, Ending}
+use Rattle.script_grammar.specs.Pieces.{Piece, Ending}
 use Rattle.script_grammar.specs.Endings.{ending, operands_ending}
 use Rattle.script_grammar.specs.Print.{print, print_operands, operator_piece}
 use Rattle.script_grammar.specs.Proper.{rank, HasOperands, operand_rank, first_rank, level_rank, free_of_in, operands_free, InIf, are_member_tails, function_rank, new_rank}

@@ -6,7 +6,7 @@ use Rattle.script_grammar.specs.Lexeme.{Lexeme}
 use Rattle.script_grammar.specs.Kinds.{is_mark}
 use Rattle.script_grammar.specs.Tree.{Named, MaybeExpr, no_expr, some_expr, Params, no_params, more_params}
 use Rattle.script_grammar.specs.TreeLists.{Param, params_of, maybe_expr_of}
-use Rattle.script_grammar.specs.Pieces.{Bodies, Piece, mark_piece, name_piece, comma_piece}
+use Rattle.script_grammar.specs.Pieces.{Piece, mark_piece, name_piece, comma_piece}
 use Rattle.script_grammar.specs.Endings.{ending}
 use Rattle.script_grammar.specs.Print.{print_params, print_more_params, print_initializer}
 use Rattle.script_grammar.specs.Proper.{AreParams}

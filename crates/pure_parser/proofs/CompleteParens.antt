@@ -6,7 +6,7 @@ use Rattle.script_grammar.specs.Lexeme.{Lexeme}
 use Rattle.script_grammar.specs.Kinds.{is_mark}
 use Rattle.script_grammar.specs.Tree.{Expr, Exprs, no_exprs, more_exprs}
 use Rattle.script_grammar.specs.Tree as tree
-use Rattle.script_grammar.specs.Pieces.{Bodies, Piece, mark_piece}
+use Rattle.script_grammar.specs.Pieces.{Piece, mark_piece}
 use Rattle.script_grammar.specs.Endings.{ending, last_ending}
 use Rattle.script_grammar.specs.Print.{print, print_list, print_more}
 use Rattle.script_grammar.specs.Proper.{rank, assign_rank}

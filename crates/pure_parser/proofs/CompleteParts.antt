@@ -9,7 +9,7 @@ use Rattle.script_grammar.specs.Kinds.{is_mark, is_word, is_update, is_arrow_for
 use Rattle.script_grammar.specs.Tree.{Named, Expr, Exprs, no_exprs, more_exprs, MaybeExpr, no_expr, some_expr, MaybeArgs, Stmts, Body, Function, function}
 use Rattle.script_grammar.specs.Tree as tree
 use Rattle.script_grammar.specs.TreeLists.{Param, exprs_of, maybe_expr_of}
-use Rattle.script_grammar.specs.Pieces.{Bodies, Piece, Ending, Operand, mark_piece, name_piece, comma_piece}
+use Rattle.script_grammar.specs.Pieces.{Piece, Ending, Operand, mark_piece, name_piece, comma_piece}
 use Rattle.script_grammar.specs.Endings.{ending, last_ending}
 use Rattle.script_grammar.specs.Print.{print, print_list, print_more, print_body}
 use Rattle.script_grammar.specs.Proper.{rank, function_rank, new_rank, are_member_tails, HasExprs, free_of_in, all_free, InIf, assign_rank}

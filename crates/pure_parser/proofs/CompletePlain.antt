@@ -9,7 +9,7 @@ use Rattle.script_grammar.specs.Lexeme.{Lexeme}
 use Rattle.script_grammar.specs.Kinds.{is_mark, is_word, is_update, is_binary, is_assign_mark, is_assign_op, kind_level, mark_level, is_arrow_form, between}
 use Rattle.script_grammar.specs.Tree.{Expr, Operands, no_operands, more_operands, MaybeArgs, Function, function}
 use Rattle.script_grammar.specs.Tree as tree
-use Rattle.script_grammar.specs.Pieces.{Bodies, Piece, Ending, Operand, BracedArrow, Postfix, BareBinding, Keyword, DoWhile, mark_piece}
+use Rattle.script_grammar.specs.Pieces.{Piece, Ending, Operand, BracedArrow, Postfix, BareBinding, Keyword, DoWhile, mark_piece}
 use Rattle.script_grammar.specs.Endings.{ending, operands_ending, function_ending, body_ending}
 use Rattle.script_grammar.specs.Print.{print, print_operands}
 use Rattle.script_grammar.specs.Proper.{rank, free_of_in, operands_free, InIf, are_member_tails, function_rank, new_rank, operands_level, rest_rank}

@@ -7,7 +7,7 @@ use Rattle.script_grammar.specs.Lexeme.{Lexeme}
 use Rattle.script_grammar.specs.Kinds.{is_word, is_prefix, is_prefix_op, is_update, op_kind, is_arrow_form}
 use Rattle.script_grammar.specs.Tree.{Expr, MaybeArgs, no_args, some_args, Tail, Tails, no_tails, more_tails, Function, function, Parts, no_parts, more_parts, Exprs}
 use Rattle.script_grammar.specs.Tree as tree
-use Rattle.script_grammar.specs.Pieces.{Bodies, Postfix, Operand, Piece, from}
+use Rattle.script_grammar.specs.Pieces.{Postfix, Operand, Piece, from}
 use Rattle.script_grammar.specs.Endings.{ending}
 use Rattle.script_grammar.specs.Print.{print, print_tails, first_kind}
 use Rattle.script_grammar.specs.Proper.{rank, are_member_tails, left_rank, unary_rank, new_rank, function_rank}

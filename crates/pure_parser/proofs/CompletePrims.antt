@@ -7,7 +7,6 @@ use Rattle.script_grammar.specs.declared.token.FuncForm.TheVariants as form
 use Rattle.script_grammar.specs.Lexeme.{Lexeme}
 use Rattle.script_grammar.specs.Tree.{Named, Expr, Function, function, MaybeArgs, Parts, no_parts, more_parts}
 use Rattle.script_grammar.specs.Tree as tree
-use Rattle.script_grammar.specs.Pieces.{Bodies}
 use Rattle.script_grammar.specs.Print.{print}
 use Rattle.script_grammar.specs.Proper.{rank, new_rank, are_member_tails}
 use Rattle.pure_parser.specs.Parser.{Read, ret}

@@ -9,7 +9,7 @@ use Rattle.script_grammar.specs.Kinds.{is_mark, is_word, is_name, is_end}
 use Rattle.script_grammar.specs.Tree.{Named, Expr, Stmt, Stmts, no_stmts, more_stmts, MaybeStmt, no_stmt, some_stmt, MaybeExpr, no_expr, some_expr, Binds, no_binds, more_binds, Function, function}
 use Rattle.script_grammar.specs.Tree as tree
 use Rattle.script_grammar.specs.TreeLists.{maybe_expr_of, maybe_stmt_of}
-use Rattle.script_grammar.specs.Pieces.{Bodies, Piece, At, Gap, Pass, Keyword, DoWhile, may_omit, mark_piece, word_piece, semi_piece, glue}
+use Rattle.script_grammar.specs.Pieces.{Piece, At, Gap, Pass, Keyword, DoWhile, may_omit, mark_piece, word_piece, semi_piece, glue}
 use Rattle.script_grammar.specs.Endings.{ending, return_ending}
 use Rattle.script_grammar.specs.Print.{print, print_stmt, print_stmts, print_else, print_label, print_maybe}
 use Rattle.script_grammar.specs.Proper.{is_statement, takes_else}

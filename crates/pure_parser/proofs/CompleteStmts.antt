@@ -10,7 +10,7 @@ use Rattle.script_grammar.specs.Lexeme.{Lexeme}
 use Rattle.script_grammar.specs.Kinds.{is_mark, is_word, is_end}
 use Rattle.script_grammar.specs.Tree.{Named, Expr, Stmt, Stmts, no_stmts, more_stmts, Function}
 use Rattle.script_grammar.specs.TreeLists.{stmts_of}
-use Rattle.script_grammar.specs.Pieces.{Bodies, Piece, Ending, may_omit, mark_piece, name_piece, semi_piece}
+use Rattle.script_grammar.specs.Pieces.{Piece, Ending, may_omit, mark_piece, name_piece, semi_piece}
 use Rattle.script_grammar.specs.Endings.{ending}
 use Rattle.script_grammar.specs.Print.{print, print_stmt, print_stmts, print_function}
 use Rattle.script_grammar.specs.Proper.{rank, is_statement, takes_else, free_of_in, InIf, assign_rank}

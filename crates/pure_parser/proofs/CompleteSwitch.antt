@@ -8,7 +8,7 @@ use Rattle.script_grammar.specs.Kinds.{is_mark, is_word}
 use Rattle.script_grammar.specs.Tree.{Named, Expr, Stmt, Stmts, no_stmts, more_stmts, MaybeStmt, no_stmt, some_stmt, MaybeExpr, no_expr, some_expr, Binds, no_binds, more_binds, Function, function}
 use Rattle.script_grammar.specs.Tree as tree
 use Rattle.script_grammar.specs.TreeLists.{maybe_expr_of, stmts_of}
-use Rattle.script_grammar.specs.Pieces.{Bodies, Piece, mark_piece, word_piece, name_piece}
+use Rattle.script_grammar.specs.Pieces.{Piece, mark_piece, word_piece, name_piece}
 use Rattle.script_grammar.specs.Endings.{ending}
 use Rattle.script_grammar.specs.Print.{print, print_stmts, print_catch_param}
 use Rattle.pure_parser.specs.Parser.{Read, Parser, head_of, ret, bind, step, when, Turn, Again, Stop, loop}

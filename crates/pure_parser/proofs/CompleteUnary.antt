@@ -9,7 +9,7 @@ use Rattle.script_grammar.specs.Kinds.{is_mark, is_word, is_prefix, is_update, i
 use Rattle.script_grammar.specs.Tree.{Expr, MaybeArgs, no_args, some_args, Tail, Tails, no_tails, more_tails, Function, function, Parts, no_parts, more_parts, Exprs}
 use Rattle.script_grammar.specs.Tree as tree
 use Rattle.script_grammar.specs.TreeLists.{Args, maybe_args_of}
-use Rattle.script_grammar.specs.Pieces.{Bodies, Piece, At, from}
+use Rattle.script_grammar.specs.Pieces.{Piece, At, from}
 use Rattle.script_grammar.specs.Print.{print, print_tails, print_args}
 use Rattle.script_grammar.specs.Proper.{rank, are_member_tails, left_rank, callee_rank, function_rank}
 use Rattle.pure_parser.specs.Parser.{Read, Parser, head_of, ret, bind, step, when, loop}

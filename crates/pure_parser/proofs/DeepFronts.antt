@@ -12,7 +12,7 @@ use Rattle.script_grammar.specs.Lexeme.{Lexeme}
 use Rattle.script_grammar.specs.Kinds.{is_mark, is_word, decl_word, is_var}
 use Rattle.script_grammar.specs.Tree.{Named, Expr, Exprs, no_exprs, more_exprs, MaybeExpr, no_expr, some_expr, Params, no_params, more_params, Function, function, Stmt}
 use Rattle.script_grammar.specs.Tree as tree
-use Rattle.script_grammar.specs.Pieces.{Bodies, whole, Piece, At, Gap, Pass, Wanted, Exactly, AnyWord, from, begins_with, is_wanted}
+use Rattle.script_grammar.specs.Pieces.{whole, Piece, At, Gap, Pass, Wanted, Exactly, AnyWord, from, begins_with, is_wanted}
 use Rattle.script_grammar.specs.Print.{print, print_stmt, print_more, above}
 use Rattle.script_grammar.specs.Proper.{is_statement}
 use Rattle.pure_parser.specs.Parser.{head_of, no_room}

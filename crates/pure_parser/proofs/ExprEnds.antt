@@ -3,7 +3,7 @@ use Rattle.std.proofs.Common.{◌≡◌, ℕ, suc, List, [], ◌∷◌, ◌++◌
 use Rattle.script_grammar.specs.Lexeme.{Lexeme}
 use Rattle.script_grammar.specs.Tree.{Expr, Exprs, no_exprs, more_exprs, MaybeArgs, no_args, some_args, Parts, no_parts, more_parts, Operands, no_operands, more_operands, Tail, Tails, no_tails, more_tails, Function, function, Body}
 use Rattle.script_grammar.specs.Tree as tree
-use Rattle.script_grammar.specs.Pieces.{Bodies, Piece, At, Gap, Pass, Slot, comma_piece, from, until, ending_at}
+use Rattle.script_grammar.specs.Pieces.{Piece, At, Gap, Pass, Slot, comma_piece, from, until, ending_at}
 use Rattle.script_grammar.specs.Print.{print, print_list, print_more, print_parts, print_operands, print_tails, print_tail, print_func, above, inside, print_items, print_props, print_stmts, func_word, parenthesized, print_params, param_depth, arrow_pieces}
 use Rattle.script_grammar.specs.Proper.{HasOperands, HasTails, HasExprs, operands_level}
 use Rattle.pure_parser.specs.Exprs.{last_end}

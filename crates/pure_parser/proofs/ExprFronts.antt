@@ -11,7 +11,7 @@ use Rattle.script_grammar.specs.Lexeme.{Lexeme}
 use Rattle.script_grammar.specs.Kinds.{is_mark, is_word, is_name, is_any_word, is_prefix_op, is_update_op, is_assign_op, op_kind, op_level, mark_level, no_level}
 use Rattle.script_grammar.specs.Tree.{Named, Expr, Exprs, no_exprs, more_exprs, Function, function, Params, no_params, more_params, no_expr, some_expr, Tails, no_tails, more_tails, Operands, no_operands, more_operands, Parts, no_parts, more_parts}
 use Rattle.script_grammar.specs.Tree as tree
-use Rattle.script_grammar.specs.Pieces.{Bodies, Piece, At, Gap, Pass, Wanted, Exactly, AnyWord, IsWanted, from, begins_with, is_wanted}
+use Rattle.script_grammar.specs.Pieces.{Piece, At, Gap, Pass, Wanted, Exactly, AnyWord, IsWanted, from, begins_with, is_wanted}
 use Rattle.script_grammar.specs.Print.{print, print_func, print_tails, print_operands, print_more, above, first_kind}
 use Rattle.script_grammar.specs.Proper.{IsFuncExpression, operands_level}
 use Rattle.pure_parser.specs.Exprs.{begins_assign, begins_word, begins_mark}

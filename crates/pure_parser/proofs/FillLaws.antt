@@ -1,9 +1,6 @@
 -- What a tree keeps when its bodies are others: how loosely its parts bind and how they end, and how it is written where
 -- bodies are passed over.
-use Rattle.std.proofs.Common.{◌≡◌, ℕ, zero, suc, ◌≤◌, ◌<◌, List, [], ◌∷◌, ◌++◌, refl, sym, ap, ◌∙◌, subst, Bool, true, false, not, ◌&&◌, nat_eq, if◌then◌else◌, Option, Some, None}
-use Rattle.script_grammar.specs.declared.token.Kind.{Kind}
-use Rattle.script_grammar.specs.declared.token.FuncForm.{FuncForm}
-use Rattle.script_grammar.specs.declared.token.FuncForm.TheVariants as form
+use Rattle.std.proofs.Common.{◌≡◌, ℕ, suc, refl, ap, ◌∙◌, true, false, not, ◌&&◌, nat_eq, if◌then◌else◌}
 use Rattle.script_grammar.specs.declared.token.word.TheConstants as word
 use Rattle.script_grammar.specs.Kinds.{is_arrow_form}
 use Rattle.script_grammar.specs.Tree.{Named, Expr, Exprs, no_exprs, more_exprs, MaybeExpr, no_expr, some_expr, MaybeArgs, no_args, some_args, Parts, no_parts, more_parts, Items, no_items, more_items, Operands, no_operands, more_operands, Tail, Tails, no_tails, more_tails, Key, Prop, Props, no_props, more_props, Function, function, Params, no_params, more_params, Body, Binds, no_binds, more_binds, Init, Each, Clauses, no_clauses, more_clauses, Stmt, Stmts, no_stmts, more_stmts, MaybeStmt, no_stmt, some_stmt}
@@ -387,4 +384,3 @@ module _ (bodies : ℕ → Body) (braced : AreBraced bodies) where
     stmt_print d (tree.Label name body) = rw (stmt_print (suc d) body) refl
     stmt_print d (tree.Try body param handler) = rw ((stmts_print d body), (stmts_print d handler)) refl
     stmt_print d (tree.Declared f) = declared_print d f
-

@@ -12,7 +12,7 @@ use Rattle.script_grammar.specs.Tree as tree
 use Rattle.script_grammar.specs.TreeLists.{Param, params_of, maybe_expr_of}
 use Rattle.script_grammar.specs.Pieces.{whole, Piece, At, Slot, mark_piece, name_piece, comma_piece, glued_mark}
 use Rattle.script_grammar.specs.Print.{print_params, print_body, print_function, print_initializer, parenthesized, param_depth, arrow_pieces}
-use Rattle.script_grammar.specs.Proper.{ProperBody, ProperFunction, ProperParams, ProperMaybe, AreParams, BareIf}
+use Rattle.script_grammar.specs.Proper.{ProperBody, ProperFunction, AreParams, BareIf}
 use Rattle.script_grammar.specs.Script.{IsOf, OwnProper, ProperAlone, print_own, print_alone}
 use Rattle.pure_parser.specs.Parser.{Read, head_of, ret, bind, step, when, Turn, Again, Stop, Many, stopped}
 use Rattle.pure_parser.specs.Exprs

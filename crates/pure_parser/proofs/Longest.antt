@@ -7,7 +7,6 @@ use Rattle.script_grammar.specs.Pieces.{Piece, whole, passed, Fits}
 use Rattle.script_grammar.specs.Print.{print}
 use Rattle.script_grammar.specs.Fault.{depth_limit, Part, Begins, AssignPart, ExpressionPart}
 use Rattle.pure_parser.specs.Parser.{Reply, Read, Bad, Deep, Parser, end_lexeme}
-use Rattle.pure_parser.specs.Exprs.{AnAssign}
 use Rattle.pure_parser.proofs.Friendly.{end_friendly}
 use Rattle.pure_parser.proofs.Local.{Local, Same, out, kept, left, grown}
 use Rattle.pure_parser.proofs.Stands.{Marked, lexemes, Stands, fits_standing}

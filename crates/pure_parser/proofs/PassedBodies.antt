@@ -5,7 +5,6 @@ use Rattle.script_grammar.specs.declared.token.FuncForm.{FuncForm}
 use Rattle.script_grammar.specs.declared.token.mark.TheConstants as mark
 use Rattle.script_grammar.specs.Lexeme.{Lexeme}
 use Rattle.script_grammar.specs.Tree.{Body, Stmts}
-use Rattle.script_grammar.specs.Tree as tree
 use Rattle.script_grammar.specs.Pieces.{passed, depths, mark_piece, closing_mark}
 use Rattle.script_grammar.specs.Script.{IsBody, print_braced}
 use Rattle.script_grammar.specs.Fault.{depth_limit, BodyPart, Begins, Unexpected, TooDeep, FirstFault}

@@ -1,6 +1,6 @@
 -- What the parser of a function that is no arrow answers, from its parameters on, whose braced body is passed over with all
 -- bodies in its parameters, by the definitions alone.
-use Rattle.std.proofs.Common.{◌≡◌, ℕ, suc, ◌+◌, ◌-◌, List, [], ◌++◌, length, refl, sym, ap, ◌∙◌, subst, arith, Option}
+use Rattle.std.proofs.Common.{◌≡◌, ℕ, ◌+◌, ◌-◌, List, [], ◌++◌, length, refl, sym, ap, ◌∙◌, subst, arith, Option}
 use Rattle.script_grammar.specs.declared.token.FuncForm.{FuncForm}
 use Rattle.script_grammar.specs.declared.token.FuncForm.TheVariants as form
 use Rattle.script_grammar.specs.Lexeme.{Lexeme}
@@ -16,7 +16,6 @@ use Rattle.pure_parser.proofs.Friendly.{Inside}
 use Rattle.pure_parser.proofs.Complete.{bare}
 use Rattle.pure_parser.proofs.Completes.{Completes, Any, c_pieces}
 use Rattle.pure_parser.proofs.SoundNext.{Plain, next_of, stands}
-use Rattle.pure_parser.proofs.SoundParts.{SoundEnv}
 use Rattle.pure_parser.proofs.SoundFunctions.{IsFunctionOf, IsPlainForm, function_sound}
 use Rattle.pure_parser.proofs.LocalExprs.{function_local}
 use Rattle.pure_parser.proofs.CompleteFunctions.{PlainForm, function_complete}

@@ -2,7 +2,6 @@
 -- Expression whose bodies are looked at as tokens whose brackets match: it reads them with the bodies that it is given where
 -- no token is too deep, and where it faults there is the first fault of such a part.
 use Rattle.std.proofs.Common.{◌≡◌, ℕ, suc, ◌+◌, ◌-◌, ◌≤◌, List, [], ◌∷◌, ◌++◌, length, refl, sym, ap, ◌∙◌, subst, arith, append_assoc, Bool, true, false}
-use Rattle.script_grammar.specs.declared.token.Kind.TheVariants as kind
 use Rattle.script_grammar.specs.Lexeme.{Lexeme}
 use Rattle.script_grammar.specs.Kinds.{is_end}
 use Rattle.script_grammar.specs.Tree.{Expr, Body, Stmts}
@@ -40,7 +39,7 @@ use Rattle.pure_parser.proofs.Filling.{fill, fill_stmts}
 use Rattle.pure_parser.proofs.FillLaws.{rank_fill, ending_fill, free_fill, print_fill, stmts_print}
 use Rattle.pure_parser.proofs.PassedIn.{passed_mode, has_expr, has_stmts}
 use Rattle.pure_parser.proofs.AgreesScripts.{passed_over}
-use Rattle.pure_parser.proofs.PassingLaws.{AreBraced, passing_sound, passing_local, passed_over_sound, passed_over_local}
+use Rattle.pure_parser.proofs.PassingLaws.{AreBraced, passing_sound, passed_over_sound, passed_over_local}
 use Rattle.pure_parser.proofs.PassingComplete.{passing_complete, passed_over_complete}
 
 -- tokens before the end of a text
@@ -180,7 +179,7 @@ module _ (bodies : ℕ → Body) (braced : AreBraced bodies) where
   statements_sound : (room d : ℕ) → SoundNext AtFront (λ w x n. IsStatements passed d w n x) (pass_statements room)
   statements_sound room d = script_sound passed d (everything (passed_over bodies) room).stmts (passed_over_sound bodies braced room d).stmts
 
-  statements_complete : (limit room d : ℕ) → room + d ≡ limit → (items : Stmts) → plain.ProperStmts passed false items → Completes limit (print_stmts passed d items) (λ t. is_end t.kind ≡ true) (pass_statements room) (fill_stmts bodies items)
+  pub statements_complete : (limit room d : ℕ) → room + d ≡ limit → (items : Stmts) → plain.ProperStmts passed false items → Completes limit (print_stmts passed d items) (λ t. is_end t.kind ≡ true) (pass_statements room) (fill_stmts bodies items)
   statements_complete limit room d q items h = c_pieces limit (stmts_print bodies braced d items) (script_complete limit (passed_mode bodies) d (omega (arith, q)) (everything (passed_over bodies) room).stmts (passed_over_complete limit bodies room d q).stmts (fill_stmts bodies items) (has_stmts bodies braced false items h))
 
   script_cuts : (room d : ℕ) → room + d ≡ depth_limit → (w : List Lexeme) (deep : List ℕ) → ScriptPart passed d w deep → Cuts (ScriptPart passed d) (pass_statements room) w deep

@@ -1,6 +1,6 @@
 -- Completeness of the parser that passes bodies over: at the lexemes of a tree it reads this tree with the bodies that it is
 -- given.
-use Rattle.std.proofs.Common.{◌≡◌, ℕ, ◌+◌, ◌≤◌, List, [], ◌∷◌, ◌++◌, refl, sym, ap, ◌∙◌, subst, arith, Bool, true}
+use Rattle.std.proofs.Common.{◌≡◌, ℕ, ◌+◌, ◌≤◌, List, [], ◌∷◌, ◌++◌, sym, ap, ◌∙◌, arith, Bool, true}
 use Rattle.script_grammar.specs.declared.token.Kind.TheVariants as kind
 use Rattle.script_grammar.specs.declared.token.FuncForm.{FuncForm}
 use Rattle.script_grammar.specs.declared.token.mark.TheConstants as mark
@@ -8,17 +8,16 @@ use Rattle.script_grammar.specs.Lexeme.{Lexeme}
 use Rattle.script_grammar.specs.Kinds.{is_mark}
 use Rattle.script_grammar.specs.Tree.{Body, Stmts}
 use Rattle.script_grammar.specs.Tree as tree
-use Rattle.script_grammar.specs.Pieces.{brace, passed, Pass, mark_piece, closing_mark}
+use Rattle.script_grammar.specs.Pieces.{Pass, mark_piece, closing_mark}
 use Rattle.pure_parser.specs.Parser.{Reply, Read, Deep, head_of, put_before, after, ret}
-use Rattle.pure_parser.specs.Exprs.{BodyRead, pass_over, passed_body, passing}
+use Rattle.pure_parser.specs.Exprs.{passed_body, passing}
 use Rattle.pure_parser.specs.Stmts.{everything}
 use Rattle.pure_parser.proofs.Nested.{nested_pass}
-use Rattle.pure_parser.proofs.Stands.{Marked, lexemes, Stands, AreShallow, stands_fit}
+use Rattle.pure_parser.proofs.Stands.{Marked, lexemes, Stands, stands_fit}
 use Rattle.pure_parser.proofs.Complete.{Parses, bare, cut, cut_append, cut_shallow, shallow}
-use Rattle.pure_parser.proofs.Completes.{Completes, Any}
 use Rattle.pure_parser.proofs.CompleteParts.{CompleteBody}
 use Rattle.pure_parser.proofs.CompleteEverything.{CompleteAll, everything_complete}
-use Rattle.pure_parser.proofs.Passing.{record_at, passed_reply, passing_here, braced_pass}
+use Rattle.pure_parser.proofs.Passing.{record_at, passing_here, braced_pass}
 use Rattle.pure_parser.proofs.PassedIn.{passed_mode}
 use Rattle.pure_parser.proofs.AgreesScripts.{passed_over}
 

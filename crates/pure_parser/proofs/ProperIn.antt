@@ -1,5 +1,5 @@
 -- Which trees the grammar has, where something is asked of each braced body beside: the same as `Proper`, part for part.
-use Rattle.std.proofs.Common.{◌≡◌, ℕ, zero, suc, ◌≤◌, ◌<◌, Bool, true, false, Option, Some, None}
+use Rattle.std.proofs.Common.{◌≡◌, ℕ, ◌≤◌, ◌<◌, Bool, true, false}
 use Rattle.script_grammar.specs.declared.token.FuncForm.{FuncForm}
 use Rattle.script_grammar.specs.declared.token.FuncForm.TheVariants as form
 use Rattle.script_grammar.specs.Kinds.{no_level, op_level, is_assign_op, is_prefix_op, is_update_op, is_arrow_form}

@@ -48,7 +48,7 @@ use Rattle.pure_parser.proofs.SoundScripts.{valued_is, semi_written, semicolon}
 use Rattle.pure_parser.proofs.Fitting.{all_closing}
 use Rattle.pure_parser.proofs.Sound.{LeadsAt}
 use Rattle.pure_parser.proofs.SoundNext.{Follows, stands, friendly, next_no_room}
-use Rattle.pure_parser.proofs.SoundParts.{SoundBody, IsBraced}
+use Rattle.pure_parser.proofs.SoundParts.{SoundBody}
 use Rattle.pure_parser.proofs.SoundCalls.{nothing, nothing_sound, assign_begun, no_calls_sound, case_sound}
 use Rattle.pure_parser.proofs.SoundScripts.{binding_sound, declared_sound, stmt_sound}
 

@@ -10,7 +10,7 @@ use Rattle.script_grammar.specs.Lexeme.{Lexeme}
 use Rattle.script_grammar.specs.Kinds.{is_mark, is_word, is_name, decl_word}
 use Rattle.script_grammar.specs.Tree.{Stmt, Binds, Function, function}
 use Rattle.script_grammar.specs.Tree as tree
-use Rattle.script_grammar.specs.Pieces.{Bodies, Piece, At, Gap, Pass, Wanted, Exactly, AnyWord}
+use Rattle.script_grammar.specs.Pieces.{Piece, At, Gap, Pass, Wanted, Exactly, AnyWord}
 use Rattle.script_grammar.specs.Print.{print, print_stmt}
 use Rattle.pure_parser.specs.Parser.{Parser, head_of, ret, step, when}
 use Rattle.pure_parser.specs.Exprs.{begins_assign, begins_word, begins_mark}

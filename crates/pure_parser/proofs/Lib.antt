@@ -57,6 +57,7 @@ pub mod Longest
 pub mod Lone
 pub mod Nested
 pub mod NestedTrees
+pub mod OnePassed
 pub mod PartLaws
 pub mod PassedAlone
 pub mod PassedBodies

@@ -97,3 +97,4 @@ pub mod StmtFronts
 pub mod StmtNext
 pub mod Stops
 pub mod Tests
+pub mod Verdicts

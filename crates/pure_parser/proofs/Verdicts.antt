@@ -1,14 +1,14 @@
 -- For any part: where one parser reads bodies in place and finds the first fault of the part, and the other agrees with it
 -- but passes them over, the other's reply and the verdict on the bodies that it recorded say where the first fault is.
-use Rattle.std.proofs.Common.{◌≡◌, ℕ, ◌+◌, ◌-◌, List, [], length, sym, ap, ◌∙◌, subst, Bool}
+use Rattle.std.proofs.Common.{◌≡◌, ℕ, ◌-◌, List, [], length, ap, subst, Bool}
 use Rattle.script_grammar.specs.declared.token.FuncForm.{FuncForm}
 use Rattle.script_grammar.specs.Lexeme.{Lexeme}
-use Rattle.script_grammar.specs.Tree.{Expr, Body}
+use Rattle.script_grammar.specs.Tree.{Body}
 use Rattle.script_grammar.specs.Pieces.{BracedArrow}
 use Rattle.script_grammar.specs.Endings.{body_ending}
 use Rattle.script_grammar.specs.Fault.{Part, Unexpected, TooDeep, FirstFault}
 use Rattle.pure_parser.specs.Parser.{Recorded, Reply, Read, Bad, Deep, Parser}
-use Rattle.pure_parser.specs.Exprs.{Call, AnAssign, BodyRead}
+use Rattle.pure_parser.specs.Exprs.{Call}
 use Rattle.pure_parser.specs.Stmts.{everything, in_place, reading}
 use Rattle.pure_parser.proofs.Complete.{bare}
 use Rattle.pure_parser.proofs.FirstFaults.{Whole, Decides, first_bad, first_deep}

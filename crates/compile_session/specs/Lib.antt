@@ -6,7 +6,6 @@ pub mod Statements
 pub mod Words
 pub mod Code
 pub mod Emission
-pub mod OpNames
 pub mod Listing
 pub mod Verdict
 pub mod Answers

@@ -1,52 +1,14 @@
--- The text of a code, this project's own choice: a line for each instruction.
-use Rattle.std.specs.Prelude.{◌≡◌, ℕ, ◌+◌, ◌-◌, ◌/◌, ◌%◌, ◌^◌, Bool, not, ◌&&◌, nat_eq, nat_le, List, [], ◌∷◌, ◌++◌, length, replicate, flat_map, slice_index_or, if◌then◌else◌}
-use Rattle.std.specs.Fmt.{decimal}
+-- The text of a code, read from its bytes; its lines are those of script_image.
+use Rattle.std.specs.Prelude.{◌≡◌, ℕ, ◌+◌, ◌%◌, ◌^◌, List, [], ◌++◌, slice_index_or}
 use Rattle.std.specs.Int.{cast_unsigned, w64}
 use Rattle.bytecode_buf.specs.declared.instruction.Instr.{Instr}
 use Rattle.bytecode_buf.specs.declared.opcode.Shape.{Shape}
 use Rattle.bytecode_buf.specs.declared.opcode.Shape.TheVariants as shape
 use Rattle.bytecode_buf.specs.Width.{shape_of}
 use Rattle.bytecode_buf.specs.Layout.{Numbered, AllFit, layout}
-use Rattle.bytecode_buf.specs.Command.{Operand, Nothing, Number, Text, Aliased, Distance, Target, Listed, listed_from}
-use Rattle.compile_session.specs.OpNames.{name_of}
-
--- a number in at least five digits
-abbrev pub padded : ℕ → List ℕ
-padded n = replicate (5 - length (decimal n)) 48 ++ decimal n
-
--- a hexadecimal digit in lower case
-abbrev pub hex_digit : ℕ → ℕ
-hex_digit n = if nat_le n 9 then 48 + n else 87 + n
-
-abbrev pub escaped : ℕ → List ℕ
-escaped unit = 92 ∷ 117 ∷ hex_digit (unit / 4096) ∷ hex_digit (unit / 256 % 16) ∷ hex_digit (unit / 16 % 16) ∷ hex_digit (unit % 16) ∷ []
-
--- a printable ASCII character other than `"` and `\` stands for itself
-abbrev pub is_plain : ℕ → Bool
-is_plain unit = (nat_le 32 unit && nat_le unit 126) && (not (nat_eq unit 34) && not (nat_eq unit 92))
-
-abbrev pub quoted_unit : ℕ → List ℕ
-quoted_unit unit = if is_plain unit then unit ∷ [] else escaped unit
-
--- a text between double quotes
-abbrev pub quoted : List ℕ → List ℕ
-quoted units = ((34 ∷ []) ++ flat_map quoted_unit units) ++ 34 ∷ []
-
--- a blank and an operand, where there is one
-abbrev pub operand_text : Operand → List ℕ
-operand_text Nothing = []
-operand_text (Number n) = (32 ∷ []) ++ decimal n
-operand_text (Text text) = (32 ∷ []) ++ quoted text
-operand_text (Aliased hops slot) = (((32 ∷ []) ++ decimal hops) ++ 32 ∷ []) ++ decimal slot
-operand_text (Distance distance) = (32 ∷ []) ++ decimal distance
-operand_text (Target offset) = (32 ∷ []) ++ decimal offset
-
--- an instruction's line: two blanks, its offset, its name, its operands
-abbrev pub line : Listed → List ℕ
-line l = (((((32 ∷ 32 ∷ []) ++ padded l.at) ++ 32 ∷ []) ++ name_of l.command.op) ++ operand_text l.command.operand) ++ 10 ∷ []
-
-abbrev pub listing : List Listed → List ℕ
-listing ls = flat_map line ls
+use Rattle.bytecode_buf.specs.Command.{Operand, Nothing, Number, Text, Aliased, Target, Listed, listed_from}
+pub use Rattle.script_image.specs.Quoted.{padded, hex_digit, escaped, is_plain, quoted_unit, quoted}
+pub use Rattle.script_image.specs.CodeLines.{operand_text, line, listing}
 
 -- the operand of an instruction as it is read at an offset: a jump's is its target
 abbrev pub read_operand : List (List ℕ) → ℕ → Shape → Instr → Operand

@@ -1,7 +1,7 @@
 //! The names of the opcodes, as SpiderMonkey's `vm/Opcodes.h` has them.
 
 ghost use Rattle.std.specs.Prelude.{◌≡◌};
-ghost use Rattle.compile_session.specs.OpNames as names;
+ghost use Rattle.script_image.specs.OpNames as names;
 
 use bytecode_buf::Op;
 

@@ -12,7 +12,7 @@ use Rattle.stencil_data.specs.declared.scopes.BindKind.TheVariants as bind
 use Rattle.stencil_data.specs.LinkView.{LinkView}
 use Rattle.stencil_data.specs.Named.{NamedScope, NamedFunction}
 use Rattle.stencil_data.specs.Resolve.{resolve_beyond, environments_of}
-use Rattle.scope_analysis.specs.Declared.{Text, has_text, Declaration, function_name, top_lexical_names, param_names, has_initializer}
+use Rattle.scope_analysis.specs.DeclaredNames.{Text, has_text, Declaration, function_name, top_lexical_names, param_names, has_initializer}
 use Rattle.scope_analysis.specs.Scopes.{scope_count, callee_names, body_var_names, function_scopes, script_scopes}
 use Rattle.scope_analysis.specs.Functions.{Inner, inner_function, inner_script}
 use Rattle.bytecode_buf.specs.declared.opcode.Op.TheVariants as op

@@ -12,7 +12,7 @@ use Rattle.stencil_data.specs.declared.scopes.Slot.TheVariants as slot
 use Rattle.stencil_data.specs.LinkView.{LinkView}
 use Rattle.stencil_data.specs.Named.{NamedScope}
 use Rattle.stencil_data.specs.Resolve.{resolve}
-use Rattle.scope_analysis.specs.Declared.{Declaration, function_name, lexical_names, clauses_lexical_names, init_lexical_names, each_lexical_names}
+use Rattle.scope_analysis.specs.DeclaredNames.{Declaration, function_name, lexical_names, clauses_lexical_names, init_lexical_names, each_lexical_names}
 use Rattle.scope_analysis.specs.Scopes.{scope_count, catch_names, count_stmt, count_stmts}
 use Rattle.bytecode_buf.specs.declared.opcode.Op.{Op}
 use Rattle.bytecode_buf.specs.declared.opcode.Op.TheVariants as op

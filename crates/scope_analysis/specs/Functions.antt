@@ -6,7 +6,7 @@ use Rattle.script_grammar.specs.declared.token.FuncForm.TheVariants as form
 use Rattle.script_grammar.specs.Tree.{Named, Expr, This, Name, Null, True, False, Number, Str, Template, Array, Object, Func, Paren, Chain, New, Unary, Update, Binary, Cond, Assign, Comma, Exprs, no_exprs, more_exprs, MaybeExpr, no_expr, some_expr, MaybeArgs, no_args, some_args, Parts, no_parts, more_parts, Items, no_items, more_items, Operands, no_operands, more_operands, Tail, Dot, Index, Call, Tails, no_tails, more_tails, Key, WordKey, StrKey, NumberKey, ComputedKey, Prop, Short, Pair, Method, Get, Set, Props, no_props, more_props, Function, function, Params, no_params, more_params, Body, BracedBody, ShortBody, Binds, no_binds, more_binds, Init, NoInit, ValueInit, BindsInit, Each, TargetEach, BindEach, Clauses, no_clauses, more_clauses, Stmt, Stmts, no_stmts, more_stmts, MaybeStmt, no_stmt, some_stmt, Block, Empty, Debugger, Binding, Value, If, Do, While, For, ForIn, Continue, Break, Return, Throw, Switch, Label, Try, Declared}
 use Rattle.stencil_data.specs.declared.functions.FuncKind.{FuncKind}
 use Rattle.stencil_data.specs.declared.functions.FuncKind.TheVariants as func
-use Rattle.scope_analysis.specs.Declared.{Text, Declaration, function_name, lexical_names, clauses_lexical_names, top_lexical_names, init_lexical_names, each_lexical_names, has_initializer}
+use Rattle.scope_analysis.specs.DeclaredNames.{Text, Declaration, function_name, lexical_names, clauses_lexical_names, top_lexical_names, init_lexical_names, each_lexical_names, has_initializer}
 use Rattle.scope_analysis.specs.Scopes.{scope_count, catch_names, count_stmt, count_stmts, callee_names, body_var_names}
 
 -- a function, how it is written, its name, and the numbers of the scopes around it in its function, innermost first

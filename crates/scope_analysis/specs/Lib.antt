@@ -1,4 +1,5 @@
-pub mod Declared
+pub mod DeclaredNames
 pub mod Functions
+pub mod Kept
 pub mod Scopes
 pub mod Uses

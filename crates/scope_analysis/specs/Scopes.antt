@@ -15,7 +15,7 @@ use Rattle.stencil_data.specs.declared.scopes.ScopeKind.TheVariants as scope
 use Rattle.stencil_data.specs.declared.scopes.Slot.{Slot}
 use Rattle.stencil_data.specs.Named.{NamedScope}
 use Rattle.stencil_data.specs.Slots.{Unplaced, slots, frame_after, env_slots}
-use Rattle.scope_analysis.specs.Declared.{Text, has_text, texts_without, texts_of, Declaration, declaration, declarations, name_list, lexical_names, clauses_lexical_names, top_lexical_names, init_lexical_names, each_lexical_names, top_var_names, param_names, has_initializer}
+use Rattle.scope_analysis.specs.DeclaredNames.{Text, has_text, texts_without, texts_of, Declaration, declaration, declarations, name_list, lexical_names, clauses_lexical_names, top_lexical_names, init_lexical_names, each_lexical_names, top_var_names, param_names, has_initializer}
 use Rattle.scope_analysis.specs.Uses.{Uses, uses_both, uses_without, uses_expr, uses_maybe, uses_init, uses_each, uses_stmt, uses_stmts, uses_clauses, uses_params, uses_body, body_vars, beside_params, this_text, arguments_text}
 
 -- ---- one scope

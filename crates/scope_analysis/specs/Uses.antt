@@ -4,7 +4,7 @@ use Rattle.std.specs.Prelude.{Bool, true, false, codes, if◌then◌else◌, Lis
 use Rattle.script_grammar.specs.declared.token.FuncForm.{FuncForm}
 use Rattle.script_grammar.specs.Kinds.{is_arrow_form}
 use Rattle.script_grammar.specs.Tree.{Expr, This, Name, Null, True, False, Number, Str, Template, Array, Object, Func, Paren, Chain, New, Unary, Update, Binary, Cond, Assign, Comma, Exprs, no_exprs, more_exprs, MaybeExpr, no_expr, some_expr, MaybeArgs, no_args, some_args, Parts, no_parts, more_parts, Items, no_items, more_items, Operands, no_operands, more_operands, Tail, Dot, Index, Call, Tails, no_tails, more_tails, Key, WordKey, StrKey, NumberKey, ComputedKey, Prop, Short, Pair, Method, Get, Set, Props, no_props, more_props, Function, function, Params, no_params, more_params, Body, BracedBody, ShortBody, Binds, no_binds, more_binds, Init, NoInit, ValueInit, BindsInit, Each, TargetEach, BindEach, Clauses, no_clauses, more_clauses, Stmt, Stmts, no_stmts, more_stmts, MaybeStmt, no_stmt, some_stmt, Block, Empty, Debugger, Binding, Value, If, Do, While, For, ForIn, Continue, Break, Return, Throw, Switch, Label, Try, Declared}
-use Rattle.scope_analysis.specs.Declared.{Text, texts_without, texts_of, name_list, function_name, lexical_names, clauses_lexical_names, top_lexical_names, init_lexical_names, each_lexical_names, top_var_names, param_names, has_initializer}
+use Rattle.scope_analysis.specs.DeclaredNames.{Text, texts_without, texts_of, name_list, function_name, lexical_names, clauses_lexical_names, top_lexical_names, init_lexical_names, each_lexical_names, top_var_names, param_names, has_initializer}
 
 -- the names used by a part itself, and those that functions in it use and do not bind
 pub record Uses : Type 0 where

@@ -1,13 +1,14 @@
 //! Scopes: which names the scopes of a script or function bind, where their values live, and where a name is found.
 //!
 //! It stands between the trees of script_grammar and the emitters. Its definitions say what the scopes of a tree are:
-//! the names that parts of a tree declare (`specs/Declared.antt`) and use (`specs/Uses.antt`), the scopes with their
+//! the names that parts of a tree declare (`specs/DeclaredNames.antt`) and use (`specs/Uses.antt`), the scopes with their
 //! bindings and slots (`specs/Scopes.antt`), and the functions directly in a part, with the scopes around each
 //! (`specs/Functions.antt`).
 //!
 //! Its main contract: `resolve` answers the place of the first binding of a name on a chain.
 #![tactic(auto)]
 
+mod names;
 mod resolving;
 
 pub use resolving::resolve;

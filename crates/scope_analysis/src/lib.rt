@@ -9,7 +9,9 @@
 #![tactic(auto)]
 
 mod names;
+mod place;
 mod resolving;
+mod scoping;
 
 pub use resolving::resolve;
 

@@ -1,0 +1,41 @@
+-- That the scopes of a part of a tree were added to those of its function.
+use Rattle.std.specs.Prelude.{◌≡◌, ℕ, ◌+◌, ◌^◌, ◌<◌, List, [], ◌∷◌, ◌++◌, map, length}
+use Rattle.stencil_data.specs.declared.records.ClosedName.{ClosedName}
+use Rattle.stencil_data.specs.declared.scopes.ScopeKind.{ScopeKind}
+use Rattle.stencil_data.specs.Fits.{NamesFit}
+use Rattle.stencil_data.specs.Named.{NamedScope}
+use Rattle.stencil_data.specs.StandsFor.{named_scope}
+use Rattle.stencil_data.specs.Views.{ScopeView}
+use Rattle.scope_analysis.specs.declared.scoping.Around.{Around}
+use Rattle.scope_analysis.specs.DeclaredNames.{Text, Declaration}
+use Rattle.scope_analysis.specs.Scopes.{Within, scope_and, scope_around}
+use Rattle.scope_analysis.specs.Closed.{closed_from, named_left}
+
+-- the slots of all bindings fit
+abbrev pub ScopesFit : List NamedScope → Type 0
+ScopesFit [] = Unit {0}
+ScopesFit (s ∷ ss) = NamesFit s.bindings × ScopesFit ss
+
+abbrev pub within : Around → ℕ → Within
+within around next = record { parent = around.parent; next = next; frame = around.frame }
+
+-- these scopes were added, and of the closed names those of the later scopes are left
+pub record Added (texts : List (List ℕ)) (closed : List ClosedName) (old new : List ScopeView) (to : ℕ) (part later : List NamedScope) : Type 0 where
+  pub scopes : map (named_scope texts) new ≡ map (named_scope texts) old ++ part
+  pub left : named_left texts closed to ≡ closed_from (length new) later
+
+-- the same, where these scopes fit and their closed names are the next that are left, whatever scopes are behind them
+pub record Adds (texts : List (List ℕ)) (closed : List ClosedName) (old : List ScopeView) (from : ℕ) (new : List ScopeView) (to : ℕ) (part : List NamedScope) : Type 0 where
+  pub adds : (later : List NamedScope) → ScopesFit part → length old + length part < 2 ^ 32 → named_left texts closed from ≡ closed_from (length old) (part ++ later) → Added texts closed old new to part later
+
+-- with what is added inside, this scope and that is added
+pub record Opens (texts : List (List ℕ)) (closed : List ClosedName) (old : List ScopeView) (from : ℕ) (new : List ScopeView) (to : ℕ) (kind : ScopeKind) (ds : List Declaration) (around inside : Around) : Type 0 where
+  pub opens : (inner : List Text) (content : Within → List NamedScope) (final : List ScopeView) (last : ℕ)
+    → Adds texts closed new to final last (content (within inside (length new)))
+    → Adds texts closed old from final last (scope_and kind ds inner content (within around (length old)))
+
+-- the same, where the scope is left out if nothing is declared
+pub record OpensAny (texts : List (List ℕ)) (closed : List ClosedName) (old : List ScopeView) (from : ℕ) (new : List ScopeView) (to : ℕ) (kind : ScopeKind) (ds : List Declaration) (around inside : Around) : Type 0 where
+  pub opens : (inner : List Text) (content : Within → List NamedScope) (final : List ScopeView) (last : ℕ)
+    → Adds texts closed new to final last (content (within inside (length new)))
+    → Adds texts closed old from final last (scope_around kind ds inner content (within around (length old)))

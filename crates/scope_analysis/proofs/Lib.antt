@@ -1,3 +1,4 @@
+pub mod Adding
 pub mod Placing
 pub mod Walk
 pub mod RowTrees

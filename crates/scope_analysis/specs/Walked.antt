@@ -8,7 +8,7 @@ use Rattle.stencil_data.specs.StandsFor.{named_scope}
 use Rattle.stencil_data.specs.Views.{ScopeView}
 use Rattle.scope_analysis.specs.declared.scoping.Around.{Around}
 use Rattle.scope_analysis.specs.DeclaredNames.{Text, Declaration}
-use Rattle.scope_analysis.specs.Scopes.{Within, scope_and, scope_around}
+use Rattle.scope_analysis.specs.Scopes.{Within, scope_and, scope_around, scope_count}
 use Rattle.scope_analysis.specs.Closed.{closed_from, named_left}
 
 -- the slots of all bindings fit
@@ -28,14 +28,21 @@ pub record Added (texts : List (List ℕ)) (closed : List ClosedName) (old new :
 pub record Adds (texts : List (List ℕ)) (closed : List ClosedName) (old : List ScopeView) (from : ℕ) (new : List ScopeView) (to : ℕ) (part : List NamedScope) : Type 0 where
   pub adds : (later : List NamedScope) → ScopesFit part → length old + length part < 2 ^ 32 → named_left texts closed from ≡ closed_from (length old) (part ++ later) → Added texts closed old new to part later
 
+-- Where these scopes stand, so many of them were added.
+pub record Scoped (texts : List (List ℕ)) (closed : List ClosedName) (around : Around) (old : List ScopeView) (from : ℕ) (new : List ScopeView) (to : ℕ) (count : ℕ) (part : Within → List NamedScope) : Type 0 where
+  pub counted : length new ≡ length old + count
+  pub added : Adds texts closed old from new to (part (within around (length old)))
+
 -- with what is added inside, this scope and that is added
 pub record Opens (texts : List (List ℕ)) (closed : List ClosedName) (old : List ScopeView) (from : ℕ) (new : List ScopeView) (to : ℕ) (kind : ScopeKind) (ds : List Declaration) (around inside : Around) : Type 0 where
+  pub opened : length new ≡ length old + 1
   pub opens : (inner : List Text) (content : Within → List NamedScope) (final : List ScopeView) (last : ℕ)
-    → Adds texts closed new to final last (content (within inside (length new)))
-    → Adds texts closed old from final last (scope_and kind ds inner content (within around (length old)))
+      → Adds texts closed new to final last (content (within inside (length new)))
+      → Adds texts closed old from final last (scope_and kind ds inner content (within around (length old)))
 
 -- the same, where the scope is left out if nothing is declared
 pub record OpensAny (texts : List (List ℕ)) (closed : List ClosedName) (old : List ScopeView) (from : ℕ) (new : List ScopeView) (to : ℕ) (kind : ScopeKind) (ds : List Declaration) (around inside : Around) : Type 0 where
+  pub opened : length new ≡ length old + scope_count ds
   pub opens : (inner : List Text) (content : Within → List NamedScope) (final : List ScopeView) (last : ℕ)
-    → Adds texts closed new to final last (content (within inside (length new)))
-    → Adds texts closed old from final last (scope_around kind ds inner content (within around (length old)))
+      → Adds texts closed new to final last (content (within inside (length new)))
+      → Adds texts closed old from final last (scope_around kind ds inner content (within around (length old)))

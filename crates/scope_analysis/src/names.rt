@@ -256,10 +256,7 @@ pub fn push_top_lexical_names(
 }
 
 /// Appends the lexical names of the head of a `for`.
-pub fn push_init_lexical_names(
-    init: &Init,
-    names: &mut Vec<DeclaredName>,
-) -> Result<(), AllocError>
+pub fn push_init_lexical_names(init: &Init, names: &mut Vec<DeclaredName>) -> Result<(), AllocError>
     ensures { OnOk result ((i : Interpretation) → declarations_in i names.new.items ≡ declarations_in i names.old.items ++ defined.init_lexical_names (init_of i init.now)) }
 {
     match init {
@@ -269,11 +266,7 @@ pub fn push_init_lexical_names(
     }
 }
 
-fn push_name(
-    kind: BindKind,
-    name: Ident,
-    names: &mut Vec<DeclaredName>,
-) -> Result<(), AllocError>
+fn push_name(kind: BindKind, name: Ident, names: &mut Vec<DeclaredName>) -> Result<(), AllocError>
     ensures { OnOk result ((i : Interpretation) → declarations_in i names.new.items ≡ declarations_in i names.old.items ++ defined.declaration kind (text_of i name.atom) ∷ []) }
 {
     names.push(DeclaredName {
@@ -283,11 +276,7 @@ fn push_name(
     Ok(())
 }
 
-fn push_each_name(
-    decl: Decl,
-    name: Ident,
-    names: &mut Vec<DeclaredName>,
-) -> Result<(), AllocError>
+fn push_each_name(decl: Decl, name: Ident, names: &mut Vec<DeclaredName>) -> Result<(), AllocError>
     ensures { OnOk result ((i : Interpretation) → declarations_in i names.new.items ≡ declarations_in i names.old.items ++ defined.each_lexical_names (model.BindEach decl (named i name))) }
 {
     match decl {
@@ -298,10 +287,7 @@ fn push_each_name(
 }
 
 /// Appends the lexical name of the head of a `for` with `in`.
-pub fn push_each_lexical_names(
-    each: &Each,
-    names: &mut Vec<DeclaredName>,
-) -> Result<(), AllocError>
+pub fn push_each_lexical_names(each: &Each, names: &mut Vec<DeclaredName>) -> Result<(), AllocError>
     ensures { OnOk result ((i : Interpretation) → declarations_in i names.new.items ≡ declarations_in i names.old.items ++ defined.each_lexical_names (each_of i each.now)) }
 {
     match each {

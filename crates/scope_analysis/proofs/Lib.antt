@@ -1,5 +1,7 @@
 pub mod Adding
+pub mod NameTexts
 pub mod Placing
+pub mod Tops
 pub mod Walk
 pub mod RowTrees
 pub mod ScopeRows

@@ -1,6 +1,6 @@
 -- Which names of a function, by its scopes, functions inside it close over; and the list of them that is left while its
 -- scopes are made. This project's own choice.
-use Rattle.std.specs.Prelude.{ℕ, ◌+◌, Bool, true, false, ◌&&◌, nat_eq, bytes_eq, if◌then◌else◌, List, [], ◌∷◌, ◌++◌, map, drop}
+use Rattle.std.specs.Prelude.{ℕ, ◌+◌, Bool, true, false, ◌&&◌, nat_eq, bytes_eq, if◌then◌else◌, not, List, [], ◌∷◌, ◌++◌, map, filter, drop}
 use Rattle.stencil_data.specs.declared.chains.LinkName.{LinkName}
 use Rattle.stencil_data.specs.declared.records.ClosedName.{ClosedName}
 use Rattle.stencil_data.specs.declared.scopes.Slot.{Slot}
@@ -40,3 +40,7 @@ named_left texts closed place = map (named_closed texts) (drop place closed)
 abbrev pub first_is : ℕ → Text → List NamedClosed → Bool
 first_is scope text [] = false
 first_is scope text (c ∷ cs) = nat_eq c.scope scope && bytes_eq c.text text
+
+-- the closed names of the scopes inside the global one
+abbrev pub inside_global : List ClosedName → List ClosedName
+inside_global closed = filter (λ (c : ClosedName). not (nat_eq c.scope 0)) closed

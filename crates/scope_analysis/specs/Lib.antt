@@ -4,5 +4,6 @@ pub mod Functions
 pub mod Kept
 pub mod Placing
 pub mod Scopes
+pub mod TextSets
 pub mod Uses
 pub mod Walked

@@ -4,12 +4,12 @@ use Rattle.stencil_data.specs.declared.records.ClosedName.{ClosedName}
 use Rattle.stencil_data.specs.declared.scopes.ScopeKind.{ScopeKind}
 use Rattle.stencil_data.specs.Fits.{NamesFit}
 use Rattle.stencil_data.specs.Named.{NamedScope}
-use Rattle.stencil_data.specs.StandsFor.{named_scope}
+use Rattle.stencil_data.specs.StandsFor.{named_closed, named_scope}
 use Rattle.stencil_data.specs.Views.{ScopeView}
 use Rattle.scope_analysis.specs.declared.scoping.Around.{Around}
 use Rattle.scope_analysis.specs.DeclaredNames.{Text, Declaration}
 use Rattle.scope_analysis.specs.Scopes.{Within, scope_and, scope_around, scope_count}
-use Rattle.scope_analysis.specs.Closed.{closed_from, named_left}
+use Rattle.scope_analysis.specs.Closed.{closed_from, closed_over, named_left}
 
 -- the slots of all bindings fit
 abbrev pub ScopesFit : List NamedScope → Type 0
@@ -46,3 +46,13 @@ pub record OpensAny (texts : List (List ℕ)) (closed : List ClosedName) (old : 
   pub opens : (inner : List Text) (content : Within → List NamedScope) (final : List ScopeView) (last : ℕ)
       → Adds texts closed new to final last (content (within inside (length new)))
       → Adds texts closed old from final last (scope_around kind ds inner content (within around (length old)))
+
+-- these are the closed names of these scopes, which are fewer than 2^32, and whose slots fit
+pub record CloseOver (texts : List (List ℕ)) (closed : List ClosedName) (scopes : List NamedScope) : Type 0 where
+  pub few : length scopes < 2 ^ 32
+  pub fit : ScopesFit scopes
+  pub names : map (named_closed texts) closed ≡ closed_over scopes
+
+-- the scopes are these, by their texts, where these are their closed names
+abbrev pub AreScopes : List (List ℕ) → List ClosedName → List ScopeView → List NamedScope → Type 0
+AreScopes texts closed scopes defined = CloseOver texts closed defined → map (named_scope texts) scopes ≡ defined

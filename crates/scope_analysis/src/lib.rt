@@ -12,8 +12,11 @@ mod names;
 mod place;
 mod resolving;
 mod scoping;
+mod texts;
+mod toplevel;
 
 pub use resolving::resolve;
+pub use toplevel::top_scopes;
 
 #[cfg(test)]
 mod tests;

@@ -109,9 +109,9 @@ fn push_each_bind(decl: Decl, name: Ident, atoms: &mut Vec<u32>) -> Result<(), A
     }
 }
 
-// Appends the var names of a statement, at any depth, functions left out.
+/// Appends the var names of a statement, at any depth, functions left out.
 #[cycle(var_names)]
-fn push_var_names(stmt: &Stmt, atoms: &mut Vec<u32>) -> Result<(), AllocError>
+pub fn push_var_names(stmt: &Stmt, atoms: &mut Vec<u32>) -> Result<(), AllocError>
     ensures { OnOk result ((i : Interpretation) → map (text_of i) atoms.new.items ≡ map (text_of i) atoms.old.items ++ defined.var_names_in (stmt_of i stmt.now)) }
 {
     match stmt {

@@ -18,6 +18,7 @@ use stencil_data::{BindKind, Binding, ClosedName, Slot, Text};
 
 /// What is known of a function or script: the texts of its atoms, and the names of its scopes that functions inside it
 /// close over, in order of scope and then of the scope's bindings.
+#[derive(Clone, Copy)]
 pub struct Known<'a> {
     pub alloc: Global,
     pub texts: &'a [Text],

@@ -68,7 +68,7 @@ adds_both texts closed a b c at_a at_b at_c p q first second = record {
 -- ---- a scope
 
 -- a scope that is not the global one has its slots like any other
-slots_lexical : (kind : ScopeKind) → is_global kind ≡ false → (us : List Unplaced) (env arg frame : ℕ) → slots_from kind env arg frame us ≡ slots_from scope.Lexical env arg frame us
+pub slots_lexical : (kind : ScopeKind) → is_global kind ≡ false → (us : List Unplaced) (env arg frame : ℕ) → slots_from kind env arg frame us ≡ slots_from scope.Lexical env arg frame us
 slots_lexical kind other [] env arg frame = refl
 slots_lexical kind other (u ∷ us) env arg frame =
     let same : slot_of kind env arg frame u ≡ slot_of scope.Lexical env arg frame u =

@@ -1,4 +1,5 @@
 pub mod Adding
+pub mod FunctionScopes
 pub mod NameTexts
 pub mod Placing
 pub mod Tops

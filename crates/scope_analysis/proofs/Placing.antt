@@ -50,19 +50,19 @@ first_is_later number n t lt (s ∷ ss) = first_is_bindings number n t lt s.bind
 
 -- ---- one binding, by whether it is closed over
 
-abbrev entry : Bool → ℕ → ℕ → ℕ → Declaration → LinkName
+abbrev pub entry : Bool → ℕ → ℕ → ℕ → Declaration → LinkName
 entry closed env arg frame d = record { text = d.text; kind = d.kind; slot = slot_of scope.Lexical env arg frame (record { kind = d.kind; closed = closed }) }
 
-abbrev placed_behind : Bool → ℕ → ℕ → ℕ → List Text → Declaration → List Declaration → List LinkName
+abbrev pub placed_behind : Bool → ℕ → ℕ → ℕ → List Text → Declaration → List Declaration → List LinkName
 placed_behind closed env arg frame inner d ds =
     placed_at (env + (if closed then 1 else 0)) (arg + (if is_param d.kind then 1 else 0))
     (frame + (if takes_frame (slot_of scope.Lexical env arg frame (record { kind = d.kind; closed = closed })) then 1 else 0)) inner ds
 
-abbrev placed_entry : Bool → ℕ → ℕ → ℕ → List Text → Declaration → List Declaration → List LinkName
+abbrev pub placed_entry : Bool → ℕ → ℕ → ℕ → List Text → Declaration → List Declaration → List LinkName
 placed_entry closed env arg frame inner d ds = entry closed env arg frame d ∷ placed_behind closed env arg frame inner d ds
 
 -- an own binding is none of the closed names
-closed_own : (number : ℕ) (env arg frame : ℕ) (inner : List Text) (d : Declaration) (ds : List Declaration) → closed_bindings number (placed_entry false env arg frame inner d ds) ≡ closed_bindings number (placed_behind false env arg frame inner d ds)
+pub closed_own : (number : ℕ) (env arg frame : ℕ) (inner : List Text) (d : Declaration) (ds : List Declaration) → closed_bindings number (placed_entry false env arg frame inner d ds) ≡ closed_bindings number (placed_behind false env arg frame inner d ds)
 closed_own number env arg frame inner d ds =
     ap (λ (b : Bool). (if b then record { scope = number; text = d.text } ∷ [] else []) ++ closed_bindings number (placed_behind false env arg frame inner d ds)) (is_env_own d.kind arg frame)
 

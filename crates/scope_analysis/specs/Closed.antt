@@ -1,6 +1,7 @@
 -- Which names of a function, by its scopes, functions inside it close over; and the list of them that is left while its
 -- scopes are made. This project's own choice.
 use Rattle.std.specs.Prelude.{ℕ, ◌+◌, Bool, true, false, ◌&&◌, nat_eq, bytes_eq, if◌then◌else◌, not, List, [], ◌∷◌, ◌++◌, map, filter, drop}
+use Rattle.std.specs.List.{list_any}
 use Rattle.stencil_data.specs.declared.chains.LinkName.{LinkName}
 use Rattle.stencil_data.specs.declared.records.ClosedName.{ClosedName}
 use Rattle.stencil_data.specs.declared.scopes.Slot.{Slot}
@@ -44,3 +45,7 @@ first_is scope text (c ∷ cs) = nat_eq c.scope scope && bytes_eq c.text text
 -- the closed names of the scopes inside the global one
 abbrev pub inside_global : List ClosedName → List ClosedName
 inside_global closed = filter (λ (c : ClosedName). not (nat_eq c.scope 0)) closed
+
+-- the name of this scope is one of them
+abbrev pub has_closed : ℕ → Text → List NamedClosed → Bool
+has_closed scope text closed = list_any (λ (c : NamedClosed). nat_eq c.scope scope && bytes_eq c.text text) closed

@@ -1,5 +1,6 @@
 pub mod Closed
 pub mod DeclaredNames
+pub mod FunctionTree
 pub mod Functions
 pub mod Kept
 pub mod Placing

@@ -8,6 +8,7 @@
 //! Its main contract: `resolve` answers the place of the first binding of a name on a chain.
 #![tactic(auto)]
 
+mod functions;
 mod names;
 mod place;
 mod resolving;
@@ -15,6 +16,7 @@ mod scoping;
 mod texts;
 mod toplevel;
 
+pub use functions::{OwnUses, scopes_using};
 pub use resolving::resolve;
 pub use toplevel::top_scopes;
 

@@ -53,7 +53,7 @@ pub init_first : (i : Interpretation) (params : List Param) (k : ℕ) (param : P
 init_first i params k param lt is =
     let one : k + 1 ≡ suc k = omega arith in
     let split : drop k params ≡ param ∷ drop (k + 1) params =
-        drop-cons params k param lt ∙ (ap (λ (x : Param). x ∷ drop (suc k) params) (sym is) ∙ ap (λ (n : ℕ). param ∷ drop n params) (sym one)) in
+    drop-cons params k param lt ∙ (ap (λ (x : Param). x ∷ drop (suc k) params) (sym is) ∙ ap (λ (n : ℕ). param ∷ drop n params) (sym one)) in
     ap (λ (xs : List Param). has_initializer (params_of (map (param_of i) xs))) split ∙ init_cons (param_of i param) (map (param_of i) (drop (k + 1) params))
 
 -- ---- the closed names of one scope
@@ -149,10 +149,10 @@ pub same_specials : (form : FuncForm) (u : Uses) (own_arguments own_this in_argu
     → (is_arrow_form form ≡ false → (own_arguments || in_arguments) ≡ has_text (u.own ++ u.inner) arguments_text) → (is_arrow_form form ≡ false → (own_this || in_this) ≡ has_text (u.own ++ u.inner) this_text)
     → specials form (own_arguments || in_arguments) (own_this || in_this) ≡ special_names form u
 same_specials form u own_arguments own_this in_arguments in_this arguments this = elim (cases_Bool (is_arrow_form form)) [
-    | inl e ↦ ap (λ (b : Bool). if b then [] else plain (own_arguments || in_arguments) (own_this || in_this)) e ∙ ap (λ (b : Bool). if b then [] else used_special u) (sym e)
-    | inr n ↦ ap (λ (b : Bool). if b then [] else plain (own_arguments || in_arguments) (own_this || in_this)) n
-        ∙ (ap (λ (b : Bool). plain b (own_this || in_this)) (arguments n) ∙ (ap (λ (b : Bool). plain (has_text (u.own ++ u.inner) arguments_text) b) (this n) ∙ ap (λ (b : Bool). if b then [] else used_special u) (sym n)))
-  ]
+  | inl e ↦ ap (λ (b : Bool). if b then [] else plain (own_arguments || in_arguments) (own_this || in_this)) e ∙ ap (λ (b : Bool). if b then [] else used_special u) (sym e)
+  | inr n ↦ ap (λ (b : Bool). if b then [] else plain (own_arguments || in_arguments) (own_this || in_this)) n
+      ∙ (ap (λ (b : Bool). plain b (own_this || in_this)) (arguments n) ∙ (ap (λ (b : Bool). plain (has_text (u.own ++ u.inner) arguments_text) b) (this n) ∙ ap (λ (b : Bool). if b then [] else used_special u) (sym n)))
+]
 
 -- a name that is used is among those that are bound
 has_append : (xs ys : List Declaration) (t : Text) → has_text (texts_of (xs ++ ys)) t ≡ (has_text (texts_of xs) t || has_text (texts_of ys) t)
@@ -221,20 +221,20 @@ function_made texts closed form kind name params body own callee names named wit
     let counted : number ≡ scope_count (declarations_of texts callee) = omega (arith, number_is, first.opened) in
     let number_known : number ≡ scope_count (callee_names kind name) = counted ∙ ap scope_count callee_is in
     let in_list : (t : Text) → has_closed number t cs ≡ (has_text (texts_of ds) t && has_text u.inner t) = λ t.
-        ap (λ (k : ℕ). has_closed k t cs) number_known
-        ∙ (ap (has_closed (scope_count (callee_names kind name)) t) told.names
-        ∙ closed_of_function t (callee_names kind name) inner_named u.inner ds content) in
+    ap (λ (k : ℕ). has_closed k t cs) number_known
+    ∙ (ap (has_closed (scope_count (callee_names kind name)) t) told.names
+    ∙ closed_of_function t (callee_names kind name) inner_named u.inner ds content) in
     let special : specials form (own.arguments || has_closed number arguments_text cs) (own.this || has_closed number this_text cs) ≡ special_names form u =
-        same_specials form u own.arguments own.this (has_closed number arguments_text cs) (has_closed number this_text cs)
-        (λ other. special_known form (before_specials params body) u arguments_text own.arguments (has_closed number arguments_text cs) uses.arguments (in_list arguments_text)
-        (λ e. special_bound form (before_specials params body) u arguments_text other (λ a b is_a is_b. arguments_in_plain a b (sym is_a ∙ e))))
-        (λ other. special_known form (before_specials params body) u this_text own.this (has_closed number this_text cs) uses.this (in_list this_text)
-        (λ e. special_bound form (before_specials params body) u this_text other (λ a b is_a is_b. this_in_plain a b (sym is_b ∙ e)))) in
+    same_specials form u own.arguments own.this (has_closed number arguments_text cs) (has_closed number this_text cs)
+    (λ other. special_known form (before_specials params body) u arguments_text own.arguments (has_closed number arguments_text cs) uses.arguments (in_list arguments_text)
+    (λ e. special_bound form (before_specials params body) u arguments_text other (λ a b is_a is_b. arguments_in_plain a b (sym is_a ∙ e))))
+    (λ other. special_known form (before_specials params body) u this_text own.this (has_closed number this_text cs) uses.this (in_list this_text)
+    (λ e. special_bound form (before_specials params body) u this_text other (λ a b is_a is_b. this_in_plain a b (sym is_b ∙ e)))) in
     let names_known : declarations_of texts names ≡ ds = names_are ∙ ap (λ (xs : List Declaration). before_specials params body ++ xs) special in
     let own_scope : Opens texts closed s1 at1 s2 at2 scope.Function ds named within_it =
-        subst (λ (xs : List Declaration). Opens texts closed s1 at1 s2 at2 scope.Function xs named within_it) names_known opened in
+    subst (λ (xs : List Declaration). Opens texts closed s1 at1 s2 at2 scope.Function xs named within_it) names_known opened in
     let name_scope : OpensAny texts closed [] 0 s1 at1 scope.StrictNamedLambda (callee_names kind name) around_none named =
-        subst (λ (xs : List Declaration). OpensAny texts closed [] 0 s1 at1 scope.StrictNamedLambda xs around_none named) callee_is first in
+    subst (λ (xs : List Declaration). OpensAny texts closed [] 0 s1 at1 scope.StrictNamedLambda xs around_none named) callee_is first in
     let all : Adds texts closed [] 0 s3 at3 whole = name_scope.opens inner_named (scope_and scope.Function ds u.inner content) s3 at3 (own_scope.opens u.inner content s3 at3 added) in
     let done : Added texts closed [] s3 at3 whole [] = all.adds [] told.fit (omega (arith, told.few)) (told.names ∙ ap closed_over (sym (append-nil whole))) in
     done.scopes

@@ -32,6 +32,7 @@ use stencil_data::{BindKind, ClosedName, FuncKind, ScopeData, ScopeKind, Text};
 
 // `arguments`, and `.this`, the name under which a function finds `this`.
 const ARGUMENTS: [u16; 9] = [97, 114, 103, 117, 109, 101, 110, 116, 115];
+
 const THIS: [u16; 5] = [46, 116, 104, 105, 115];
 
 /// Whether a function uses `arguments` and `this` itself, functions inside it left out.
@@ -148,11 +149,7 @@ fn push_specials(
 }
 
 // The var names that stand beside the parameters.
-fn vars_beside(
-    known: &Known,
-    initialized: bool,
-    body: &FuncBody,
-) -> Result<Vec<u32>, AllocError>
+fn vars_beside(known: &Known, initialized: bool, body: &FuncBody) -> Result<Vec<u32>, AllocError>
     ensures { IfOk result (λ vars. (bodies : ℕ → Stmts) (b : model.Body) → body_of (under known.now.texts.now bodies) body.now ≡ Some b → map (text_at known.now.texts.now) vars.items ≡ beside_params initialized b) }
 {
     if initialized {
@@ -188,11 +185,7 @@ fn own_names(
 }
 
 // The name of a function expression.
-fn callee(
-    alloc: Global,
-    kind: FuncKind,
-    name: Option<u32>,
-) -> Result<Vec<DeclaredName>, AllocError>
+fn callee(alloc: Global, kind: FuncKind, name: Option<u32>) -> Result<Vec<DeclaredName>, AllocError>
     ensures { IfOk result (λ names. (texts : List (List ℕ)) → declarations_of texts names.items ≡ callee_names kind (option_map (text_at texts) name)) }
 {
     let mut names = Vec::new(alloc);

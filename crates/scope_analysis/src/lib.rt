@@ -5,7 +5,9 @@
 //! bindings and slots (`specs/Scopes.antt`), and the functions directly in a part, with the scopes around each
 //! (`specs/Functions.antt`).
 //!
-//! Its main contract: `resolve` answers the place of the first binding of a name on a chain.
+//! Its main contracts: `top_scopes` and `scopes_using` give the scopes of the definition, by their texts, where the closed
+//! names that are handed in are those of these scopes (`CloseOver` in `specs/Walked.antt`); and `resolve` answers the
+//! place of the first binding of a name on a chain.
 #![tactic(auto)]
 
 mod functions;

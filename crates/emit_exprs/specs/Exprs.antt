@@ -15,9 +15,11 @@ use Rattle.bytecode_buf.specs.Command.{Command, plain, counted, named}
 use Rattle.bytecode_buf.specs.Pieces.{Waiting, Code, one, here}
 use Rattle.emit_exprs.specs.declared.uses.Use.{Use}
 use Rattle.emit_exprs.specs.declared.uses.Use.TheVariants.{Plainly, Called, Reached, Deleted}
+use Rattle.emit_exprs.specs.declared.properties.Defines.{Defines}
+use Rattle.emit_exprs.specs.declared.properties.Defines.TheVariants.{Value, Getter, Setter}
 use Rattle.emit_exprs.specs.Names.{read, write, base}
 use Rattle.emit_exprs.specs.Whole.{whole, just}
-use Rattle.emit_exprs.specs.Operators.{binary_op, assign_op, prefix_op, update_op, joining, number_form}
+use Rattle.emit_exprs.specs.Operators.{binary_op, assign_op, prefix_op, update_op, short_op, joining, number_form}
 use Rattle.emit_exprs.specs.declared.operators.Joining.{Joining}
 use Rattle.emit_exprs.specs.declared.operators.Joining.TheVariants.{FromLeft, FromRight, Shortcut}
 use Rattle.emit_exprs.specs.declared.operators.NumberForm.{NumberForm}
@@ -229,7 +231,7 @@ joined (Shortcut jump) rest code = here aim.After code
 abbrev pub before_operand : Joining → Code
 before_operand FromLeft = []
 before_operand FromRight = []
-before_operand (Shortcut jump) = Waiting jump aim.After ∷ just op.Pop
+before_operand (Shortcut short) = Waiting (short_op short) aim.After ∷ just op.Pop
 
 abbrev pub behind_operand : Joining → Bool → ℕ → Code
 behind_operand FromLeft is_word sign = just (binary_op is_word sign)
@@ -242,11 +244,6 @@ dropping no_exprs = []
 dropping (more_exprs e rest) = just op.Pop
 
 -- ---- properties
-
-pub data Defines : Type 0 where
-  Value : Defines
-  Getter : Defines
-  Setter : Defines
 
 abbrev pub define_named : Defines → List ℕ → Code
 define_named Value name = one (named op.InitProp name)

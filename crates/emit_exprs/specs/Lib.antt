@@ -1,8 +1,13 @@
 pub mod Exprs
+pub mod Fitting
 pub mod Names
 pub mod OneProof
 pub mod Operators
+pub mod Properties
+pub mod Rising
+pub mod Shortcuts
 pub mod Sites
 pub mod Steps
 pub mod Targets
+pub mod TreeCode
 pub mod Whole

@@ -1,13 +1,17 @@
 -- Which opcode an operator is. What the operators do is ECMA-262's, 12th edition, clauses 13.4 to 13.15; the opcodes are
 -- this project's own choice.
-use Rattle.std.specs.Prelude.{ℕ, Bool, true, false, nat_eq, nat_le, if◌then◌else◌, ◌<◌, ◌^◌, List, find, Option, Some, None}
+use Rattle.std.specs.Prelude.{◌≡◌, ℕ, Bool, true, false, nat_eq, nat_le, if◌then◌else◌, ◌<◌, ◌^◌, List, [], ◌∷◌, find, Option, Some, None}
 use Rattle.emit_exprs.specs.declared.operators.Meaning.{Meaning}
 use Rattle.emit_exprs.specs.declared.operators.TheConstants.{WORD_OPS, BINARY_OPS, ASSIGN_OPS, PREFIX_OPS}
+use Rattle.emit_exprs.specs.declared.operators.Short.{Short}
+use Rattle.emit_exprs.specs.declared.operators.Short.TheVariants as short
 use Rattle.emit_exprs.specs.declared.operators.Joining.{Joining}
 use Rattle.emit_exprs.specs.declared.operators.Joining.TheVariants.{FromLeft, FromRight, Shortcut}
 use Rattle.emit_exprs.specs.declared.operators.NumberForm.{NumberForm}
 use Rattle.emit_exprs.specs.declared.operators.NumberForm.TheVariants as form
 use Rattle.script_grammar.specs.declared.token.mark.TheConstants as mark
+use Rattle.bytecode_buf.specs.declared.opcode.Shape.TheVariants as shape
+use Rattle.bytecode_buf.specs.Width.{shape_of}
 use Rattle.bytecode_buf.specs.declared.opcode.Op.{Op}
 use Rattle.bytecode_buf.specs.declared.opcode.Op.TheVariants as op
 
@@ -18,6 +22,11 @@ op_or other (Some m) = m.op
 
 abbrev pub op_of : List Meaning → Op → ℕ → Op
 op_of table other sign = op_or other (find (λ m. nat_eq m.sign sign) table)
+
+-- no opcode of a table, and not this other one, has an operand
+abbrev pub AllPlain : List Meaning → Op → Type 0
+AllPlain [] other = shape_of other ≡ shape.Nothing
+AllPlain (m ∷ ms) other = (shape_of m.op ≡ shape.Nothing) × AllPlain ms other
 
 -- the words `in` and `instanceof`, and the marks; `**` is the one that is left
 abbrev pub binary_op : Bool → ℕ → Op
@@ -36,12 +45,18 @@ prefix_op false sign = op_of PREFIX_OPS op.BitNot sign
 abbrev pub update_op : ℕ → Op
 update_op sign = if nat_eq sign mark.INCREMENT then op.Inc else op.Dec
 
+-- the jump of a shortcut
+abbrev pub short_op : Short → Op
+short_op short.And = op.And
+short_op short.Or = op.Or
+short_op short.Coalesce = op.Coalesce
+
 -- how the operands of a binary list are put together
 abbrev pub joining : Bool → ℕ → Joining
 joining true sign = FromLeft
 joining false sign =
     if nat_eq sign mark.POWER then FromRight else
-    (if nat_eq sign mark.AND then Shortcut op.And else (if nat_eq sign mark.OR then Shortcut op.Or else (if nat_eq sign mark.COALESCE then Shortcut op.Coalesce else FromLeft)))
+    (if nat_eq sign mark.AND then Shortcut short.And else (if nat_eq sign mark.OR then Shortcut short.Or else (if nat_eq sign mark.COALESCE then Shortcut short.Coalesce else FromLeft)))
 
 -- the shortest form of a number
 abbrev pub number_form : ℕ → NumberForm

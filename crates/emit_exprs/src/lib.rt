@@ -5,24 +5,35 @@
 //! (`specs/Names.antt`); each part's code is a list of pieces, so that an expression's equation lands the jumps that its
 //! parts left waiting.
 //!
-//! Its main contract so far: `read`, `base`, `write` and `init` append the code of a name that lives at a given place.
-//! The call that appends the code of a whole expression is not there yet.
+//! Its main contract: `expr` appends the code of a whole expression, as that code is defined for what the tree stands
+//! for, under the chain of scopes around it. `read`, `base`, `write` and `init` do so for a name that lives at a given
+//! place.
 #![tactic(auto)]
 
+mod counts;
 mod emit;
+mod exprs;
 mod literals;
 mod names;
 mod operators;
+mod places;
+mod properties;
 mod scenes;
+mod shortcuts;
 mod site;
 mod steps;
 mod targets;
+mod updates;
 mod uses;
+mod values;
 
-pub use emit::{Emit, base, init, read, write};
+pub use emit::{Emit, base, expr, init, read, write};
+pub use exprs::emit_expr;
 pub use names::Access;
-pub use operators::{Joining, Meaning, NumberForm};
+pub use operators::{Joining, Meaning, NumberForm, Short};
+pub use properties::Defines;
 pub use site::Site;
+pub use targets::Target;
 pub use uses::Use;
 
 #[cfg(test)]

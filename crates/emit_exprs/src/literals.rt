@@ -5,6 +5,7 @@ ghost use Rattle.bytecode_buf.specs.Command as command;
 ghost use Rattle.bytecode_buf.specs.Pieces.{one};
 ghost use Rattle.bytecode_buf.specs.Emits.{Emits};
 ghost use Rattle.emit_exprs.specs.Exprs as code;
+ghost use Rattle.emit_exprs.specs.Rising.{Rises};
 ghost use Rattle.emit_exprs.specs.Sites.{EmitsAt, scene_of};
 ghost use Rattle.emit_exprs.specs.Whole.{whole};
 
@@ -65,11 +66,13 @@ pub fn this(out: &mut CodeBuf, site: &Site) -> Result<(), AllocError>
     Ok(())
 }
 
+// The place of a function among others that are in order of rising start.
 fn place_among(inner: &[Extent], start: u32) -> usize
+    requires { Rises 0 inner.now }
     ensures place { result ≡ count_by (λ e. nat_lt e.start start) inner.now }
     ensures bound { result ≤ length inner.now }
 {
-    inner.iter().filter(|extent| extent.start < start).count()
+    inner.partition_point(|extent| extent.start < start)
 }
 
 /// The function whose parameters start here.

@@ -1,6 +1,9 @@
 // Which opcode an operator is, and which form a number has.
 ghost use Rattle.std.specs.Prelude.{◌≡◌, false, find, nat_eq, option_copied};
+ghost use Rattle.bytecode_buf.specs.declared.opcode.Shape.TheVariants as shape;
+ghost use Rattle.bytecode_buf.specs.Width.{shape_of};
 ghost use Rattle.emit_exprs.specs.Operators as code;
+ghost use Rattle.emit_exprs.specs.Operators.{AllPlain};
 
 use bytecode_buf::Op;
 use script_grammar::token::{mark, word};
@@ -12,6 +15,27 @@ pub struct Meaning {
     pub op: Op,
 }
 
+/// An operator that passes over its second operand where the first decides.
+#[derive(Clone, Copy)]
+pub enum Short {
+    And,
+    Or,
+    Coalesce,
+}
+
+impl Short {
+    /// The jump over the second operand.
+    pub fn op(self) -> Op
+        ensures { result ≡ code.short_op self }
+    {
+        match self {
+            Short::And => Op::And,
+            Short::Or => Op::Or,
+            Short::Coalesce => Op::Coalesce,
+        }
+    }
+}
+
 /// How the operands of a binary list are put together.
 #[derive(Clone, Copy)]
 pub enum Joining {
@@ -20,7 +44,7 @@ pub enum Joining {
     /// All operands first: `**`.
     FromRight,
     /// The next operand only if the value so far does not decide: `&&`, `||` and `??`.
-    Shortcut(Op),
+    Shortcut(Short),
 }
 
 /// The shortest form of a number.
@@ -197,7 +221,9 @@ fn meaning_of<'a>(table: &'a [Meaning], sign: u8) -> Option<&'a Meaning>
 }
 
 fn op_of(table: &[Meaning], other: Op, sign: u8) -> Op
-    ensures { result ≡ code.op_of table.now other sign }
+    requires { AllPlain table.now other }
+    ensures is { result ≡ code.op_of table.now other sign }
+    ensures plain { shape_of result ≡ shape.Nothing }
 {
     match meaning_of(table, sign) {
         Some(meaning) => meaning.op,
@@ -206,8 +232,10 @@ fn op_of(table: &[Meaning], other: Op, sign: u8) -> Op
 }
 
 /// The opcode of a binary operator.
+#[tactic(auto, using(crate::proofs::Plain::words_plain, crate::proofs::Plain::binaries_plain))]
 pub fn binary_op(is_word: bool, sign: u8) -> Op
-    ensures { result ≡ code.binary_op is_word sign }
+    ensures is { result ≡ code.binary_op is_word sign }
+    ensures plain { shape_of result ≡ shape.Nothing }
 {
     if is_word {
         op_of(&WORD_OPS, Op::Instanceof, sign)
@@ -217,15 +245,19 @@ pub fn binary_op(is_word: bool, sign: u8) -> Op
 }
 
 /// The opcode of an assignment with an operator.
+#[tactic(auto, using(crate::proofs::Plain::assigns_plain))]
 pub fn assign_op(sign: u8) -> Op
-    ensures { result ≡ code.assign_op sign }
+    ensures is { result ≡ code.assign_op sign }
+    ensures plain { shape_of result ≡ shape.Nothing }
 {
     op_of(&ASSIGN_OPS, Op::Pow, sign)
 }
 
 /// The opcode of a prefix operator on a value.
+#[tactic(auto, using(crate::proofs::Plain::prefixes_plain))]
 pub fn prefix_op(is_word: bool, sign: u8) -> Op
-    ensures { result ≡ code.prefix_op is_word sign }
+    ensures is { result ≡ code.prefix_op is_word sign }
+    ensures plain { shape_of result ≡ shape.Nothing }
 {
     if is_word {
         Op::Void
@@ -236,7 +268,8 @@ pub fn prefix_op(is_word: bool, sign: u8) -> Op
 
 /// The opcode of `++` or `--`.
 pub fn update_op(sign: u8) -> Op
-    ensures { result ≡ code.update_op sign }
+    ensures is { result ≡ code.update_op sign }
+    ensures plain { shape_of result ≡ shape.Nothing }
 {
     if sign == mark::INCREMENT {
         Op::Inc
@@ -251,11 +284,11 @@ fn mark_joining(sign: u8) -> Joining
     if sign == mark::POWER {
         Joining::FromRight
     } else if sign == mark::AND {
-        Joining::Shortcut(Op::And)
+        Joining::Shortcut(Short::And)
     } else if sign == mark::OR {
-        Joining::Shortcut(Op::Or)
+        Joining::Shortcut(Short::Or)
     } else if sign == mark::COALESCE {
-        Joining::Shortcut(Op::Coalesce)
+        Joining::Shortcut(Short::Coalesce)
     } else {
         Joining::FromLeft
     }

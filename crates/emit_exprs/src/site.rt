@@ -2,6 +2,7 @@
 ghost use Rattle.std.specs.Prelude.{◌^◌, ◌<◌, ◌≤◌, length};
 ghost use Rattle.stencil_data.specs.Fits.{LinksFit};
 ghost use Rattle.emit_exprs.specs.OneProof.{LinksFit-prop};
+ghost use Rattle.emit_exprs.specs.Rising.{Rises, Rises-prop};
 
 use std::alloc::Global;
 use stencil_data::{Chain, Extent, Text};
@@ -17,4 +18,5 @@ pub struct Site<'a> {
     ghost links: { length chain.now ≤ 65000 },
     ghost slots: { LinksFit chain.now } by { LinksFit-prop chain.now },
     ghost few: { length inner.now < 2 ^ 32 },
+    ghost ordered: { Rises 0 inner.now } by { Rises-prop 0 inner.now },
 }

@@ -22,8 +22,8 @@ pub enum Use {
     Deleted,
 }
 
-// In place of a value that was deleted and is no property: true.
-fn pop_true(out: &mut CodeBuf) -> Result<(), AllocError>
+/// In place of a value that was deleted and is no property: true.
+pub fn pop_true(out: &mut CodeBuf) -> Result<(), AllocError>
     ensures { OnOk result ((texts : List (List ℕ)) → Emits texts out.old out.new (whole (command.plain Op.Pop ∷ command.plain Op.True ∷ []))) }
 {
     plain(out, Op::Pop)?;

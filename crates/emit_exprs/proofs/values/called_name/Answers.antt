@@ -1,0 +1,5 @@
+use Rattle.bytecode_buf.proofs.AppendLemmas.{emits_both}
+use Rattle.emit_exprs.proofs.values.called_name.Goals as goal
+
+pub returns : goal.returns
+returns c = emits_both c.in_ok-reading.ensures (c.in_ok-plain.ensures c.args.site.now.texts.now)

@@ -37,4 +37,6 @@ pub use targets::Target;
 pub use uses::Use;
 
 #[cfg(test)]
+mod expr_tests;
+#[cfg(test)]
 mod tests;

@@ -1,0 +1,5 @@
+pub mod Answers
+pub mod Env
+pub mod Levels
+pub mod Means
+pub mod Source

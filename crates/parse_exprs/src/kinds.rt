@@ -1,0 +1,262 @@
+//! Tests of what a token is.
+
+ghost use Rattle.std.specs.Prelude.{◌≡◌};
+ghost use Rattle.script_grammar.specs.Kinds as test;
+ghost use Rattle.pure_parser.specs.Exprs as pure;
+ghost use Rattle.parse_exprs.specs.Levels.{loose_level};
+
+use script_grammar::token::{Kind, mark, word};
+
+/// Whether a token of this kind is the mark of this index.
+pub fn is_mark(kind: Kind, mark: u8) -> bool
+    ensures { result ≡ test.is_mark mark kind }
+{
+    match kind {
+        Kind::Mark(index) => index == mark,
+        _ => false,
+    }
+}
+
+/// Whether a token of this kind is the word of this index.
+pub fn is_word(kind: Kind, word: u8) -> bool
+    ensures { result ≡ test.is_word word kind }
+{
+    match kind {
+        Kind::Word(index) => index == word,
+        _ => false,
+    }
+}
+
+/// Whether a token of this kind is a name.
+pub fn is_name(kind: Kind) -> bool
+    ensures { result ≡ test.is_name kind }
+{
+    matches!(kind, Kind::Name)
+}
+
+/// Whether a token of this kind is a number.
+pub fn is_number(kind: Kind) -> bool
+    ensures { result ≡ test.is_number kind }
+{
+    matches!(kind, Kind::Number)
+}
+
+/// Whether a token of this kind is a string.
+pub fn is_str(kind: Kind) -> bool
+    ensures { result ≡ test.is_str kind }
+{
+    matches!(kind, Kind::Str)
+}
+
+/// Whether a token of this kind begins a template that has substitutions.
+pub fn is_head(kind: Kind) -> bool
+    ensures { result ≡ test.is_head kind }
+{
+    matches!(kind, Kind::TemplateHead)
+}
+
+/// Whether a token of this kind stands between two substitutions of a template.
+pub fn is_middle(kind: Kind) -> bool
+    ensures { result ≡ test.is_middle kind }
+{
+    matches!(kind, Kind::TemplateMiddle)
+}
+
+/// Whether a token of this kind ends a template that has substitutions.
+pub fn is_tail(kind: Kind) -> bool
+    ensures { result ≡ test.is_tail kind }
+{
+    matches!(kind, Kind::TemplateTail)
+}
+
+/// Whether a token of this kind is a name or a reserved word.
+pub fn is_any_word(kind: Kind) -> bool
+    ensures { result ≡ test.is_any_word kind }
+{
+    matches!(kind, Kind::Name | Kind::Word(_))
+}
+
+/// Whether a token of this kind is `=` or a mark from `+=` to `^=`.
+pub fn is_assign_mark(kind: Kind) -> bool
+    ensures { result ≡ test.is_assign_mark kind }
+{
+    match kind {
+        Kind::Mark(index) => mark::ASSIGN <= index && index <= mark::BIT_XOR_ASSIGN,
+        _ => false,
+    }
+}
+
+/// Whether a token of this kind is a prefix operator beside `++` and `--`.
+pub fn is_prefix(kind: Kind) -> bool
+    ensures { result ≡ test.is_prefix kind }
+{
+    match kind {
+        Kind::Mark(index) => {
+            index == mark::PLUS
+                || index == mark::MINUS
+                || index == mark::BIT_NOT
+                || index == mark::NOT
+        }
+        Kind::Word(index) => {
+            index == word::DELETE || index == word::VOID || index == word::TYPEOF
+        }
+        _ => false,
+    }
+}
+
+/// Whether a token of this kind is `++` or `--`.
+pub fn is_update(kind: Kind) -> bool
+    ensures { result ≡ test.is_update kind }
+{
+    match kind {
+        Kind::Mark(index) => mark::INCREMENT <= index && index <= mark::DECREMENT,
+        _ => false,
+    }
+}
+
+/// The level of a mark as a binary operator, from the tightest, or 12.
+fn mark_level(index: u8) -> u32
+    ensures { result ≡ test.mark_level index }
+{
+    if index == mark::POWER {
+        0
+    } else if mark::TIMES <= index && index <= mark::REMAINDER {
+        1
+    } else if mark::PLUS <= index && index <= mark::MINUS {
+        2
+    } else if mark::LEFT_SHIFT <= index && index <= mark::UNSIGNED_RIGHT_SHIFT {
+        3
+    } else if mark::LESS <= index && index <= mark::GREATER_EQUAL {
+        4
+    } else {
+        loose_mark_level(index)
+    }
+}
+
+/// The same of a mark that binds no tighter than `==`.
+fn loose_mark_level(index: u8) -> u32
+    ensures { result ≡ loose_level index }
+{
+    if mark::EQUAL <= index && index <= mark::STRICT_NOT_EQUAL {
+        5
+    } else if index == mark::BIT_AND {
+        6
+    } else if index == mark::BIT_XOR {
+        7
+    } else if index == mark::BIT_OR {
+        8
+    } else if index == mark::AND {
+        9
+    } else if index == mark::OR {
+        10
+    } else if index == mark::COALESCE {
+        11
+    } else {
+        12
+    }
+}
+
+/// The level of a token of this kind as a binary operator, from the tightest; 12 of what is none.
+fn level(kind: Kind) -> u32
+    ensures { result ≡ test.kind_level kind }
+{
+    match kind {
+        Kind::Mark(index) => mark_level(index),
+        Kind::Word(index) => {
+            if word::IN <= index && index <= word::INSTANCEOF {
+                4
+            } else {
+                12
+            }
+        }
+        _ => 12,
+    }
+}
+
+/// Whether a token of this kind is an operator of this level; `in` only where the flag says so.
+pub fn is_op(kind: Kind, with_in: bool, of: u32) -> bool
+    ensures { result ≡ pure.is_op with_in of kind }
+{
+    level(kind) == of && (with_in || !is_word(kind, word::IN))
+}
+
+/// The index of a mark or a word; 0 of what is neither.
+pub fn mark_of(kind: Kind) -> u8
+    ensures { result ≡ pure.mark_of kind }
+{
+    match kind {
+        Kind::Mark(index) => index,
+        Kind::Word(index) => index,
+        _ => 0,
+    }
+}
+
+/// Whether a token of this kind is a reserved word.
+pub fn is_word_kind(kind: Kind) -> bool
+    ensures { result ≡ pure.is_word_kind kind }
+{
+    matches!(kind, Kind::Word(_))
+}
+
+fn begins_word(index: u8) -> bool
+    ensures { result ≡ pure.begins_word index }
+{
+    index == word::THIS
+        || index == word::NULL
+        || index == word::TRUE
+        || index == word::FALSE
+        || index == word::FUNCTION
+        || index == word::NEW
+        || index == word::DELETE
+        || index == word::VOID
+        || index == word::TYPEOF
+}
+
+fn begins_mark(index: u8) -> bool
+    ensures { result ≡ pure.begins_mark index }
+{
+    index == mark::OPEN_PAREN
+        || index == mark::OPEN_BRACKET
+        || index == mark::OPEN_BRACE
+        || index == mark::PLUS
+        || index == mark::MINUS
+        || index == mark::NOT
+        || index == mark::BIT_NOT
+        || index == mark::INCREMENT
+        || index == mark::DECREMENT
+}
+
+/// Whether a token of this kind may begin an AssignmentExpression.
+pub fn begins_assign(kind: Kind) -> bool
+    ensures { result ≡ pure.begins_assign kind }
+{
+    match kind {
+        Kind::Name => true,
+        Kind::Number => true,
+        Kind::Str => true,
+        Kind::TemplateWhole => true,
+        Kind::TemplateHead => true,
+        Kind::Word(index) => begins_word(index),
+        Kind::Mark(index) => begins_mark(index),
+        _ => false,
+    }
+}
+
+/// Whether a token of this kind is a PrimaryExpression by itself.
+pub fn is_atom(kind: Kind) -> bool
+    ensures { result ≡ pure.is_atom kind }
+{
+    match kind {
+        Kind::Name => true,
+        Kind::Number => true,
+        Kind::Str => true,
+        Kind::TemplateWhole => true,
+        Kind::Word(index) => {
+            index == word::THIS
+                || index == word::NULL
+                || index == word::TRUE
+                || index == word::FALSE
+        }
+        _ => false,
+    }
+}

@@ -1,0 +1,23 @@
+//! The parser of expressions and functions, over tokens and for every handler.
+//!
+//! It stands on pure_parser, which has the same parser as functions on lists of lexemes: each function here answers what the
+//! function of the same name there answers. So a function is stated by one clause, as of `expect`:
+//!
+//! `(i : Interpretation) → Reads Itself (pure.expect mark) source.now i self.old self.new result`
+//!
+//! Whatever atoms and passed bodies stand for, the result is what `pure.expect mark` answers on the lexemes from the place
+//! `self.old` on, with the bodies that were recorded before, and where the code stands then is `self.new` (specs/Answers.antt).
+//! The first argument says what a result stands for (specs/Means.antt); a node stands for a tree, `NodeOf (H.shows_expr i)`.
+//! A part that reads expressions is stated so over `env_at i depth` (specs/Env.antt), the parser inside so many nodes that
+//! count for the depth.
+//!
+//! A loop is a function of a turn and a loop over it, whose five goals `proofs/Loops.antt` answers. What is left to answer by
+//! hand elsewhere are the exits that make something: the lemmas of `proofs/Steps.antt` put them together.
+#![tactic(auto)]
+
+pub mod kinds;
+pub mod part;
+pub mod place;
+pub mod source;
+pub mod state;
+pub mod token;

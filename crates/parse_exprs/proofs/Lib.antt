@@ -1,4 +1,8 @@
 pub mod Fronts
+pub mod Locals
 pub mod Loops
-pub mod Nodes
+pub mod Made
+pub mod Partners
+pub mod PassedBody
+pub mod Passing
 pub mod Steps

@@ -20,6 +20,10 @@ use Rattle.parse_exprs.specs.Source.{front}
 pub just : {A : Type 0} (rs : List Recorded) (a : A) (us : List Lexeme) → ReadAs rs (Read a [] us) a rs us
 just rs a us = record { is = read_noted rs [] a us ∙ ap (λ x. Read a x us) (append-nil rs) }
 
+pub bad_here : {A : Type 0} (rs : List Recorded) (us : List Lexeme) → noted {A = A} rs (Bad [] us) ≡ Bad rs us
+bad_here [] us = refl
+bad_here (r ∷ rs) us = ap (λ x. Bad x us) (append-nil (r ∷ rs))
+
 -- the same elsewhere
 pub read_at : {A : Type 0} {a : A} {r : Reply A} {ps rs qs : List Recorded} {us vs : List Lexeme} → ReadAs ps r a rs us → qs ≡ rs → vs ≡ us → ReadAs ps r a qs vs
 read_at {a = a} {qs = qs} {us = us} h e f = record { is = h.is ∙ (ap (λ x. Read a x us) (sym e) ∙ ap (λ x. Read a qs x) (sym f)) }

@@ -1,21 +1,30 @@
 -- What the parts that the code of the parser makes stand for. This is this project's own choice.
 --
 -- As in `Shows` of script_grammar, `XOf .. n k` says that n stands for some x of which the fact k holds.
-use Rattle.std.specs.Prelude.{ℕ, List, [], ◌∷◌, ◌≡◌, Bool, true, false, nat_le, if◌then◌else◌, Option, Some, None}
+use Rattle.std.specs.Prelude.{ℕ, List, [], ◌∷◌, ◌≡◌, Option, Some, None}
 use Rattle.script_grammar.specs.Interpretation.{Interpretation, named, maybe_named}
 use Rattle.script_grammar.specs.declared.tree.Ident.{Ident}
-use Rattle.script_grammar.specs.Proper.{rank, left_rank, update_rank}
-use Rattle.script_grammar.specs.Shows.{ShowAll, NodeOf, ShowParam}
-use Rattle.script_grammar.specs.Tree.{Named, Expr}
-use Rattle.script_grammar.specs.TreeLists.{Param}
+use Rattle.script_grammar.specs.Shows.{ShowAll, NodeOf, ShowParam, ArgsOf, OperandOf, FuncBodyOf}
+use Rattle.script_grammar.specs.declared.node.NodeArgs.{NodeArgs}
+use Rattle.script_grammar.specs.declared.node.NodeOperand.{NodeOperand}
+use Rattle.script_grammar.specs.Tree.{Named, Expr, Stmts}
+use Rattle.script_grammar.specs.TreeLists.{Args, Operand, Param}
 use Rattle.pure_parser.specs.Parser.{Turn, Again, Stop, Many}
 use Rattle.pure_parser.specs.Exprs as pure
 use Rattle.parse_exprs.specs.declared.part.Turned.{Turned}
 use Rattle.parse_exprs.specs.declared.part.Turned.TheVariants as turned
 use Rattle.parse_exprs.specs.declared.part.Items.{Items}
-use Rattle.parse_exprs.specs.declared.part.Rank.{Rank}
 use Rattle.parse_exprs.specs.declared.part.Rank.TheVariants as ranks
 use Rattle.parse_exprs.specs.declared.part.Ranked.{Ranked}
+use Rattle.parse_exprs.specs.declared.part.ParamsEnd.{ParamsEnd}
+use Rattle.parse_exprs.specs.declared.part.ParamsEnd.TheVariants as ends
+use Rattle.parse_exprs.specs.declared.part.Params.{Params}
+use Rattle.parse_exprs.specs.declared.part.Spanned.{Spanned}
+use Rattle.parse_exprs.specs.declared.part.ArrowBody.{ArrowBody}
+use Rattle.parse_exprs.specs.Env.{body_at}
+use Rattle.parse_exprs.specs.Ranks.{rank_of}
+use Rattle.std.specs.Prelude.{Vec}
+use Rattle.std.specs.declared.alloc.Global.{Global}
 
 -- a value that stands for itself
 abbrev pub Itself : {A : Type 0} → A → (A → Type 0) → Type 0
@@ -36,12 +45,38 @@ TurnOf item last (turned.Last c) k = last c (λ b. k (Stop b))
 abbrev pub ItemsOf : {E A C B : Type 0} → (E → A → Type 0) → (C → (B → Type 0) → Type 0) → Items E C → (Many A B → Type 0) → Type 0
 ItemsOf {A = A} shows last v k = (xs : List A) × ShowAll shows v.items.items xs × last v.last (λ b. k (record { items = xs; last = b }))
 
--- how loosely an expression binds, as far as the parser asks
-abbrev pub rank_of : Expr → Rank
-rank_of e =
-    if nat_le (rank e) 1 then ranks.Head else
-    if nat_le (rank e) left_rank then ranks.Left else
-    if nat_le (rank e) update_rank then ranks.Update else ranks.Other
-
 abbrev pub RankedOf : {E : Type 0} → (E → Expr → Type 0) → Ranked E → (Expr → Type 0) → Type 0
 RankedOf shows v k = (t : Expr) × shows v.node t × (v.rank ≡ rank_of t) × k t
+
+-- an expression that may begin a chain
+abbrev pub AtomOf : {E : Type 0} → (E → Expr → Type 0) → E → (Expr → Type 0) → Type 0
+AtomOf shows e k = (t : Expr) × shows e t × (ranks.Head ≡ rank_of t) × k t
+
+abbrev pub ListOf : {E : Type 0} → (E → Expr → Type 0) → Vec E Global → (List Expr → Type 0) → Type 0
+ListOf shows v k = (ts : List Expr) × ShowAll shows v.items ts × k ts
+
+abbrev pub MaybeArgsOf : {E : Type 0} → (E → Expr → Type 0) → Option (NodeArgs E) → (Option Args → Type 0) → Type 0
+MaybeArgsOf shows None k = k None
+MaybeArgsOf shows (Some n) k = ArgsOf shows n (λ a. k (Some a))
+
+abbrev pub MaybeOperandOf : {E : Type 0} → (E → Expr → Type 0) → Option (NodeOperand E) → (Option Operand → Type 0) → Type 0
+MaybeOperandOf shows None k = k None
+MaybeOperandOf shows (Some n) k = OperandOf shows n (λ o. k (Some o))
+
+abbrev pub ParamsEndOf : Interpretation → ParamsEnd → (pure.ParamsEnd → Type 0) → Type 0
+ParamsEndOf i ends.Plain k = k pure.Plain
+ParamsEndOf i ends.Trailing k = k pure.Trailing
+ParamsEndOf i (ends.Rest n) k = k (pure.Rest (named i n))
+
+abbrev pub ParamsOf : {E : Type 0} → Interpretation → (E → Expr → Type 0) → Params E → (pure.Head → Type 0) → Type 0
+ParamsOf i shows v k = (ps : List Param) × ShowAll (ShowParam i shows) v.params.items ps × k (record { start = v.start; params = ps; comma = v.comma; bare = v.bare })
+
+abbrev pub SpannedOf : {E : Type 0} → (E → Expr → Type 0) → Spanned E → (pure.Spanned Expr → Type 0) → Type 0
+SpannedOf shows v k = (t : Expr) × shows v.value t × k (record { value = t; end = v.end })
+
+abbrev pub ArrowBodyOf : {E B : Type 0} → Interpretation → (E → Expr → Type 0) → (B → Stmts → Type 0) → (start : ℕ) → ArrowBody E B → (pure.BodyRead → Type 0) → Type 0
+ArrowBodyOf i shows shows_body start v k = FuncBodyOf i shows shows_body start v.body (λ b. k (record { body = b; end = v.end }))
+
+-- the offset where a body ends that was passed over
+abbrev pub PassedOf : Interpretation → (start : ℕ) → ℕ → (pure.BodyRead → Type 0) → Type 0
+PassedOf i start end k = k (record { body = body_at i start; end = end })

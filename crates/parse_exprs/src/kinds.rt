@@ -260,3 +260,13 @@ pub fn is_atom(kind: Kind) -> bool
         _ => false,
     }
 }
+
+/// Whether a token of this kind stands behind a name that is a key of its own.
+pub fn ends_key(kind: Kind) -> bool
+    ensures { result ≡ pure.ends_key kind }
+{
+    is_mark(kind, mark::COMMA)
+        || is_mark(kind, mark::CLOSE_BRACE)
+        || is_mark(kind, mark::COLON)
+        || is_mark(kind, mark::OPEN_PAREN)
+}

@@ -1,5 +1,18 @@
 //! Parts that are made while an expression is read.
 
+ghost use Rattle.std.specs.Prelude.{◌≡◌, List, nat_le};
+ghost use Rattle.script_grammar.specs.Interpretation.{Interpretation};
+ghost use Rattle.script_grammar.specs.Proper.{rank, left_rank};
+ghost use Rattle.script_grammar.specs.Shows.{ShowAll, ShowParam};
+ghost use Rattle.script_grammar.specs.Tree as model;
+ghost use Rattle.pure_parser.specs.Exprs as pure;
+ghost use Rattle.parse_exprs.specs.Ranks.{rank_of, raises, assigns, begins};
+ghost use Rattle.parse_exprs.specs.Simple.{is_plain};
+ghost use Rattle.std.specs.List.{list_all};
+
+use script_grammar::node::{NodeFuncBody, NodeParam};
+use script_grammar::tree::Ident;
+
 /// A turn of a loop: its next item, or how it stops.
 #[derive(Drop)]
 pub enum Turned<A, B> {
@@ -15,7 +28,7 @@ pub struct Items<A, B> {
 }
 
 /// How loosely an expression binds, as far as the parser asks.
-#[derive(Clone, Copy, Debug)]
+#[derive(Clone, Copy, Debug, PartialEq, Eq)]
 pub enum Rank {
     /// It may begin a chain of members and calls.
     Head,
@@ -31,4 +44,76 @@ pub enum Rank {
 pub struct Ranked<E> {
     pub node: E,
     pub rank: Rank,
+}
+
+impl Rank {
+    /// Whether what binds so may begin a chain of members and calls.
+    pub fn may_begin_chain(self) -> bool
+        ensures { result ≡ begins self }
+    {
+        matches!(self, Rank::Head)
+    }
+
+    /// Whether what binds so may stand at the left of an assignment.
+    pub fn may_be_assigned(self) -> bool
+        ensures { result ≡ assigns self }
+    {
+        matches!(self, Rank::Head | Rank::Left)
+    }
+
+    /// Whether what binds so may be raised to a power.
+    pub fn may_be_raised(self) -> bool
+        ensures { result ≡ raises self }
+    {
+        matches!(self, Rank::Head | Rank::Left | Rank::Update)
+    }
+}
+
+/// How parameters end.
+#[derive(Clone, Copy, Debug)]
+pub enum ParamsEnd {
+    Plain,
+    /// With a comma.
+    Trailing,
+    /// With a rest parameter.
+    Rest(Ident),
+}
+
+/// The parameters of a function, and the offset where they start.
+#[derive(Drop)]
+pub struct Params<E> {
+    pub start: u32,
+    pub params: Vec<NodeParam<E>>,
+    pub comma: bool,
+    pub bare: bool,
+}
+
+/// Whether this parameter has neither an initializer nor a rest mark.
+fn is_plain<E>(param: &NodeParam<E>) -> bool
+    ensures { result ≡ is_plain param.now }
+{
+    param.value.is_none() && !param.rest
+}
+
+impl<E> Params<E> {
+    /// Whether no parameter has an initializer or a rest mark.
+    pub fn is_simple(&self) -> bool
+        ensures { result ≡ list_all is_plain self.now.params.items }
+    {
+        self.params.iter().all(|param| is_plain(param))
+    }
+}
+
+/// An expression, and the offset where its last token ends.
+#[derive(Drop)]
+pub struct Spanned<E> {
+    pub value: E,
+    pub end: u32,
+}
+
+/// The body of an arrow, and the offset where it ends.
+#[derive(Drop)]
+pub struct ArrowBody<E, B> {
+    pub body: NodeFuncBody<E, B>,
+    pub end: u32,
 }

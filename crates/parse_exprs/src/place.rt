@@ -1,21 +1,28 @@
 //! Where a parser stands.
 
-ghost use Rattle.std.specs.Prelude.{if◌then◌else◌, ◌≡◌, ◌<◌, ◌^◌, length, true};
+ghost use Rattle.std.specs.Prelude.{ℕ, List, if◌then◌else◌, ◌≡◌, ◌<◌, ◌≤◌, ◌^◌, length, true};
 ghost use Rattle.script_grammar.specs.Interpretation.{Interpretation, named};
 ghost use Rattle.script_grammar.specs.Lexeme.{lexeme_of};
 ghost use Rattle.script_grammar.specs.Kinds as test;
-ghost use Rattle.pure_parser.specs.Parser.{head_of, rest_of};
+ghost use Rattle.pure_parser.specs.Parser.{head_of, rest_of, Turn};
 ghost use Rattle.pure_parser.specs.Exprs as pure;
 ghost use Rattle.parse_exprs.specs.declared.place.ParseFault.TheVariants.{NoMemory as OutOfMemory, TooDeep as TooDeepAt, Unexpected as UnexpectedAt};
 ghost use Rattle.parse_exprs.specs.Source.{IsSource, HasAtom, front};
-ghost use Rattle.parse_exprs.specs.Answers.{Reads, records};
-ghost use Rattle.parse_exprs.specs.Means.{Itself, NameOf, MaybeNameOf};
+ghost use Rattle.parse_exprs.specs.Answers.{Reads, Refuses, records};
+ghost use Rattle.parse_exprs.specs.Ends.{end_before, end_of};
+ghost use Rattle.parse_exprs.specs.Env.{env_at};
+ghost use Rattle.script_grammar.specs.Tree.{Expr};
+ghost use Rattle.script_grammar.specs.TreeLists as part;
+ghost use Rattle.parse_exprs.specs.Means.{Itself, NameOf, MaybeNameOf, PassedOf};
 
 use crate::source::Source;
 use crate::{kinds, token};
 use script_grammar::token::{FuncForm, Kind, Token, mark};
 use script_grammar::tree::Ident;
 use std::alloc::{AllocError, AllocFailed};
+
+/// How deep a token may be.
+pub const DEPTH_LIMIT: u32 = 400;
 
 /// Why nothing was read.
 #[derive(Clone, Copy, Debug, PartialEq, Eq)]
@@ -44,14 +51,13 @@ impl<T: Drop> From<AllocFailed<T>> for ParseFault {
     }
 }
 
-/// A braced body that was passed over: its first token, the form of its function, how deep it is, the region in which it
-/// stands, and whether no parameter has an initializer or a rest mark.
+/// A braced body that was passed over: its first token, the form of its function, how deep it is,
+/// and whether no parameter has an initializer or a rest mark.
 #[derive(Clone, Copy, Debug)]
 pub struct Pending {
     pub token: u32,
     pub form: FuncForm,
     pub depth: u32,
-    pub region: u32,
     pub simple: bool,
 }
 
@@ -69,17 +75,7 @@ impl Place {
         ensures lexeme { (i : Interpretation) → lexeme_of source.now.get source.now.set i.texts result ≡ head_of (front source.now i self.now.at) }
         ensures atom { HasAtom result }
     {
-        if (self.at as usize) < source.tokens.len() {
-            source.tokens[self.at as usize]
-        } else {
-            Token {
-                kind: Kind::End,
-                value: 0,
-                start: 0,
-                end: 0,
-                after_line: false,
-            }
-        }
+        source.token(self.at as usize)
     }
 
     /// The kind of the present token.
@@ -119,7 +115,7 @@ impl Place {
         requires { IsSource source.now }
         ensures { (i : Interpretation) → result ≡ pure.is_arrow (head_of (front source.now i self.now.at)) }
     {
-        self.is_mark(source, mark::ARROW) && !self.token(source).after_line
+        Self::arrow_at(source, self.at as usize)
     }
 
     /// Goes past the present token.
@@ -198,4 +194,113 @@ impl Place {
             ParseFault::Unexpected { token: self.at }
         }
     }
+
+    /// Whether a name stands here, and `,`, `)` or `=` behind it.
+    pub fn is_param_form(&self, source: &Source) -> bool
+        requires { IsSource source.now }
+        ensures { (i : Interpretation) → result ≡ pure.is_param_form (head_of (front source.now i self.now.at)) (head_of (rest_of (front source.now i self.now.at))) }
+    {
+        let next = self.next_kind(source);
+        self.is_name(source)
+            && (kinds::is_mark(next, mark::COMMA)
+                || kinds::is_mark(next, mark::CLOSE_PAREN)
+                || kinds::is_mark(next, mark::ASSIGN))
+    }
+
+    /// The kind of the token behind the present one.
+    fn next_kind(&self, source: &Source) -> Kind
+        requires { IsSource source.now }
+        ensures { (i : Interpretation) → result ≡ (head_of (rest_of (front source.now i self.now.at))).kind }
+    {
+        source.token(self.at as usize + 1).kind
+    }
+
+    /// The fault at what is not a closing parenthesis and an arrow's mark, where only these can stand but no arrow is.
+    #[tactic(auto, unfolding(pure_parser::specs::Exprs::expect))]
+    pub fn doomed(&mut self, source: &Source) -> ParseFault
+        requires { IsSource source.now }
+        ensures items { (i : Interpretation) → Refuses {A = Turn Expr (List Expr)} source.now i self.new result (records source.now i self.old) (pure.doomed (front source.now i self.old.at)) }
+        ensures params { (i : Interpretation) → Refuses {A = Turn part.Param pure.ParamsEnd} source.now i self.new result (records source.now i self.old) (pure.doomed (front source.now i self.old.at)) }
+    {
+        if self.is_mark(source, mark::CLOSE_PAREN) {
+            self.step(source);
+        }
+        ParseFault::Unexpected { token: self.at }
+    }
+
+    /// Whether an arrow begins here: a name and the mark, or a parenthesis behind whose partner it stands.
+    pub fn is_arrow_head(&self, source: &Source) -> bool
+        requires { IsSource source.now }
+        ensures { (i : Interpretation) → result ≡ pure.is_arrow_head (front source.now i self.now.at) }
+    {
+        if self.is_name(source) {
+            return Self::arrow_at(source, self.at as usize + 1);
+        }
+        if !self.is_mark(source, mark::OPEN_PAREN) {
+            return false;
+        }
+        match source.brackets.partner(self.at) {
+            Some(close) => Self::arrow_at(source, close as usize + 1),
+            None => false,
+        }
+    }
+
+    /// Whether an arrow's mark stands at this token, on the line of what is before it.
+    fn arrow_at(source: &Source, at: usize) -> bool
+        requires { IsSource source.now }
+        ensures { (i : Interpretation) → result ≡ pure.is_arrow (head_of (front source.now i at)) }
+    {
+        let token = source.token(at);
+        kinds::is_mark(token.kind, mark::ARROW) && !token.after_line
+    }
+
+    /// Passes over a braced body, which is put on the pending list, and answers the offset where it ends.
+    pub fn pass_body(
+        &mut self,
+        source: &Source,
+        form: FuncForm,
+        simple: bool,
+        depth: u32,
+    ) -> Result<u32, ParseFault>
+        requires { IsSource source.now }
+        ensures { (i : Interpretation) (start : ℕ) → Reads (PassedOf i start) ((env_at i depth).body form start simple) source.now i self.old self.new result }
+    {
+        if !self.is_mark(source, mark::OPEN_BRACE) {
+            return Err(ParseFault::Unexpected { token: self.at });
+        }
+        self.pending.push(Pending {
+            token: self.at,
+            form,
+            depth,
+            simple,
+        })?;
+        let Some(close) = source.brackets.partner(self.at) else {
+            return Err(ParseFault::Unexpected {
+                token: source.brackets.stop(),
+            });
+        };
+        self.at = close;
+        let end = self.token(source).end;
+        self.step(source);
+        Ok(end)
+    }
+
+    /// The offset where the token before the present one ends, or 0 at the first token.
+    pub fn end_before(&self, source: &Source) -> u32
+        ensures { result ≡ end_before source.now.tokens.now self.now.at }
+    {
+        let mut at = self.at as usize;
+        if at > source.tokens.len() {
+            at = source.tokens.len();
+        }
+        end_of(source.tokens, at)
+    }
+}
+
+/// The offset where the token of this number, counted from 1, ends; 0 of none.
+fn end_of(tokens: &[Token], count: usize) -> u32
+    requires { count ≤ length tokens.now }
+    ensures { result ≡ end_of tokens.now count }
+{
+    if count == 0 { 0 } else { tokens[count - 1].end }
 }

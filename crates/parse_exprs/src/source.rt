@@ -1,7 +1,14 @@
 //! What is read.
 
+ghost use Rattle.std.specs.Prelude.{◌≡◌, true};
+ghost use Rattle.script_grammar.specs.Interpretation.{Interpretation};
+ghost use Rattle.script_grammar.specs.Kinds as test;
+ghost use Rattle.script_grammar.specs.Lexeme.{lexeme_of};
+ghost use Rattle.pure_parser.specs.Parser.{head_of};
+ghost use Rattle.parse_exprs.specs.Source.{IsSource, HasAtom, front};
+
 use script_grammar::brackets::Brackets;
-use script_grammar::token::Token;
+use script_grammar::token::{Kind, Token};
 
 /// The tokens that a parser reads, which of them match as brackets, and the atoms of `get` and `set`.
 pub struct Source<'a> {
@@ -9,4 +16,41 @@ pub struct Source<'a> {
     pub brackets: &'a Brackets,
     pub get: u32,
     pub set: u32,
+}
+
+impl Source<'_> {
+    /// The token of this number; behind the last one, a token that ends all.
+    pub fn token(&self, at: usize) -> Token
+        requires { IsSource self.now }
+        ensures lexeme { (i : Interpretation) → lexeme_of self.now.get self.now.set i.texts result ≡ head_of (front self.now i at) }
+        ensures atom { HasAtom result }
+    {
+        if at < self.tokens.len() {
+            self.tokens[at]
+        } else {
+            Token {
+                kind: Kind::End,
+                value: 0,
+                start: 0,
+                end: 0,
+                after_line: false,
+            }
+        }
+    }
+
+    /// Whether this token is the name `get`.
+    pub fn is_get(&self, token: Token) -> bool
+        requires { test.is_name token.kind ≡ true }
+        ensures { (i : Interpretation) → result ≡ test.is_get (lexeme_of self.now.get self.now.set i.texts token).role }
+    {
+        token.value == self.get as u64
+    }
+
+    /// Whether this token is the name `set`.
+    pub fn is_set(&self, token: Token) -> bool
+        requires { test.is_name token.kind ≡ true }
+        ensures { (i : Interpretation) → result ≡ test.is_set (lexeme_of self.now.get self.now.set i.texts token).role }
+    {
+        token.value != self.get as u64 && token.value == self.set as u64
+    }
 }

@@ -1,8 +1,13 @@
+pub mod Calls
 pub mod Fronts
 pub mod Locals
 pub mod Loops
 pub mod Made
+pub mod Onward
 pub mod Partners
 pub mod PassedBody
 pub mod Passing
+pub mod RankFacts
+pub mod Shown
 pub mod Steps
+pub mod TokenTexts

@@ -1,5 +1,5 @@
 -- A loop of the code and the loop that it computes.
-use Rattle.std.proofs.Common.{◌≡◌, ◌∙◌, ℕ, zero, suc, ◌+◌, ◌<◌, ◌≤◌, List, [], ◌∷◌, ◌++◌, drop, length, refl, sym, ap, subst, arith, append_assoc, append-nil, Result, Ok, Err}
+use Rattle.std.proofs.Common.{◌≡◌, ◌∙◌, ℕ, zero, suc, ◌<◌, List, [], ◌∷◌, ◌++◌, drop, length, refl, sym, ap, subst, arith, append_assoc, append-nil, Result}
 use Rattle.std.specs.Prelude.{IsErrAnd}
 use Rattle.std.proofs.lemmas.List.{drop-map, length-map}
 use Rattle.script_grammar.specs.Interpretation.{Interpretation}
@@ -13,8 +13,8 @@ use Rattle.parse_exprs.specs.declared.source.Source.{Source}
 use Rattle.parse_exprs.specs.declared.place.Place.{Place}
 use Rattle.parse_exprs.specs.declared.place.ParseFault.{ParseFault}
 use Rattle.parse_exprs.specs.declared.place.ParseFault.TheVariants as faults
-use Rattle.parse_exprs.specs.Answers.{Answers, Refuses, ReadAs, BadAs, DeepAs, records}
-use Rattle.parse_exprs.specs.Source.{front, lexemes}
+use Rattle.parse_exprs.specs.Answers.{Answers, Refuses, ReadAs}
+use Rattle.parse_exprs.specs.Source.{front}
 use Rattle.parse_exprs.proofs.Steps.{then, just, handed, refused}
 
 -- the reply with items that were read before
@@ -44,7 +44,7 @@ front_begun xs a (Deep rs ts) = refl
 front_more : {A B : Type 0} (xs : List A) (a : A) (rs : List Recorded) (r : Reply (Many A B)) → with_front xs (noted rs (after r (λ m. ret (begun a m)))) ≡ with_front (xs ++ a ∷ []) (noted rs r)
 front_more xs a rs r = ap (with_front xs) (sym (after_noted rs r (λ m. ret (begun a m)))) ∙ front_begun xs a (noted rs r)
 
-all_more : {E A : Type 0} (for : E → A → Type 0) (es : List E) (xs : List A) (e : E) (a : A) → ShowAll for es xs → for e a → ShowAll for (es ++ e ∷ []) (xs ++ a ∷ [])
+pub all_more : {E A : Type 0} (for : E → A → Type 0) (es : List E) (xs : List A) (e : E) (a : A) → ShowAll for es xs → for e a → ShowAll for (es ++ e ∷ []) (xs ++ a ∷ [])
 all_more for [] [] e a h k = (k, tt)
 all_more for [] (x ∷ xs) e a h k = absurd h
 all_more for (d ∷ es) [] e a h k = absurd h

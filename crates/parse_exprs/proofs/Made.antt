@@ -1,5 +1,5 @@
 -- What is made of lists of nodes, of which some are single items.
-use Rattle.std.proofs.Common.{◌≡◌, ℕ, zero, suc, List, [], ◌∷◌, length, nat_eq, false, refl, sym, subst, Result, Ok, Err}
+use Rattle.std.proofs.Common.{◌≡◌, ℕ, zero, suc, List, [], ◌∷◌, length, nat_eq, false, refl, Result, Ok, Err}
 use Rattle.script_grammar.specs.Interpretation.{Interpretation}
 use Rattle.script_grammar.specs.Shows.{ShowAll}
 use Rattle.pure_parser.specs.Parser.{Recorded, Reply}

@@ -1,5 +1,5 @@
 -- What the parser on lists of lexemes finds behind an opening bracket of the tokens, by the bracket's partner.
-use Rattle.std.proofs.Common.{◌≡◌, ◌∙◌, ℕ, zero, suc, ◌+◌, ◌<◌, ◌≤◌, List, [], ◌∷◌, ◌++◌, map, drop, take, length, refl, sym, ap, subst, arith, add-one, get_or, Bool, true, false, Option, Some, None, ◌⊎◌, inl, inr}
+use Rattle.std.proofs.Common.{◌≡◌, ◌∙◌, ℕ, zero, suc, ◌<◌, ◌≤◌, List, [], ◌∷◌, ◌++◌, map, drop, take, length, refl, sym, ap, subst, arith, get_or, true, false, Some, None, ◌⊎◌, inl, inr}
 use Rattle.std.proofs.Math.Seq.{drop-cons}
 use Rattle.std.proofs.Math.ListN.{get_or-append}
 use Rattle.std.proofs.lemmas.List.{length-map, get_or-map, map-append, take-append-le, drop-append-le, append_cancel_right, nil_from_length, length-append}
@@ -8,13 +8,13 @@ use Rattle.script_grammar.specs.declared.token.Kind.{Kind}
 use Rattle.script_grammar.specs.declared.token.Kind.TheVariants as kind
 use Rattle.script_grammar.specs.declared.token.mark.TheConstants as mark
 use Rattle.script_grammar.specs.declared.brackets.Bracket.{Bracket}
-use Rattle.script_grammar.specs.declared.brackets.Bracket.TheVariants.{Paren, Brace, Template}
+use Rattle.script_grammar.specs.declared.brackets.Bracket.TheVariants.{Paren, Brace}
 use Rattle.script_grammar.specs.declared.brackets.BracketPart.TheVariants.{Opening}
 use Rattle.script_grammar.specs.Interpretation.{Interpretation}
 use Rattle.script_grammar.specs.Kinds.{is_mark}
 use Rattle.script_grammar.specs.Lexeme.{Lexeme, lexeme_of}
-use Rattle.script_grammar.specs.Matching.{kinds_of, part_of, part_at, is_same, next_open, opened_by, closed_by, between, IsBalanced, Pairs, IsMatching, partner_of}
-use Rattle.script_grammar.specs.Pieces.{Opener, paren, brace}
+use Rattle.script_grammar.specs.Matching.{kinds_of, part_of, part_at, next_open, opened_by, closed_by, IsBalanced, Pairs, IsMatching, partner_of}
+use Rattle.script_grammar.specs.Pieces.{paren, brace}
 use Rattle.pure_parser.specs.Parser.{Recorded, Reply, Read, Bad, Deep, head_of, rest_of, end_lexeme}
 use Rattle.pure_parser.specs.Exprs.{pass_over, arrow_behind, is_arrow}
 use Rattle.pure_parser.proofs.Bracketed.{kinds, IsInner, AllInner}

@@ -1,5 +1,5 @@
 -- What a braced body that is passed over is to the parser on lists of lexemes, behind bodies that were recorded before.
-use Rattle.std.proofs.Common.{◌≡◌, ◌∙◌, ℕ, ◌-◌, List, [], ◌∷◌, ◌++◌, Bool, true, false, map, sym, ap, refl}
+use Rattle.std.proofs.Common.{◌≡◌, ◌∙◌, ℕ, ◌-◌, List, [], ◌∷◌, ◌++◌, Bool, true, false, map, sym, ap}
 use Rattle.std.proofs.lemmas.List.{map-append}
 use Rattle.script_grammar.specs.declared.token.FuncForm.{FuncForm}
 use Rattle.script_grammar.specs.declared.token.mark.TheConstants as mark

@@ -7,16 +7,16 @@ use Rattle.script_grammar.specs.declared.token.FuncForm.{FuncForm}
 use Rattle.script_grammar.specs.declared.token.mark.TheConstants as mark
 use Rattle.script_grammar.specs.Kinds.{is_mark}
 use Rattle.script_grammar.specs.Lexeme.{Lexeme}
-use Rattle.script_grammar.specs.Pieces.{Opener, paren, bracket, brace, template, closes, closed, reopened, mark_opens, open_behind, open_at_end, IsBalanced, Fits, Pass, passed, closing_mark, mark_piece}
+use Rattle.script_grammar.specs.Pieces.{Opener, paren, bracket, brace, template, closes, closed, reopened, open_behind, open_at_end, IsBalanced, Pass, passed, closing_mark}
 use Rattle.script_grammar.specs.Tree.{Stmts, no_stmts, Body, BracedBody}
-use Rattle.pure_parser.specs.Parser.{Recorded, Reply, Read, Bad, Deep, Parser, head_of, noted, after, ret, bad, bind, peek, step, when, note}
-use Rattle.pure_parser.specs.Exprs.{BodyRead, pass_case, pass_over, passed_body, passing}
+use Rattle.pure_parser.specs.Parser.{Recorded, Reply, Read, Bad, Deep, after, ret, bad, bind, step, when, note}
+use Rattle.pure_parser.specs.Exprs.{pass_case, pass_over, passed_body, passing}
 use Rattle.pure_parser.proofs.Friendly.{Inside}
 use Rattle.pure_parser.proofs.Tests.{mark_known}
 use Rattle.pure_parser.proofs.Local.{Local, Same, out, kept, left, local_ret, local_bad, local_bind, local_peek, local_when, local_step, local_note}
 use Rattle.pure_parser.proofs.Fitting.{FitsAll, all_append, all_mark, all_closing, lexeme_of_kind}
 use Rattle.pure_parser.proofs.Nested.{open_append}
-use Rattle.pure_parser.proofs.Sound.{Outcome, Took, Ended, Sound, outcome_noted}
+use Rattle.pure_parser.proofs.Sound.{Outcome, outcome_noted}
 use Rattle.pure_parser.proofs.SoundParts.{SoundBody, IsBraced}
 
 -- Nothing behind the place where it stops is looked at.

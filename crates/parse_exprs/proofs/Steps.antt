@@ -1,11 +1,11 @@
 -- What the parser on lists of lexemes answers, part by part, behind bodies that were recorded before.
-use Rattle.std.proofs.Common.{◌≡◌, ◌∙◌, ℕ, List, [], ◌∷◌, ◌++◌, Bool, true, false, refl, sym, ap, subst, append-nil, Result, Ok, Err}
+use Rattle.std.proofs.Common.{◌≡◌, ◌∙◌, ℕ, List, [], ◌∷◌, Bool, true, false, refl, sym, ap, subst, append-nil, Result, Err}
 use Rattle.std.specs.Prelude.{IsErrAnd}
 use Rattle.std.proofs.lemmas.Result.{err_from_is_err_and}
 use Rattle.script_grammar.specs.Lexeme.{Lexeme}
 use Rattle.script_grammar.specs.Interpretation.{Interpretation}
 use Rattle.script_grammar.specs.Kinds.{is_mark}
-use Rattle.pure_parser.specs.Parser.{Recorded, Reply, Read, Bad, Deep, Parser, head_of, rest_of, noted, after, ret, bad, bind, step, when}
+use Rattle.pure_parser.specs.Parser.{Recorded, Reply, Read, Bad, Deep, Parser, head_of, rest_of, noted, after, ret, bad, step, when}
 use Rattle.pure_parser.specs.Exprs.{expect, arrow_mark, is_arrow}
 use Rattle.pure_parser.proofs.LocalExprs.{after_noted}
 use Rattle.pure_parser.proofs.LocalHeads.{read_noted}
@@ -13,8 +13,7 @@ use Rattle.parse_exprs.specs.declared.source.Source.{Source}
 use Rattle.parse_exprs.specs.declared.place.Place.{Place}
 use Rattle.parse_exprs.specs.declared.place.ParseFault.{ParseFault}
 use Rattle.parse_exprs.specs.declared.place.ParseFault.TheVariants as faults
-use Rattle.parse_exprs.specs.Answers.{Answers, Refuses, ReadAs, BadAs, DeepAs, records}
-use Rattle.parse_exprs.specs.Source.{front}
+use Rattle.parse_exprs.specs.Answers.{Answers, Refuses, ReadAs}
 
 -- a value and nothing more
 pub just : {A : Type 0} (rs : List Recorded) (a : A) (us : List Lexeme) → ReadAs rs (Read a [] us) a rs us
@@ -23,6 +22,10 @@ just rs a us = record { is = read_noted rs [] a us ∙ ap (λ x. Read a x us) (a
 pub bad_here : {A : Type 0} (rs : List Recorded) (us : List Lexeme) → noted {A = A} rs (Bad [] us) ≡ Bad rs us
 bad_here [] us = refl
 bad_here (r ∷ rs) us = ap (λ x. Bad x us) (append-nil (r ∷ rs))
+
+pub deep_here : {A : Type 0} (rs : List Recorded) (us : List Lexeme) → noted {A = A} rs (Deep [] us) ≡ Deep rs us
+deep_here [] us = refl
+deep_here (r ∷ rs) us = ap (λ x. Deep x us) (append-nil (r ∷ rs))
 
 -- the same elsewhere
 pub read_at : {A : Type 0} {a : A} {r : Reply A} {ps rs qs : List Recorded} {us vs : List Lexeme} → ReadAs ps r a rs us → qs ≡ rs → vs ≡ us → ReadAs ps r a qs vs

@@ -1,5 +1,5 @@
 -- What the code of the parser answers, beside what the parser on lists of lexemes answers.
-use Rattle.std.specs.Prelude.{ℕ, ◌-◌, List, map, ◌≡◌, Result, Ok, Err}
+use Rattle.std.specs.Prelude.{◌-◌, List, map, ◌≡◌, Result, Ok, Err}
 use Rattle.script_grammar.specs.Fault.{depth_limit}
 use Rattle.script_grammar.specs.Lexeme.{Lexeme}
 use Rattle.script_grammar.specs.Interpretation.{Interpretation}

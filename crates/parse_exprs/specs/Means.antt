@@ -1,10 +1,10 @@
 -- What the parts that the code of the parser makes stand for. This is this project's own choice.
 --
 -- As in `Shows` of script_grammar, `XOf .. n k` says that n stands for some x of which the fact k holds.
-use Rattle.std.specs.Prelude.{ℕ, List, [], ◌∷◌, ◌≡◌, Option, Some, None}
+use Rattle.std.specs.Prelude.{ℕ, List, ◌≡◌, Option, Some, None}
 use Rattle.script_grammar.specs.Interpretation.{Interpretation, named, maybe_named}
 use Rattle.script_grammar.specs.declared.tree.Ident.{Ident}
-use Rattle.script_grammar.specs.Shows.{ShowAll, NodeOf, ShowParam, ArgsOf, OperandOf, FuncBodyOf}
+use Rattle.script_grammar.specs.Shows.{ShowAll, ShowParam, ArgsOf, OperandOf, FuncBodyOf}
 use Rattle.script_grammar.specs.declared.node.NodeArgs.{NodeArgs}
 use Rattle.script_grammar.specs.declared.node.NodeOperand.{NodeOperand}
 use Rattle.script_grammar.specs.Tree.{Named, Expr, Stmts}

@@ -11,11 +11,17 @@
 //! A part that reads expressions is stated so over `env_at i depth` (specs/Env.antt), the parser inside so many nodes that
 //! count for the depth.
 //!
-//! A loop is a function of a turn and a loop over it, whose five goals `proofs/Loops.antt` answers. What is left to answer by
-//! hand elsewhere are the exits that make something: the lemmas of `proofs/Steps.antt` put them together.
+//! A loop is a function of a turn and a loop over it, whose five goals `proofs/Loops.antt` answers. The exits by `?` and most
+//! others need no answer. What is left are exits that make something of what several parts read, which the lemmas of
+//! `proofs/Steps.antt` put together, as `then _ a.2 (made _ b)`, and exits with another part of which something is asked:
+//! `proofs/Onward.antt`. A call that counts for the depth is one of `proofs/Calls.antt`.
+//!
+//! So far it has the base of the parser: the place, tests of tokens, names, bodies that are passed over, the test for an
+//! arrow, and the nodes of flat lists.
 #![tactic(auto)]
 
 pub mod kinds;
+pub mod nodes;
 pub mod part;
 pub mod place;
 pub mod source;

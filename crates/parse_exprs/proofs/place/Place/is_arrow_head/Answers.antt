@@ -1,10 +1,6 @@
-use Rattle.std.proofs.Common.{◌≡◌, ◌∙◌, sym, ap, Bool, true, false, ◌&&◌, if◌then◌else◌, suc, add-one, refl}
-use Rattle.script_grammar.specs.declared.token.mark.TheConstants as mark
-use Rattle.script_grammar.specs.Kinds.{is_mark}
-use Rattle.script_grammar.specs.Pieces.{paren}
-use Rattle.pure_parser.specs.Parser.{head_of, rest_of}
-use Rattle.pure_parser.specs.Exprs.{is_arrow, is_arrow_head, arrow_behind}
-use Rattle.parse_exprs.specs.Source.{front}
+use Rattle.std.proofs.Common.{◌∙◌, sym, ap, refl}
+use Rattle.pure_parser.specs.Parser.{head_of}
+use Rattle.pure_parser.specs.Exprs.{is_arrow, is_arrow_head}
 use Rattle.parse_exprs.proofs.Fronts.{front_next}
 use Rattle.parse_exprs.proofs.Partners.{arrow_some, arrow_none}
 use Rattle.parse_exprs.proofs.place.Place.is_arrow_head.Goals as goal

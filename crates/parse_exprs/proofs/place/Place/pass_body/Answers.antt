@@ -1,7 +1,7 @@
-use Rattle.std.proofs.Common.{◌≡◌, ◌∙◌, sym, ap, subst}
+use Rattle.std.proofs.Common.{◌∙◌, sym, ap}
 use Rattle.script_grammar.specs.Lexeme.{Lexeme}
 use Rattle.pure_parser.specs.Parser.{Bad}
-use Rattle.parse_exprs.specs.Answers.{ReadAs, BadAs, records}
+use Rattle.parse_exprs.specs.Answers.{records}
 use Rattle.parse_exprs.specs.Source.{front}
 use Rattle.parse_exprs.proofs.Steps.{read_at}
 use Rattle.parse_exprs.proofs.PassedBody.{body_read, body_bad, body_none, records_more}

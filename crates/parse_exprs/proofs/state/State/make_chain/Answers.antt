@@ -1,0 +1,17 @@
+use Rattle.std.proofs.Common.{◌≡◌, ◌∷◌, sym, subst, ◌∙◌}
+use Rattle.script_grammar.specs.Tree as model
+use Rattle.script_grammar.specs.TreeLists.{tails_of}
+use Rattle.script_grammar.specs.Shows.{ShowTail}
+use Rattle.pure_parser.specs.Exprs.{chain_case}
+use Rattle.parse_exprs.specs.declared.part.Rank.TheVariants as ranks
+use Rattle.parse_exprs.specs.Ranks.{rank_of}
+use Rattle.parse_exprs.proofs.Made.{nonempty}
+use Rattle.parse_exprs.proofs.RankFacts.{chain_rank}
+use Rattle.parse_exprs.proofs.state.State.make_chain.Goals as goal
+
+pub returns-clause-makes : goal.returns-clause-makes
+returns-clause-makes g c = λ i t ts m r a.
+    let x = nonempty (ShowTail i (g.H.Handler.shows_expr i)) c.args.tails.items ts a _ c.args.tails.ok.0 (sym c.is_empty.ensures ∙ c.if-is_empty.false) in
+    let made = c.in_ok-node.ensures i t ts m a in
+    subst (λ y. g.H.Handler.shows_expr i c.in_ok-node.node (chain_case t y) × (ranks.Left ≡ rank_of (chain_case t y))) (sym x.2)
+    (subst (λ y. g.H.Handler.shows_expr i c.in_ok-node.node (model.Chain t (tails_of y))) x.2 made, chain_rank t (tails_of (x.0 ∷ x.1)))

@@ -1,4 +1,5 @@
 pub mod Calls
+pub mod Cut
 pub mod Fronts
 pub mod Locals
 pub mod Loops

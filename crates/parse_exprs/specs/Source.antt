@@ -25,6 +25,14 @@ ends_all kind.Bad = true
 ends_all kind.End = true
 ends_all _ = false
 
+-- Tokens as a scanner gives them: they are fewer than 2^32, atoms are below 2^32, and the last token, and no other, is End or
+-- Bad.
+pub record IsScanned (ts : List Token) : Type 0 where
+  pub few : length ts < 2 ^ 32
+  pub atoms : (k : ℕ) (d : Token) → k < length ts → HasAtom (slice_index_or ts k d)
+  pub inner : (k : ℕ) (d : Token) → suc k < length ts → ends_all (slice_index_or ts k d).kind ≡ false
+  pub last : (k : ℕ) (d : Token) → suc k ≡ length ts → ends_all (slice_index_or ts k d).kind ≡ true
+
 -- The tokens are those of a text up to the stop of its brackets, as a scanner gives them: they are fewer than 2^32, atoms are
 -- below 2^32, and only the last token of the text is End or Bad.
 pub record IsSource (s : Source) : Type 0 where

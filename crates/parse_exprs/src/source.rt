@@ -1,11 +1,12 @@
 //! What is read.
 
-ghost use Rattle.std.specs.Prelude.{◌≡◌, true};
+ghost use Rattle.std.specs.Prelude.{◌≡◌, true, suc, take};
 ghost use Rattle.script_grammar.specs.Interpretation.{Interpretation};
 ghost use Rattle.script_grammar.specs.Kinds as test;
 ghost use Rattle.script_grammar.specs.Lexeme.{lexeme_of};
 ghost use Rattle.pure_parser.specs.Parser.{head_of};
-ghost use Rattle.parse_exprs.specs.Source.{IsSource, HasAtom, front};
+ghost use Rattle.parse_exprs.specs.Source.{IsSource, IsScanned, HasAtom, front};
+ghost use Rattle.script_grammar.specs.Matching.{IsMatching, kinds_of};
 
 use script_grammar::brackets::Brackets;
 use script_grammar::token::{Kind, Token};
@@ -18,7 +19,25 @@ pub struct Source<'a> {
     pub set: u32,
 }
 
-impl Source<'_> {
+impl<'a> Source<'a> {
+    /// The tokens of a text, as far as its brackets match: nothing is read behind the brackets' stop. `get` and `set` are
+    /// the atoms of these names.
+    pub fn new(tokens: &'a [Token], brackets: &'a Brackets, get: u32, set: u32) -> Source<'a>
+        requires scanned { IsScanned tokens.now }
+        requires matching { IsMatching (kinds_of tokens.now) brackets.now }
+        ensures is { IsSource result }
+        ensures tokens { result.tokens.now ≡ take (suc brackets.now.stop) tokens.now }
+        ensures atoms { (result.get ≡ get) × (result.set ≡ set) }
+    {
+        let stop = brackets.stop() as usize;
+        Source {
+            tokens: &tokens[..stop + 1],
+            brackets,
+            get,
+            set,
+        }
+    }
+
     /// The token of this number; behind the last one, a token that ends all.
     pub fn token(&self, at: usize) -> Token
         requires { IsSource self.now }

@@ -3,6 +3,7 @@
 -- As in `Shows` of script_grammar, `XOf .. n k` says that n stands for some x of which the fact k holds.
 use Rattle.std.specs.Prelude.{ℕ, List, ◌≡◌, Option, Some, None}
 use Rattle.script_grammar.specs.Interpretation.{Interpretation, named, maybe_named}
+use Rattle.script_grammar.specs.Pieces as pieces
 use Rattle.script_grammar.specs.declared.tree.Ident.{Ident}
 use Rattle.script_grammar.specs.Shows.{ShowAll, ShowParam, ArgsOf, OperandOf, FuncBodyOf}
 use Rattle.script_grammar.specs.declared.node.NodeArgs.{NodeArgs}
@@ -15,6 +16,8 @@ use Rattle.parse_exprs.specs.declared.part.Turned.{Turned}
 use Rattle.parse_exprs.specs.declared.part.Turned.TheVariants as turned
 use Rattle.parse_exprs.specs.declared.part.Items.{Items}
 use Rattle.parse_exprs.specs.declared.part.Rank.TheVariants as ranks
+use Rattle.parse_exprs.specs.declared.part.Ending.{Ending}
+use Rattle.parse_exprs.specs.declared.part.Ending.TheVariants as endings
 use Rattle.parse_exprs.specs.declared.part.Ranked.{Ranked}
 use Rattle.parse_exprs.specs.declared.part.ParamsEnd.{ParamsEnd}
 use Rattle.parse_exprs.specs.declared.part.ParamsEnd.TheVariants as ends
@@ -44,6 +47,12 @@ TurnOf item last (turned.Last c) k = last c (λ b. k (Stop b))
 -- what a loop read
 abbrev pub ItemsOf : {E A C B : Type 0} → (E → A → Type 0) → (C → (B → Type 0) → Type 0) → Items E C → (Many A B → Type 0) → Type 0
 ItemsOf {A = A} shows last v k = (xs : List A) × ShowAll shows v.items.items xs × last v.last (λ b. k (record { items = xs; last = b }))
+
+-- how an expression ends, as far as the parser asks
+abbrev pub ending_as : Ending → pieces.Ending
+ending_as endings.BracedArrow = pieces.BracedArrow
+ending_as endings.Postfix = pieces.Postfix
+ending_as endings.Operand = pieces.Operand
 
 abbrev pub RankedOf : {E : Type 0} → (E → Expr → Type 0) → Ranked E → (Expr → Type 0) → Type 0
 RankedOf shows v k = (t : Expr) × shows v.node t × (v.rank ≡ rank_of t) × k t

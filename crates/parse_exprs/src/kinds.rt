@@ -48,6 +48,13 @@ pub fn is_str(kind: Kind) -> bool
     matches!(kind, Kind::Str)
 }
 
+/// Whether a token of this kind is a template without substitutions.
+pub fn is_whole(kind: Kind) -> bool
+    ensures { result ≡ test.is_whole kind }
+{
+    matches!(kind, Kind::TemplateWhole)
+}
+
 /// Whether a token of this kind begins a template that has substitutions.
 pub fn is_head(kind: Kind) -> bool
     ensures { result ≡ test.is_head kind }
@@ -67,6 +74,13 @@ pub fn is_tail(kind: Kind) -> bool
     ensures { result ≡ test.is_tail kind }
 {
     matches!(kind, Kind::TemplateTail)
+}
+
+/// Whether a token of this kind ends all.
+pub fn is_end(kind: Kind) -> bool
+    ensures { result ≡ test.is_end kind }
+{
+    matches!(kind, Kind::End)
 }
 
 /// Whether a token of this kind is a name or a reserved word.
@@ -171,6 +185,13 @@ fn level(kind: Kind) -> u32
         }
         _ => 12,
     }
+}
+
+/// Whether a token of this kind is a binary operator.
+pub fn is_binary(kind: Kind) -> bool
+    ensures { result ≡ test.is_binary kind }
+{
+    level(kind) != 12
 }
 
 /// Whether a token of this kind is an operator of this level; `in` only where the flag says so.

@@ -39,6 +39,16 @@ pub enum Rank {
     Other,
 }
 
+/// How an expression ends, as far as a semicolon that is left out behind it asks.
+#[derive(Clone, Copy, Debug)]
+pub enum Ending {
+    /// Its last part is an arrow with a braced body.
+    BracedArrow,
+    /// Its last part is a postfix `++` or `--`.
+    Postfix,
+    Operand,
+}
+
 /// An expression, and how loosely it binds.
 #[derive(Drop)]
 pub struct Ranked<E> {

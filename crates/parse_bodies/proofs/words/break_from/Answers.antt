@@ -1,0 +1,10 @@
+use Rattle.std.proofs.Common.{refl}
+use Rattle.script_grammar.specs.Interpretation.{maybe_named}
+use Rattle.script_grammar.specs.Tree as tree
+use Rattle.pure_parser.specs.Stmts.{break_of}
+use Rattle.parse_exprs.proofs.Steps.{then, made}
+use Rattle.parse_bodies.proofs.words.break_from.Goals as goal
+
+pub returns : goal.returns
+unfolding break_of
+returns g c = λ i. (tree.Break c.args.at (maybe_named i c.in_ok-label.label) c.in_ok-semi.semi, c.in_ok-node.ensures i, refl, then _ (c.in_ok-label.ensures i) (made _ (c.in_ok-semi.ensures i)))

@@ -1,0 +1,17 @@
+//! The parser of statements, function bodies and scripts, over tokens and for every handler.
+//!
+//! It stands on parse_exprs, which reads the expressions and the heads of functions, and is stated as it is: each function
+//! answers what the function of the same name of pure_parser answers. One clause says so, as of `expect_word`:
+//!
+//! `(i : Interpretation) → Reads Itself (pure.expect_word word) source.now i place.old place.new result`
+//!
+//! A part that reads expressions or statements is stated over `block_at i depth` (specs/Blocks.antt), the parser of what
+//! stands inside so many nodes that count for the depth.
+#![tactic(auto)]
+
+pub mod ending;
+pub mod kinds;
+pub mod part;
+pub mod pieces;
+pub mod position;
+pub mod words;

@@ -1,15 +1,15 @@
 -- What is read where there is no room for depth.
-use Rattle.std.proofs.Common.{◌≡◌, ◌∙◌, List, [], ◌∷◌, Bool, true, false, refl, sym, ap, subst, append-nil, cond}
+use Rattle.std.proofs.Common.{◌≡◌, List, [], ◌∷◌, Bool, true, false, refl, sym, ap, subst, append-nil}
 use Rattle.std.specs.Prelude.{if◌then◌else◌}
 use Rattle.script_grammar.specs.declared.token.Kind.{Kind}
 use Rattle.script_grammar.specs.Interpretation.{Interpretation}
 use Rattle.script_grammar.specs.Lexeme.{Lexeme}
-use Rattle.pure_parser.specs.Parser.{Recorded, Reply, Bad, Deep, Parser, head_of, noted, when, deep, bad, no_room}
+use Rattle.pure_parser.specs.Parser.{Recorded, Bad, Deep, head_of, noted, when, deep, bad, no_room}
 use Rattle.parse_exprs.specs.declared.source.Source.{Source}
 use Rattle.parse_exprs.specs.declared.place.Place.{Place}
 use Rattle.parse_exprs.specs.declared.place.ParseFault.{ParseFault}
 use Rattle.parse_exprs.specs.declared.place.ParseFault.TheVariants as faults
-use Rattle.parse_exprs.specs.Answers.{Refuses, BadAs, DeepAs, records}
+use Rattle.parse_exprs.specs.Answers.{Refuses, records}
 use Rattle.parse_exprs.specs.Source.{front}
 
 noted_bad : {A : Type 0} (rs : List Recorded) (ts : List Lexeme) → noted {A = A} rs (Bad [] ts) ≡ Bad rs ts

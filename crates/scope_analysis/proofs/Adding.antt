@@ -18,7 +18,7 @@ use Rattle.stencil_data.specs.declared.scopes.ScopeKind.TheVariants as scope
 use Rattle.stencil_data.specs.declared.scopes.Slot.{Slot}
 use Rattle.stencil_data.specs.declared.scopes.Slot.TheVariants as slot
 use Rattle.stencil_data.specs.Fits.{NamesFit}
-use Rattle.stencil_data.specs.Named.{NamedScope, NamedClosed}
+use Rattle.stencil_data.specs.Named.{NamedScope}
 use Rattle.stencil_data.specs.Resolve.{is_global}
 use Rattle.stencil_data.specs.Slots.{Unplaced, slots, slots_from, slot_of, own_slot, is_param, takes_frame, frame_after, env_slots}
 use Rattle.stencil_data.specs.StandsFor.{named_bindings, named_scope}
@@ -26,8 +26,8 @@ use Rattle.stencil_data.specs.Views.{ScopeView}
 use Rattle.scope_analysis.specs.declared.names.DeclaredName.{DeclaredName}
 use Rattle.scope_analysis.specs.declared.scoping.Around.{Around}
 use Rattle.scope_analysis.specs.DeclaredNames.{Text, Declaration}
-use Rattle.scope_analysis.specs.Scopes.{Within, unplaced, placed, scope_of, inside, behind, scope_and, scope_around, scope_count, count_stmt, count_stmts, count_clauses, scopes_stmt, scopes_stmts, scopes_clauses}
-use Rattle.scope_analysis.specs.Closed.{closed_bindings, closed_from, named_left}
+use Rattle.scope_analysis.specs.Scopes.{Within, unplaced, placed, scope_of, inside, behind, scope_around, scope_count, count_stmt, count_stmts, count_clauses, scopes_stmt, scopes_stmts, scopes_clauses}
+use Rattle.scope_analysis.specs.Closed.{closed_bindings, closed_from}
 use Rattle.scope_analysis.specs.Kept.{declarations_of}
 use Rattle.scope_analysis.specs.Placing.{placed_at, envs_of, frames_of, Ready, Going}
 use Rattle.scope_analysis.specs.Walked.{ScopesFit, within, Added, Adds, Scoped, Opens, OpensAny}

@@ -1,27 +1,24 @@
 -- The scopes of a function: its special names, and the closed names of its own scope.
-use Rattle.std.proofs.Common.{◌≡◌, ℕ, ◌+◌, ◌<◌, Bool, true, false, ◌||◌, ◌&&◌, nat_eq, bytes_eq, if◌then◌else◌, cond, List, [], ◌∷◌, ◌++◌, map, drop, length, get_or, suc, Option, Some, None, refl, sym, ◌∙◌, ap, subst, arith, drop-cons, inl, inr}
+use Rattle.std.proofs.Common.{◌≡◌, ℕ, ◌+◌, ◌<◌, Bool, true, false, ◌||◌, ◌&&◌, nat_eq, bytes_eq, if◌then◌else◌, List, [], ◌∷◌, ◌++◌, map, drop, length, get_or, suc, Option, Some, None, refl, sym, ◌∙◌, ap, subst, arith, drop-cons, inl, inr}
 use Rattle.std.proofs.lemmas.Bool.{eq-eqb, ne_eqb, cases_Bool}
 use Rattle.std.proofs.lemmas.List.{append-nil}
 use Rattle.std.proofs.lemmas.List.Folds.{list_any-append}
 use Rattle.std.specs.Cmp.Lexicographic.{bytes_decides}
 use Rattle.script_grammar.specs.declared.tree.Param.{Param}
 use Rattle.script_grammar.specs.Interpretation.{Interpretation}
-use Rattle.script_grammar.specs.Tree as model
 use Rattle.script_grammar.specs.TreeLists as part
 use Rattle.script_grammar.specs.TreeLists.{params_of, maybe_expr_of}
 use Rattle.script_grammar.specs.TreeOf.{param_of}
 use Rattle.script_grammar.specs.declared.token.FuncForm.{FuncForm}
 use Rattle.script_grammar.specs.Kinds.{is_arrow_form}
 use Rattle.script_grammar.specs.Tree.{Params, Body}
-use Rattle.std.specs.List.{list_any}
 use Rattle.stencil_data.specs.declared.chains.LinkName.{LinkName}
 use Rattle.stencil_data.specs.declared.functions.FuncKind.{FuncKind}
 use Rattle.stencil_data.specs.declared.records.ClosedName.{ClosedName}
 use Rattle.stencil_data.specs.declared.scopes.BindKind.TheVariants as bind
 use Rattle.stencil_data.specs.declared.scopes.ScopeKind.TheVariants as scope
-use Rattle.stencil_data.specs.declared.scopes.Slot.{Slot}
 use Rattle.stencil_data.specs.Named.{NamedScope, NamedClosed}
-use Rattle.stencil_data.specs.Slots.{slots, slots_from, own_slot, is_param, takes_frame}
+use Rattle.stencil_data.specs.Slots.{slots, own_slot, is_param, takes_frame}
 use Rattle.stencil_data.specs.StandsFor.{named_scope, named_closed}
 use Rattle.stencil_data.specs.Views.{ScopeView}
 use Rattle.scope_analysis.specs.declared.functions.OwnUses.{OwnUses}

@@ -1,5 +1,5 @@
 -- Sets of texts, and names kept by them.
-use Rattle.std.proofs.Common.{◌≡◌, ℕ, ◌+◌, ◌<◌, Bool, true, false, ◌||◌, not, cond, bytes_eq, if◌then◌else◌, List, [], ◌∷◌, ◌++◌, map, filter, take, drop, get_or, length, Bor, refl, sym, ◌∙◌, ap, arith, inl, inr, suc, drop-cons, append_assoc}
+use Rattle.std.proofs.Common.{◌≡◌, ℕ, ◌+◌, ◌<◌, Bool, true, false, ◌||◌, not, cond, bytes_eq, if◌then◌else◌, List, [], ◌∷◌, ◌++◌, map, take, get_or, length, Bor, refl, sym, ◌∙◌, ap, inl, inr, append_assoc}
 use Rattle.std.proofs.lemmas.Bool.{cases_Bool}
 use Rattle.std.proofs.lemmas.List.{map-append, take_more, append-nil}
 use Rattle.std.proofs.lemmas.List.Folds.{list_any-append}

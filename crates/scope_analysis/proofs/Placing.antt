@@ -1,9 +1,8 @@
 -- The bindings of a scope, placed one by one.
-use Rattle.std.proofs.Common.{◌≡◌, ℕ, ◌+◌, ◌^◌, ◌<◌, Bool, true, false, ◌&&◌, ◌≤◌, nat_eq, bytes_eq, if◌then◌else◌, cond, List, [], ◌∷◌, ◌++◌, map, drop, length, get_or, refl, sym, ◌∙◌, ap, subst, arith, inl, inr, suc, zero, add-one, append_assoc, drop-cons}
+use Rattle.std.proofs.Common.{◌≡◌, ℕ, ◌+◌, ◌^◌, ◌<◌, Bool, true, false, ◌&&◌, ◌≤◌, nat_eq, bytes_eq, if◌then◌else◌, cond, List, [], ◌∷◌, ◌++◌, map, drop, length, get_or, refl, sym, ◌∙◌, ap, subst, arith, inl, inr, suc, zero, append_assoc, drop-cons}
 use Rattle.std.proofs.lemmas.Bool.{eq-eqb, ne_eqb, cases_Bool}
 use Rattle.std.proofs.lemmas.List.{map-append}
 use Rattle.std.proofs.lemmas.List.Sums.{sum_by-cons}
-use Rattle.std.proofs.lemmas.List.Folds.{list_any-append}
 use Rattle.std.specs.Cmp.Lexicographic.{bytes_decides}
 use Rattle.stencil_data.specs.declared.chains.LinkName.{LinkName}
 use Rattle.stencil_data.specs.declared.records.ClosedName.{ClosedName}
@@ -12,16 +11,16 @@ use Rattle.stencil_data.specs.declared.scopes.BindKind.{BindKind}
 use Rattle.stencil_data.specs.declared.scopes.BindKind.TheVariants as bind
 use Rattle.stencil_data.specs.declared.scopes.ScopeKind.TheVariants as scope
 use Rattle.stencil_data.specs.declared.scopes.Slot.{Slot}
-use Rattle.stencil_data.specs.Fits.{NamesFit, SlotFits}
+use Rattle.stencil_data.specs.Fits.{SlotFits}
 use Rattle.stencil_data.specs.Named.{NamedScope, NamedClosed}
 use Rattle.stencil_data.specs.Slots.{Unplaced, own_slot, slot_of, slots_from, takes_frame, is_param}
 use Rattle.stencil_data.specs.StandsFor.{named_closed, named_binding, named_bindings, text_at}
 use Rattle.scope_analysis.specs.declared.names.DeclaredName.{DeclaredName}
 use Rattle.scope_analysis.specs.DeclaredNames.{Text, Declaration, has_text}
-use Rattle.scope_analysis.specs.Scopes.{unplaced, placed}
+use Rattle.scope_analysis.specs.Scopes.{unplaced}
 use Rattle.scope_analysis.specs.Closed.{is_env, closed_bindings, closed_from, named_left, first_is}
 use Rattle.scope_analysis.specs.Kept.{declaration_of, declarations_of}
-use Rattle.scope_analysis.specs.Placing.{placed_at, envs_of, frames_of, Ready, Going}
+use Rattle.scope_analysis.specs.Placing.{placed_at, Ready, Going}
 
 is_env_own : (kind : BindKind) (arg frame : ℕ) → is_env (own_slot kind arg frame) ≡ false
 is_env_own bind.Param arg frame = refl

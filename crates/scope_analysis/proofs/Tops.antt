@@ -1,5 +1,5 @@
 -- Names at the top, and the scope of a script.
-use Rattle.std.proofs.Common.{◌≡◌, ℕ, ◌+◌, ◌^◌, ◌<◌, Bool, if◌then◌else◌, List, [], ◌∷◌, ◌++◌, map, drop, length, Option, Some, None, refl, sym, ◌∙◌, ap, subst, arith, cond, count_by}
+use Rattle.std.proofs.Common.{◌≡◌, ℕ, ◌+◌, if◌then◌else◌, List, [], ◌∷◌, ◌++◌, map, length, Some, None, refl, sym, ◌∙◌, ap, subst, arith, cond, count_by}
 use Rattle.std.proofs.lemmas.List.{append-nil}
 use Rattle.std.proofs.lemmas.List.Sums.{sum_by-cons}
 use Rattle.script_grammar.specs.Tree.{Stmt, Stmts, Block, Empty, Debugger, Binding, Value, If, Do, While, For, ForIn, Continue, Break, Return, Throw, Switch, Label, Try, Declared}
@@ -11,10 +11,9 @@ use Rattle.stencil_data.specs.declared.scopes.Slot.{Slot}
 use Rattle.stencil_data.specs.declared.scopes.Slot.TheVariants as slot
 use Rattle.stencil_data.specs.Named.{NamedScope, NamedClosed}
 use Rattle.stencil_data.specs.Slots.{Unplaced, slots_from, is_param, takes_frame}
-use Rattle.stencil_data.specs.StandsFor.{named_bindings, named_scope, named_closed}
+use Rattle.stencil_data.specs.StandsFor.{named_bindings, named_scope}
 use Rattle.stencil_data.specs.Views.{ScopeView}
 use Rattle.scope_analysis.specs.declared.names.DeclaredName.{DeclaredName}
-use Rattle.scope_analysis.specs.declared.scoping.Around.{Around}
 use Rattle.scope_analysis.specs.DeclaredNames.{Text, Declaration, has_text, top_var_names_in, var_names_in}
 use Rattle.scope_analysis.specs.Scopes.{Within, unplaced, placed, scopes_stmts, count_stmts, block_inner, global_names, script_scopes, inside, outermost}
 use Rattle.scope_analysis.specs.Closed.{closed_bindings, closed_from, named_left}

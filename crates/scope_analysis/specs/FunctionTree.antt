@@ -1,5 +1,5 @@
 -- A function that is read: its body stands for one, whatever stands for those that were passed over.
-use Rattle.std.specs.Prelude.{◌≡◌, ℕ, Bool, if◌then◌else◌, List, [], ◌∷◌, ◌++◌, map, Option, Some, length, ◌<◌, ◌^◌, true}
+use Rattle.std.specs.Prelude.{◌≡◌, ℕ, Bool, if◌then◌else◌, List, [], ◌∷◌, ◌++◌, map, Some, length, ◌<◌, ◌^◌, true}
 use Rattle.script_grammar.specs.declared.token.FuncForm.{FuncForm}
 use Rattle.script_grammar.specs.declared.tree.Func.{Func, out-Func}
 use Rattle.script_grammar.specs.Interpretation.{Interpretation}

@@ -1,5 +1,5 @@
 -- How far the bindings of one scope have been placed.
-use Rattle.std.specs.Prelude.{◌≡◌, ℕ, ◌+◌, ◌^◌, ◌<◌, List, [], ◌∷◌, ◌++◌, count_by}
+use Rattle.std.specs.Prelude.{◌≡◌, ℕ, ◌+◌, ◌^◌, ◌<◌, List, ◌++◌, count_by}
 use Rattle.stencil_data.specs.declared.chains.LinkName.{LinkName}
 use Rattle.stencil_data.specs.declared.records.ClosedName.{ClosedName}
 use Rattle.stencil_data.specs.declared.scopes.ScopeKind.TheVariants as scope

@@ -1,5 +1,5 @@
 -- Which texts a set of them has.
-use Rattle.std.specs.Prelude.{ℕ, List, map}
+use Rattle.std.specs.Prelude.{List, map}
 use Rattle.std.specs.Borrow.{Bor}
 use Rattle.std.specs.BTreeSet.{BTreeSet}
 use Rattle.scope_analysis.specs.DeclaredNames.{Text}

@@ -1,4 +1,3 @@
-use Rattle.std.proofs.Common.{sym}
 use Rattle.script_grammar.specs.Kinds.{is_name}
 use Rattle.parse_bodies.proofs.Blocks.{label_deeper, label_no_room}
 use Rattle.parse_bodies.proofs.Rooms.{no_room_refuses}

@@ -1,4 +1,4 @@
-use Rattle.std.proofs.Common.{◌≡◌, map, drop, sym, ◌∙◌, ap, Bool, ◌+◌, if◌then◌else◌, true, arith}
+use Rattle.std.proofs.Common.{map, drop, sym, ◌∙◌, ap, Bool, ◌+◌, if◌then◌else◌, true, arith}
 use Rattle.std.proofs.lemmas.List.{drop_all}
 use Rattle.script_grammar.specs.declared.tree.Param.{Param}
 use Rattle.script_grammar.specs.TreeLists.{params_of}

@@ -1,5 +1,5 @@
-use Rattle.std.proofs.Common.{◌≡◌, ℕ, ◌++◌, ◌||◌, [], List, Bool, Option, Some, None, map, option_map, unwrap_or, length, sym, subst, ap, ◌∙◌}
-use Rattle.script_grammar.specs.declared.tree.Func.{Func, out-Func}
+use Rattle.std.proofs.Common.{◌≡◌, ℕ, ◌++◌, ◌||◌, List, Bool, Option, None, map, option_map, unwrap_or, length, sym, subst, ap, ◌∙◌}
+use Rattle.script_grammar.specs.declared.tree.Func.{out-Func}
 use Rattle.script_grammar.specs.declared.tree.Param.{Param}
 use Rattle.script_grammar.specs.Interpretation.{Interpretation, maybe_named}
 use Rattle.script_grammar.specs.Tree as model

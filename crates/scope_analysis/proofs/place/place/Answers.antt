@@ -1,4 +1,4 @@
-use Rattle.std.proofs.Common.{◌≡◌, ℕ, ◌+◌, ◌≤◌, ◌∙◌, Bool, if◌then◌else◌, sym, ap, arith, refl, get_or}
+use Rattle.std.proofs.Common.{◌≡◌, ◌+◌, ◌∙◌, Bool, if◌then◌else◌, sym, ap, arith, refl, get_or}
 use Rattle.stencil_data.specs.declared.scopes.BindKind.TheVariants as bind
 use Rattle.stencil_data.specs.Slots.{is_param, takes_frame}
 use Rattle.scope_analysis.specs.Kept.{declarations_of}

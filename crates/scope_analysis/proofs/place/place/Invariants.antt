@@ -1,4 +1,4 @@
-use Rattle.std.proofs.Common.{◌≡◌, ℕ, ◌+◌, ◌≤◌, List, drop}
+use Rattle.std.proofs.Common.{◌+◌, ◌≤◌, List, drop}
 use Rattle.stencil_data.specs.Named.{NamedScope}
 use Rattle.stencil_data.specs.StandsFor.{named_bindings}
 use Rattle.scope_analysis.specs.DeclaredNames.{Text}

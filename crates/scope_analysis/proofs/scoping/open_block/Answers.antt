@@ -1,12 +1,10 @@
-use Rattle.std.proofs.Common.{◌≡◌, ℕ, ◌+◌, ◌++◌, List, map, length, ◌∙◌, ap}
-use Rattle.script_grammar.specs.Tree.{Stmts}
+use Rattle.std.proofs.Common.{◌≡◌, ◌++◌, List, map, ◌∙◌, ap}
 use Rattle.script_grammar.specs.TreeLists.{stmts_of}
 use Rattle.script_grammar.specs.TreeOf.{stmt_of}
-use Rattle.scope_analysis.specs.DeclaredNames.{Declaration, lexical_names}
+use Rattle.scope_analysis.specs.DeclaredNames.{lexical_names}
 use Rattle.stencil_data.specs.declared.scopes.ScopeKind.TheVariants as scope_kind
 use Rattle.scope_analysis.specs.declared.names.DeclaredName.{DeclaredName}
 use Rattle.scope_analysis.specs.Kept.{declarations_of, under}
-use Rattle.scope_analysis.specs.Scopes.{scope_count}
 use Rattle.scope_analysis.proofs.Adding.{opens_at}
 use Rattle.scope_analysis.proofs.scoping.open_block.Goals as goal
 

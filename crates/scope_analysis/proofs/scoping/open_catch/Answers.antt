@@ -1,11 +1,9 @@
-use Rattle.std.proofs.Common.{◌≡◌, ℕ, ◌+◌, ◌++◌, List, map, length, ◌∙◌, ap}
-use Rattle.script_grammar.specs.Tree.{Stmts}
+use Rattle.std.proofs.Common.{◌≡◌, ◌++◌, List, ◌∙◌, ap}
 use Rattle.script_grammar.specs.Interpretation.{maybe_named}
-use Rattle.scope_analysis.specs.DeclaredNames.{Declaration}
 use Rattle.stencil_data.specs.declared.scopes.ScopeKind.TheVariants as scope_kind
 use Rattle.scope_analysis.specs.declared.names.DeclaredName.{DeclaredName}
 use Rattle.scope_analysis.specs.Kept.{declarations_of, under}
-use Rattle.scope_analysis.specs.Scopes.{scope_count, catch_names}
+use Rattle.scope_analysis.specs.Scopes.{catch_names}
 use Rattle.scope_analysis.proofs.Adding.{opens_at}
 use Rattle.scope_analysis.proofs.scoping.open_catch.Goals as goal
 

@@ -1,11 +1,9 @@
-use Rattle.std.proofs.Common.{◌≡◌, ℕ, ◌+◌, ◌++◌, List, map, length, ◌∙◌, ap}
-use Rattle.script_grammar.specs.Tree.{Stmts}
+use Rattle.std.proofs.Common.{◌≡◌, ◌++◌, List, ◌∙◌, ap}
 use Rattle.script_grammar.specs.TreeOf.{each_of}
-use Rattle.scope_analysis.specs.DeclaredNames.{Declaration, each_lexical_names}
+use Rattle.scope_analysis.specs.DeclaredNames.{each_lexical_names}
 use Rattle.stencil_data.specs.declared.scopes.ScopeKind.TheVariants as scope_kind
 use Rattle.scope_analysis.specs.declared.names.DeclaredName.{DeclaredName}
 use Rattle.scope_analysis.specs.Kept.{declarations_of, under}
-use Rattle.scope_analysis.specs.Scopes.{scope_count}
 use Rattle.scope_analysis.proofs.Adding.{opens_at}
 use Rattle.scope_analysis.proofs.scoping.open_each.Goals as goal
 

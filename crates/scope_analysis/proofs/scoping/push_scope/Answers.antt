@@ -1,4 +1,4 @@
-use Rattle.std.proofs.Common.{◌∙◌, sym, ap, length, arith}
+use Rattle.std.proofs.Common.{◌∙◌, arith}
 use Rattle.scope_analysis.specs.Kept.{declarations_of}
 use Rattle.scope_analysis.proofs.Adding.{pushed_opens}
 use Rattle.scope_analysis.proofs.scoping.push_scope.Goals as goal

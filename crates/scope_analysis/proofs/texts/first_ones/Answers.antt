@@ -1,4 +1,4 @@
-use Rattle.std.proofs.Common.{◌≡◌, ℕ, ◌+◌, ◌++◌, ◌∷◌, [], List, map, drop, length, get_or, suc, cond, Bool, not, ◌||◌, bytes_eq, ap, sym, ◌∙◌, arith, drop-cons}
+use Rattle.std.proofs.Common.{◌≡◌, ℕ, ◌+◌, ◌++◌, ◌∷◌, [], List, map, drop, get_or, suc, cond, not, ◌||◌, bytes_eq, ap, sym, ◌∙◌, arith, drop-cons}
 use Rattle.stencil_data.specs.StandsFor.{text_at}
 use Rattle.scope_analysis.specs.DeclaredNames.{Text, has_text, first_ones_after}
 use Rattle.scope_analysis.specs.TextSets.{texts_in}

@@ -1,6 +1,5 @@
-use Rattle.std.proofs.Common.{map, ap, ◌∙◌, not, Bool, Bor, List}
+use Rattle.std.proofs.Common.{map, ap, ◌∙◌, not, Bor, List}
 use Rattle.scope_analysis.specs.DeclaredNames.{Text, has_text}
-use Rattle.scope_analysis.specs.TextSets.{texts_in}
 use Rattle.scope_analysis.proofs.NameTexts.{has_contains, insert_has}
 use Rattle.scope_analysis.proofs.texts.insert_text.Goals as goal
 

@@ -1,10 +1,10 @@
-use Rattle.std.proofs.Common.{ℕ, ◌++◌, List, map, ap, ◌∙◌}
+use Rattle.std.proofs.Common.{◌++◌, List, map, ap, ◌∙◌}
 use Rattle.script_grammar.specs.TreeLists.{stmts_of}
 use Rattle.script_grammar.specs.TreeOf.{stmt_of}
 use Rattle.stencil_data.specs.StandsFor.{text_at}
 use Rattle.stencil_data.specs.declared.scopes.BindKind.TheVariants as bind
 use Rattle.scope_analysis.specs.declared.names.DeclaredName.{DeclaredName}
-use Rattle.scope_analysis.specs.DeclaredNames.{Text, Declaration, declarations, top_lexical_names}
+use Rattle.scope_analysis.specs.DeclaredNames.{Declaration, declarations, top_lexical_names}
 use Rattle.scope_analysis.specs.Kept.{declarations_of, under}
 use Rattle.scope_analysis.proofs.toplevel.global_names.Goals as goal
 

@@ -1,10 +1,8 @@
-use Rattle.std.proofs.Common.{◌≡◌, ℕ, ◌++◌, ◌∷◌, [], List, Option, Some, None, map, ap, sym, subst, ◌∙◌}
+use Rattle.std.proofs.Common.{◌≡◌, ℕ, ◌++◌, ◌∷◌, [], List, Some, map, ap, subst, ◌∙◌}
 use Rattle.script_grammar.specs.Tree.{Stmts}
 use Rattle.script_grammar.specs.TreeLists.{stmts_of}
 use Rattle.script_grammar.specs.TreeOf.{stmt_of}
 use Rattle.stencil_data.specs.declared.records.ClosedName.{ClosedName}
-use Rattle.stencil_data.specs.declared.scopes.Binding as of_scope
-use Rattle.stencil_data.specs.declared.scopes.ScopeKind.TheVariants as scope
 use Rattle.stencil_data.specs.declared.scopes.Slot.TheVariants as slot
 use Rattle.stencil_data.specs.StandsFor.{named_bindings}
 use Rattle.stencil_data.specs.Views.{ScopeView}

@@ -2,7 +2,7 @@ use Rattle.std.proofs.Common.{ℕ, ◌++◌, List, map, ap, ◌∙◌}
 use Rattle.script_grammar.specs.TreeLists.{stmts_of}
 use Rattle.script_grammar.specs.TreeOf.{stmt_of}
 use Rattle.stencil_data.specs.StandsFor.{text_at}
-use Rattle.scope_analysis.specs.DeclaredNames.{Text, first_ones, all_top_var_names}
+use Rattle.scope_analysis.specs.DeclaredNames.{first_ones, all_top_var_names}
 use Rattle.scope_analysis.specs.Kept.{under}
 use Rattle.scope_analysis.proofs.toplevel.top_vars.Goals as goal
 

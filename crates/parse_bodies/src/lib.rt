@@ -7,6 +7,9 @@
 //!
 //! A part that reads expressions or statements is stated over `block_at i depth` (specs/Blocks.antt), the parser of what
 //! stands inside so many nodes that count for the depth.
+//!
+//! So far it has what of statements holds neither expressions nor statements: words and semicolons that must stand, labels,
+//! a catch's parameter, `debugger`, `continue` and `break`.
 #![tactic(auto)]
 
 pub mod ending;

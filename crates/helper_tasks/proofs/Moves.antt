@@ -13,10 +13,10 @@ use Rattle.helper_tasks.proofs.Counts.{times-append, total-set, each-at, each-se
 
 module _ {N : Type 0} where
   pub same_refl : (h : Handles N) → Same h h
-  same_refl h = record { deque = refl; parts = refl; injector = refl; looks_at = refl }
+  same_refl h = record { number = refl; deque = refl; parts = refl; injector = refl; looks_at = refl }
 
   pub same_then : (a b c : Handles N) → Same a b → Same b c → Same a c
-  same_then a b c p q = record { deque = q.deque ∙ p.deque; parts = q.parts ∙ p.parts; injector = q.injector ∙ p.injector; looks_at = q.looks_at ∙ p.looks_at }
+  same_then a b c p q = record { number = q.number ∙ p.number; deque = q.deque ∙ p.deque; parts = q.parts ∙ p.parts; injector = q.injector ∙ p.injector; looks_at = q.looks_at ∙ p.looks_at }
 
   pub stays : (h : Handles N) (xs : List ℕ) → Equipped h → Moved h h xs xs
   stays h xs e = record { equipped = e; same = same_refl h; moves = λ x. refl }
@@ -41,14 +41,14 @@ module _ {N : Type 0} where
       → MatchOption r (Moved h (record h { own = own }) [] []) (λ x. (x < bound) × Moved h (record h { own = own }) [] (x ∷ []))
   popped bound h own None e p = record {
     equipped = record { seated = e.seated; owns = subst (λ (o : End). 0 < o.dealt.parts) (sym p.0) e.owns; fetches = e.fetches; looks_on = e.looks_on };
-    same = record { deque = ap (λ (o : End). o.deque) p.0; parts = ap (λ (o : End). o.dealt.parts) p.0; injector = refl; looks_at = refl };
+    same = record { number = refl; deque = ap (λ (o : End). o.deque) p.0; parts = ap (λ (o : End). o.dealt.parts) p.0; injector = refl; looks_at = refl };
     moves = λ x. let i = ap (λ (o : End). times x o.dealt.taken) p.0 in let j = ap (λ (o : End). times x o.dealt.pushed) p.0 in omega arith;
   }
   popped bound h own (Some y) e p = (
     p.0,
     record {
       equipped = record { seated = e.seated; owns = subst (λ (o : End). 0 < o.dealt.parts) (sym p.1) e.owns; fetches = e.fetches; looks_on = e.looks_on };
-      same = record { deque = ap (λ (o : End). o.deque) p.1; parts = ap (λ (o : End). o.dealt.parts) p.1; injector = refl; looks_at = refl };
+      same = record { number = refl; deque = ap (λ (o : End). o.deque) p.1; parts = ap (λ (o : End). o.dealt.parts) p.1; injector = refl; looks_at = refl };
       moves = λ x.
           let i = ap (λ (o : End). times x o.dealt.taken) p.1 in
           let j = ap (λ (o : End). times x o.dealt.pushed) p.1 in
@@ -61,7 +61,7 @@ module _ {N : Type 0} where
       → MatchResult r (λ _. Moved h (record h { own = own }) (y ∷ []) []) (λ t. (t ≡ y) × (record h { own = own } ≡ h))
   kept h own y (Ok u) e p = record {
     equipped = record { seated = e.seated; owns = subst (λ (o : End). 0 < o.dealt.parts) (sym p) e.owns; fetches = e.fetches; looks_on = e.looks_on };
-    same = record { deque = ap (λ (o : End). o.deque) p; parts = ap (λ (o : End). o.dealt.parts) p; injector = refl; looks_at = refl };
+    same = record { number = refl; deque = ap (λ (o : End). o.deque) p; parts = ap (λ (o : End). o.dealt.parts) p; injector = refl; looks_at = refl };
     moves = λ x.
         let i = ap (λ (o : End). times x o.dealt.taken) p in
         let j = ap (λ (o : End). times x o.dealt.pushed) p in
@@ -76,7 +76,7 @@ module _ {N : Type 0} where
       let Fit : Reach → Type 0 = λ f. (f.dealt.parts ≡ 1) × (f.dealt.pushed ≡ []) in
       record {
         equipped = record { seated = e.seated; owns = e.owns; fetches = subst Fit (sym p.0) e.fetches; looks_on = e.looks_on };
-        same = record { deque = refl; parts = refl; injector = ap (λ (o : Reach). o.injector) p.0; looks_at = refl };
+        same = record { number = refl; deque = refl; parts = refl; injector = ap (λ (o : Reach). o.injector) p.0; looks_at = refl };
         moves = λ x. let i = ap (λ (o : Reach). times x o.dealt.taken) p.0 in omega arith;
       }
   fetched bound h queue fetcher (Some y) e at p =
@@ -84,7 +84,7 @@ module _ {N : Type 0} where
         p.0,
         record {
           equipped = record { seated = e.seated; owns = e.owns; fetches = subst Fit (sym p.1) e.fetches; looks_on = e.looks_on };
-          same = record { deque = refl; parts = refl; injector = ap (λ (o : Reach). o.injector) p.1 ∙ sym at; looks_at = refl };
+          same = record { number = refl; deque = refl; parts = refl; injector = ap (λ (o : Reach). o.injector) p.1 ∙ sym at; looks_at = refl };
           moves = λ x.
               let i = ap (λ (o : Reach). times x o.dealt.taken) p.1 in
               omega (arith, times-append x h.fetcher.dealt.taken (y ∷ []));
@@ -106,6 +106,7 @@ module _ {N : Type 0} where
           looks_on = each-set IsLook h.looks.items at now e.looks_on new;
         };
         same = record {
+          number = refl;
           deque = refl;
           parts = refl;
           injector = refl;

@@ -32,8 +32,9 @@ module _ {N : Type 0} where
   abbrev pub went : ℕ → Handles N → ℕ
   went x h = times x h.own.dealt.pushed
 
-  -- the handles are of the same objects, and have as many parts
+  -- the handles are of the same worker and of the same objects, and have as many parts
   pub record Same (old new : Handles N) : Type 0 where
+    pub number : new.number ≡ old.number
     pub deque : new.own.deque ≡ old.own.deque
     pub parts : new.own.dealt.parts ≡ old.own.dealt.parts
     pub injector : new.fetcher.injector ≡ old.fetcher.injector

@@ -60,7 +60,7 @@ module _ {C : Type 0} (judge : Recorded → Reply C) where
     pub at : (ts : List Lexeme) → Meets K (e ts) (l ts)
 
   -- a verdict that is no fault leaves the matter to those behind
-  judged_append : (rs qs : List Recorded) → judged rs ≡ fine → judged (rs ++ qs) ≡ judged qs
+  pub judged_append : (rs qs : List Recorded) → judged rs ≡ fine → judged (rs ++ qs) ≡ judged qs
   judged_append [] qs h = refl
   judged_append (b ∷ rs) qs h = past (judge b) (λ k. judged_append rs qs k) h
     where
@@ -69,7 +69,7 @@ module _ {C : Type 0} (judge : Recorded → Reply C) where
       past (Bad ps us) i k = absurd (cc)
       past (Deep ps us) i k = absurd (cc)
 
-  judged_bad : (rs qs : List Recorded) (vs : List Lexeme) → judged rs ≡ bad_at vs → judged (rs ++ qs) ≡ bad_at vs
+  pub judged_bad : (rs qs : List Recorded) (vs : List Lexeme) → judged rs ≡ bad_at vs → judged (rs ++ qs) ≡ bad_at vs
   judged_bad [] qs vs h = absurd (cc)
   judged_bad (b ∷ rs) qs vs h = past (judge b) (λ k. judged_bad rs qs vs k) h
     where
@@ -78,7 +78,7 @@ module _ {C : Type 0} (judge : Recorded → Reply C) where
       past (Bad ps us) i k = k
       past (Deep ps us) i k = absurd (cc)
 
-  judged_deep : (rs qs : List Recorded) (vs : List Lexeme) → judged rs ≡ deep_at vs → judged (rs ++ qs) ≡ deep_at vs
+  pub judged_deep : (rs qs : List Recorded) (vs : List Lexeme) → judged rs ≡ deep_at vs → judged (rs ++ qs) ≡ deep_at vs
   judged_deep [] qs vs h = absurd (cc)
   judged_deep (b ∷ rs) qs vs h = past (judge b) (λ k. judged_deep rs qs vs k) h
     where

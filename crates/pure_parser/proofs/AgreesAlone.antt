@@ -17,7 +17,7 @@ use Rattle.pure_parser.specs.Stmts as parser
 use Rattle.pure_parser.specs.Stmts.{everything, in_place, reading, read_alone}
 use Rattle.pure_parser.proofs.Agrees.{Agrees, agrees_bind, agrees_bad, agrees_peek, agrees_step, agrees_when, agrees_made, agrees_map}
 use Rattle.pure_parser.proofs.Alike.{BodyK, HeadK, params_same, head_alike}
-use Rattle.pure_parser.proofs.Filling.{fill, fill_params, fill_stmts}
+use Rattle.pure_parser.specs.Filling.{fill, fill_params, fill_stmts}
 use Rattle.pure_parser.proofs.AgreesExprs.{CallK, AgreesEnv, ParamTurn, ParamsK, done, expect_agrees, params_led_agrees, params_head_agrees}
 use Rattle.pure_parser.proofs.AgreesCalls.{spanned_agrees, arrow_mark_agrees}
 use Rattle.pure_parser.proofs.AgreesStmts.{OwnK, end_agrees, reading_agrees}

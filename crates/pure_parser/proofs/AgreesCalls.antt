@@ -14,7 +14,7 @@ use Rattle.pure_parser.specs.Exprs as parser
 use Rattle.pure_parser.specs.Exprs.{Env, Call, Calls, AnAssign, APrefix, ANew, AParam, ARest, BodyRead, ParamsEnd, Plain, Trailing, Rest, Head, Spanned, spanned, spanned_reply, last_end, expect, name_of, binary_case, with_last, operand, is_update_expr, is_op, head_case, is_arrow_head, is_arrow, call_case, no_calls, begins_call}
 use Rattle.pure_parser.proofs.Agrees.{Verdict, fine, bad_at, deep_at, judged, records, MeetsAt, Agrees, TurnK, agrees_bind, agrees_ret, agrees_bad, agrees_peek, agrees_step, agrees_when, agrees_if, agrees_made, agrees_loop, agrees_no_room}
 use Rattle.pure_parser.proofs.Alike.{AnyK, SameK, OptionK, ExprK, BodyK, OperandK, ParamK, HeadK, list_last, head_alike, function_alike, binary_alike}
-use Rattle.pure_parser.proofs.Filling.{fill}
+use Rattle.pure_parser.specs.Filling.{fill}
 use Rattle.pure_parser.proofs.AgreesExprs.{CallK, AgreesEnv, ParamTurn, ParamsK, done, agrees_two, expect_agrees, own_body_agrees, name_agrees, param_agrees, params_led_agrees, items_agrees, doomed_agrees, new_agrees, unary_agrees, prefix_agrees}
 
 module _ (bodies : ℕ → Body) where

@@ -17,7 +17,7 @@ use Rattle.pure_parser.specs.Exprs as parser
 use Rattle.pure_parser.specs.Exprs.{Env, Call, Result, AnAssign, APrefix, ANew, AParam, ARest, BodyRead, ParamsEnd, Plain, Trailing, Rest, Head, expect, name_of, peek_two, comma_case, list_case, chain_case, binary_case, function_case, head_case, param, operand, is_chain_head, is_update_expr}
 use Rattle.pure_parser.proofs.Agrees.{Agrees, TurnK, ListK, ManyK, agrees_bind, agrees_ret, agrees_bad, agrees_peek, agrees_step, agrees_when, agrees_if, agrees_made, agrees_loop, agrees_led}
 use Rattle.pure_parser.proofs.Alike.{AnyK, SameK, OptionK, EndK, ExprK, FunctionK, BodyK, TailK, ArgsK, PartK, ParamK, HeadK, KeyK, PropK, list_append, exprs_same, parts_same, props_same, comma_alike, paren_alike, array_alike, head_alike, function_alike, chain_alike, new_alike}
-use Rattle.pure_parser.proofs.Filling.{fill, fill_exprs, fill_key, fill_prop, fill_props, fill_function}
+use Rattle.pure_parser.specs.Filling.{fill, fill_exprs, fill_key, fill_prop, fill_props, fill_function}
 
 module _ (bodies : ℕ → Body) where
   -- what the calls read

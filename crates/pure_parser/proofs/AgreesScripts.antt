@@ -24,7 +24,7 @@ use Rattle.pure_parser.proofs.NestedTrees.{nested_stmts}
 use Rattle.pure_parser.proofs.Passing.{braced_pass, record_at, passed_reply, passing_here, passing_no}
 use Rattle.pure_parser.proofs.Agrees.{Verdict, fine, bad_at, deep_at, or_else, judged, records, MeetsAt, Meets, Agrees, agrees_no_room}
 use Rattle.pure_parser.proofs.Alike.{SameK, BodyK, StmtK}
-use Rattle.pure_parser.proofs.Filling.{fill_body}
+use Rattle.pure_parser.specs.Filling.{fill_body}
 use Rattle.pure_parser.proofs.AgreesExprs.{CallK, AgreesEnv, name_agrees}
 use Rattle.pure_parser.proofs.AgreesCalls.{case_agrees, no_calls_agrees}
 use Rattle.pure_parser.proofs.AgreesStmts.{AgreesBlock, StmtsK, OwnK, stmt_agrees, reading_agrees, script_agrees}

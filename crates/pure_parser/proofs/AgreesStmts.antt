@@ -19,7 +19,7 @@ use Rattle.pure_parser.specs.Stmts as parser
 use Rattle.pure_parser.specs.Stmts.{Place, AnItem, AStmt, StmtCalls, Block, is_item, is_inside, bound, clause}
 use Rattle.pure_parser.proofs.Agrees.{Agrees, TurnK, ListK, ManyK, agrees_bind, agrees_ret, agrees_bad, agrees_peek, agrees_step, agrees_when, agrees_if, agrees_made, agrees_loop, agrees_led}
 use Rattle.pure_parser.proofs.Alike.{AnyK, SameK, OptionK, ExprK, BindK, StmtK, ClauseK, list_append, maybe_same, binds_same, stmts_same, clauses_same, else_same, all_binds, return_alike, else_alike}
-use Rattle.pure_parser.proofs.Filling.{fill, fill_maybe, fill_init, fill_each, fill_stmt, fill_stmts}
+use Rattle.pure_parser.specs.Filling.{fill, fill_maybe, fill_init, fill_each, fill_stmt, fill_stmts}
 use Rattle.pure_parser.proofs.AgreesExprs.{AgreesEnv, done, agrees_two, expect_agrees, name_agrees, expr_agrees, function_agrees}
 
 module _ (bodies : ℕ → Body) where

@@ -13,7 +13,7 @@ use Rattle.script_grammar.specs.Endings.{ending, last_ending, operands_ending, f
 use Rattle.script_grammar.specs.Proper.{rank, function_rank, new_rank, level_rank, is_member_tail, are_member_tails, takes_else, else_takes}
 use Rattle.pure_parser.specs.Exprs.{BodyRead, Head, ParamsEnd, Plain, Trailing, Rest, function_case, head_case, comma_case, list_case, chain_case, binary_case, with_last, rest_param, some_last, has_items, array_case}
 use Rattle.pure_parser.proofs.Agrees.{ListK}
-use Rattle.pure_parser.proofs.Filling.{fill, fill_exprs, fill_maybe, fill_args, fill_parts, fill_items, fill_operands, fill_tails, fill_tail, fill_key, fill_prop, fill_props, fill_function, fill_params, fill_body, fill_binds, fill_stmt, fill_stmts, fill_else, fill_clauses}
+use Rattle.pure_parser.specs.Filling.{fill, fill_exprs, fill_maybe, fill_args, fill_parts, fill_items, fill_operands, fill_tails, fill_tail, fill_key, fill_prop, fill_props, fill_function, fill_params, fill_body, fill_binds, fill_stmt, fill_stmts, fill_else, fill_clauses}
 
 abbrev pub AnyK : {A B : Type 0} → A → B → Type 0
 AnyK a b = Unit {0}

@@ -10,7 +10,7 @@ use Rattle.script_grammar.specs.Pieces.{Ending, passed, until}
 use Rattle.script_grammar.specs.Endings.{ending, last_ending, operands_ending, function_ending, body_ending, return_ending, bind_ending, binds_ending}
 use Rattle.script_grammar.specs.Print.{print, print_list, print_more, print_maybe, print_args, print_parts, part_kind, first_kind, print_items, print_more_items, print_operands, print_tails, print_tail, print_key, print_props, print_more_props, print_prop, print_func, print_function, print_declared, print_params, print_more_params, print_initializer, print_body, print_binds, print_more_binds, print_stmts, print_else, print_init, print_each, print_clauses, print_test, print_stmt, above, param_depth}
 use Rattle.script_grammar.specs.Proper.{rank, function_rank, new_rank, callee_rank, are_member_tails, is_member_tail, operands_level, free_of_in, all_free, operands_free, function_free, body_free, maybe_free, binds_free, is_statement, takes_else, else_takes, defaults, level_rank}
-use Rattle.pure_parser.proofs.Filling.{fill, fill_exprs, fill_maybe, fill_args, fill_parts, fill_items, fill_operands, fill_tails, fill_tail, fill_key, fill_prop, fill_props, fill_function, fill_params, fill_body, fill_binds, fill_init, fill_each, fill_stmt, fill_stmts, fill_else, fill_clauses}
+use Rattle.pure_parser.specs.Filling.{fill, fill_exprs, fill_maybe, fill_args, fill_parts, fill_items, fill_operands, fill_tails, fill_tail, fill_key, fill_prop, fill_props, fill_function, fill_params, fill_body, fill_binds, fill_init, fill_each, fill_stmt, fill_stmts, fill_else, fill_clauses}
 use Rattle.pure_parser.proofs.PassingLaws.{AreBraced}
 
 module _ (bodies : ℕ → Body) (braced : AreBraced bodies) where

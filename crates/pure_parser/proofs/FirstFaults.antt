@@ -260,11 +260,14 @@ module _ {A : Type 0} (P : Part) (f : Parser A) (d : Decides P f) where
       not_inner h.inner h.last h.ends (subst AllInner (sym (append-nil b.front) ∙ sym b.split ∙ h.split) b.inner)
 
   -- the place of a fault is that of the first fault of the part
-  pub first_bad : (ts us : List Lexeme) → Whole ts → bare (f ts) ≡ Bad [] us → FirstFault P ts (length ts - length us) Unexpected
-  first_bad ts [] h e = absurd (bad_some ts h e)
-  first_bad ts (x ∷ r) h e =
+  pub first_bad_by : (ts us : List Lexeme) → (bare (f ts) ≡ Bad [] [] → ⊥) → bare (f ts) ≡ Bad [] us → FirstFault P ts (length ts - length us) Unexpected
+  first_bad_by ts [] h e = absurd (h e)
+  first_bad_by ts (x ∷ r) h e =
       let b = d.bad_begins ts (x ∷ r) e in
       subst (λ k. FirstFault P ts k Unexpected) (front_length ts b.front (x ∷ r) b.split) (bad_at ts x r e b)
+
+  pub first_bad : (ts us : List Lexeme) → Whole ts → bare (f ts) ≡ Bad [] us → FirstFault P ts (length ts - length us) Unexpected
+  first_bad ts us h e = first_bad_by ts us (bad_some ts h) e
 
   pub first_deep : (ts us : List Lexeme) → bare (f ts) ≡ Deep [] us → FirstFault P ts (length ts - length us) TooDeep
   first_deep ts us e =

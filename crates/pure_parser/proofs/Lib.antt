@@ -39,7 +39,6 @@ pub mod DeepFronts
 pub mod ExprEnds
 pub mod ExprFronts
 pub mod FillLaws
-pub mod Filling
 pub mod FirstFaults
 pub mod Fitting
 pub mod Friendly
@@ -63,7 +62,9 @@ pub mod PassedAlone
 pub mod PassedBodies
 pub mod PassedHeads
 pub mod PassedIn
+pub mod Closed
 pub mod PassedLaws
+pub mod Totals
 pub mod PassedParts
 pub mod Passing
 pub mod PassingComplete

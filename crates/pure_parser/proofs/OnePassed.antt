@@ -7,7 +7,7 @@ use Rattle.script_grammar.specs.Pieces.{passed}
 use Rattle.script_grammar.specs.Print.{print, print_stmts}
 use Rattle.script_grammar.specs.Script.{IsStatements, IsAssign, IsExpression}
 use Rattle.pure_parser.proofs.PartLaws.{both_stand, one_read, room_of}
-use Rattle.pure_parser.proofs.Filling.{fill, fill_stmts}
+use Rattle.pure_parser.specs.Filling.{fill, fill_stmts}
 use Rattle.pure_parser.proofs.PassingLaws.{AreBraced}
 use Rattle.pure_parser.proofs.PassedParts.{pass_assign, pass_expression, pass_statements, assign_complete, expression_complete, statements_complete, no_assign, no_expr}
 

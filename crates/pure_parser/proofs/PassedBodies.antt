@@ -23,7 +23,7 @@ use Rattle.pure_parser.proofs.NestedTrees.{nested_own}
 use Rattle.pure_parser.proofs.FirstFaults.{Whole, Decides, first_bad, first_deep, read_shallow}
 use Rattle.pure_parser.proofs.PartLaws.{bad_part, deep_part, nested_inner, of_read, cuts_end, part_is_read, NoneDeep}
 use Rattle.pure_parser.proofs.AloneLaws.{body_is}
-use Rattle.pure_parser.proofs.Filling.{fill_stmts}
+use Rattle.pure_parser.specs.Filling.{fill_stmts}
 use Rattle.pure_parser.proofs.FillLaws.{stmts_print}
 use Rattle.pure_parser.proofs.PassedIn.{passed_mode, has_stmts}
 use Rattle.pure_parser.proofs.AgreesScripts.{passed_over}

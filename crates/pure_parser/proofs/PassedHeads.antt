@@ -24,7 +24,7 @@ use Rattle.pure_parser.proofs.NestedTrees.{nested_function}
 use Rattle.pure_parser.proofs.FirstFaults.{Whole, Decides, first_bad, first_deep, read_shallow}
 use Rattle.pure_parser.proofs.PartLaws.{bad_part, deep_part, nested_inner, of_read, cuts_end, part_is_read, NoneDeep}
 use Rattle.pure_parser.proofs.ProperIn.{ProperFunction}
-use Rattle.pure_parser.proofs.Filling.{fill_params, fill_body, fill_function}
+use Rattle.pure_parser.specs.Filling.{fill_params, fill_body, fill_function}
 use Rattle.pure_parser.proofs.FillLaws.{function_print}
 use Rattle.pure_parser.proofs.PassedIn.{passed_mode, has_function}
 use Rattle.pure_parser.proofs.PassingLaws.{AreBraced, passed_over_local}

@@ -11,7 +11,7 @@ use Rattle.script_grammar.specs.Pieces.{whole, passed, begins_with}
 use Rattle.script_grammar.specs.Proper.{HasTwo, HasExprs, HasTails, HasOperands, HasProps, HasBinds, AreItems, AreParams, IsBare, BareIf, SuitsForm, IsOneParam, IsFuncExpression, IsDeclaration, IsNamelessOf, ElseIsNearest, is_hole, rank, first_rank, rest_rank, operands_level, begins_brace, begins_function, defaults}
 use Rattle.script_grammar.specs.Proper as plain
 use Rattle.pure_parser.proofs.Begins.{begins_same}
-use Rattle.pure_parser.proofs.Filling.{fill, fill_exprs, fill_maybe, fill_args, fill_parts, fill_items, fill_operands, fill_tails, fill_tail, fill_key, fill_prop, fill_props, fill_function, fill_params, fill_body, fill_binds, fill_init, fill_each, fill_stmt, fill_stmts, fill_else, fill_clauses}
+use Rattle.pure_parser.specs.Filling.{fill, fill_exprs, fill_maybe, fill_args, fill_parts, fill_items, fill_operands, fill_tails, fill_tail, fill_key, fill_prop, fill_props, fill_function, fill_params, fill_body, fill_binds, fill_init, fill_each, fill_stmt, fill_stmts, fill_else, fill_clauses}
 use Rattle.pure_parser.proofs.FillLaws.{rank_fill, level_fill, callee_fill, free_fill, binds_free_fill, statement_fill, takes_fill, defaults_fill, print_fill}
 use Rattle.pure_parser.proofs.PassingLaws.{AreBraced}
 use Rattle.pure_parser.proofs.ProperIn.{Mode, Proper, ProperExprs, ProperMaybe, ProperOption, ProperArgs, ProperParts, ProperItems, ProperOperands, ProperTails, ProperTail, ProperKey, ProperProp, ProperProps, ProperFunction, ProperParams, ProperBody, ProperBinds, ProperInit, ProperEach, ProperClauses, ProperStmts, ProperElse, ProperStmt}

@@ -9,10 +9,10 @@ use Rattle.script_grammar.specs.Fault.{depth_limit, ScriptPart, Unexpected, TooD
 use Rattle.pure_parser.specs.Parser.{Recorded, Reply, Read, Bad, Deep, Parser}
 use Rattle.pure_parser.specs.Stmts.{everything, script_of, read_script}
 use Rattle.pure_parser.proofs.Complete.{bare}
-use Rattle.pure_parser.proofs.FirstFaults.{Whole}
-use Rattle.pure_parser.proofs.ScriptLaws.{Text, ScriptOf, script_unexpected, script_too_deep, read_is_script, script_read}
+use Rattle.pure_parser.proofs.ScriptLaws.{Text, ScriptOf, script_unexpected_by, script_too_deep, read_is_script, script_read}
+use Rattle.pure_parser.proofs.Closed.{Closed, Ended, no_bad_end, read_text}
 use Rattle.pure_parser.proofs.Agrees.{Verdict, fine, bad_at, deep_at, judged, records, MeetsAt}
-use Rattle.pure_parser.proofs.Filling.{fill_stmts}
+use Rattle.pure_parser.specs.Filling.{fill_stmts}
 use Rattle.pure_parser.proofs.AgreesStmts.{StmtsK}
 use Rattle.pure_parser.proofs.AgreesScripts.{body_in_place, passed_over, scripts_agree}
 
@@ -28,21 +28,35 @@ module _ (bodies : ℕ → Body) (braced : (n : ℕ) → body_ending (bodies n) 
   meets : (ts : List Lexeme) (v : Verdict) → verdict (pass_script ts) ≡ v → MeetsAt body_in_place (StmtsK bodies) v (read_script depth_limit ts) (pass_script ts)
   meets ts v e = subst (λ x. MeetsAt body_in_place (StmtsK bodies) x (read_script depth_limit ts) (pass_script ts)) e ((scripts_agree bodies braced depth_limit).at ts)
 
+  -- the parser that reads in place finds the fault of a recorded body, or else that of the other parser
+
+  pub bad_in_place : (ts vs : List Lexeme) → verdict (pass_script ts) ≡ bad_at vs → bare (read_script depth_limit ts) ≡ Bad [] vs
+  bad_in_place ts vs e = ap bare (meets ts (bad_at vs) e)
+
+  pub deep_in_place : (ts vs : List Lexeme) → verdict (pass_script ts) ≡ deep_at vs → bare (read_script depth_limit ts) ≡ Deep [] vs
+  deep_in_place ts vs e = ap bare (meets ts (deep_at vs) e)
+
+  pub own_bad_in_place : (ts us : List Lexeme) (rs : List Recorded) → verdict (pass_script ts) ≡ fine → pass_script ts ≡ Bad rs us → bare (read_script depth_limit ts) ≡ Bad [] us
+  own_bad_in_place ts us rs e h = ap bare (subst (MeetsAt body_in_place (StmtsK bodies) fine (read_script depth_limit ts)) h (meets ts fine e))
+
+  pub own_deep_in_place : (ts us : List Lexeme) (rs : List Recorded) → verdict (pass_script ts) ≡ fine → pass_script ts ≡ Deep rs us → bare (read_script depth_limit ts) ≡ Deep [] us
+  own_deep_in_place ts us rs e h = ap bare (subst (MeetsAt body_in_place (StmtsK bodies) fine (read_script depth_limit ts)) h (meets ts fine e))
+
   -- A recorded body has a fault: the first that has one says where the first fault of the text is.
 
-  pub body_unexpected : (ts vs : List Lexeme) → Whole ts → verdict (pass_script ts) ≡ bad_at vs → FirstFault (ScriptPart whole 0) ts (length ts - length vs) Unexpected
-  body_unexpected ts vs t e = script_unexpected ts vs t (ap bare (meets ts (bad_at vs) e))
+  pub body_unexpected : (ts vs : List Lexeme) → Closed ts → verdict (pass_script ts) ≡ bad_at vs → FirstFault (ScriptPart whole 0) ts (length ts - length vs) Unexpected
+  body_unexpected ts vs t e = script_unexpected_by ts vs (no_bad_end ts t) (bad_in_place ts vs e)
 
   pub body_too_deep : (ts vs : List Lexeme) → verdict (pass_script ts) ≡ deep_at vs → FirstFault (ScriptPart whole 0) ts (length ts - length vs) TooDeep
-  body_too_deep ts vs e = script_too_deep ts vs (ap bare (meets ts (deep_at vs) e))
+  body_too_deep ts vs e = script_too_deep ts vs (deep_in_place ts vs e)
 
   -- No recorded body has a fault: the parser's own fault is the first of the text.
 
-  pub own_unexpected : (ts us : List Lexeme) (rs : List Recorded) → Whole ts → verdict (pass_script ts) ≡ fine → pass_script ts ≡ Bad rs us → FirstFault (ScriptPart whole 0) ts (length ts - length us) Unexpected
-  own_unexpected ts us rs t e h = script_unexpected ts us t (ap bare (subst (MeetsAt body_in_place (StmtsK bodies) fine (read_script depth_limit ts)) h (meets ts fine e)))
+  pub own_unexpected : (ts us : List Lexeme) (rs : List Recorded) → Closed ts → verdict (pass_script ts) ≡ fine → pass_script ts ≡ Bad rs us → FirstFault (ScriptPart whole 0) ts (length ts - length us) Unexpected
+  own_unexpected ts us rs t e h = script_unexpected_by ts us (no_bad_end ts t) (own_bad_in_place ts us rs e h)
 
   pub own_too_deep : (ts us : List Lexeme) (rs : List Recorded) → verdict (pass_script ts) ≡ fine → pass_script ts ≡ Deep rs us → FirstFault (ScriptPart whole 0) ts (length ts - length us) TooDeep
-  own_too_deep ts us rs e h = script_too_deep ts us (ap bare (subst (MeetsAt body_in_place (StmtsK bodies) fine (read_script depth_limit ts)) h (meets ts fine e)))
+  own_too_deep ts us rs e h = script_too_deep ts us (own_deep_in_place ts us rs e h)
 
   -- And where it reads, the text is a script, and what was read is its tree with the given bodies.
 
@@ -51,10 +65,10 @@ module _ (bodies : ℕ → Body) (braced : (n : ℕ) → body_ending (bodies n) 
     pub is : ScriptOf ts tree
     pub same : items ≡ fill_stmts bodies tree
 
-  pub passed_is_script : (ts us : List Lexeme) (items : Stmts) (rs : List Recorded) → Text ts → verdict (pass_script ts) ≡ fine → pass_script ts ≡ Read items rs us → Passed ts items
+  pub passed_is_script : (ts us : List Lexeme) (items : Stmts) (rs : List Recorded) → Ended ts → verdict (pass_script ts) ≡ fine → pass_script ts ≡ Read items rs us → Passed ts items
   passed_is_script ts us items rs t e h =
       let m = subst (MeetsAt body_in_place (StmtsK bodies) fine (read_script depth_limit ts)) h (meets ts fine e) in
-      record { tree = m.0; is = read_is_script ts m.0 us t (ap bare m.1); same = m.2 }
+      record { tree = m.0; is = read_is_script ts m.0 us (read_text ts m.0 us t (ap bare m.1)) (ap bare m.1); same = m.2 }
 
   -- A script is read so, and none of its bodies has a fault.
 

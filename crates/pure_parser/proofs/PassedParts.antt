@@ -35,7 +35,7 @@ use Rattle.pure_parser.proofs.NestedTrees.{nested_expr, nested_stmts}
 use Rattle.pure_parser.proofs.FirstFaults.{Whole, Decides, Cuts, first_bad, first_deep, read_shallow}
 use Rattle.pure_parser.proofs.PartLaws.{bad_part, deep_part, nested_inner, of_read, cuts_end, part_is_read, NoneDeep}
 use Rattle.pure_parser.proofs.ScriptLaws.{marks_append, end_kind}
-use Rattle.pure_parser.proofs.Filling.{fill, fill_stmts}
+use Rattle.pure_parser.specs.Filling.{fill, fill_stmts}
 use Rattle.pure_parser.proofs.FillLaws.{rank_fill, ending_fill, free_fill, print_fill, stmts_print}
 use Rattle.pure_parser.proofs.PassedIn.{passed_mode, has_expr, has_stmts}
 use Rattle.pure_parser.proofs.AgreesScripts.{passed_over}

@@ -215,7 +215,7 @@ pass_same (t ∷ ts) q ps = by (open_behind t.kind ps) (λ qs. pass_same ts q qs
     by (Some []) i = kept refl
     by (Some (r ∷ rs)) i = i (r ∷ rs)
 
-pass_local : (ps : List Opener) → Local (pass_over ps)
+pub pass_local : (ps : List Opener) → Local (pass_over ps)
 pass_local ps = record { shorter = λ ts. pass_shorter ts ps; same = λ ts q. pass_same ts q ps }
 
 pub passing_local : (bodies : ℕ → Body) (room : ℕ) (f : FuncForm) (start : ℕ) (simple : Bool) → Local (passing bodies room f start simple)

@@ -25,7 +25,7 @@ use Rattle.pure_parser.proofs.LocalEverything.{read_script_local}
 use Rattle.pure_parser.proofs.CompleteEverything.{read_script_complete}
 use Rattle.pure_parser.proofs.Bracketed.{IsInner, AllInner}
 use Rattle.pure_parser.proofs.NestedTrees.{nested_stmts}
-use Rattle.pure_parser.proofs.FirstFaults.{Whole, Decides, Cuts, first_bad, first_deep, not_inner, deep_before, fault_place, fault_kind}
+use Rattle.pure_parser.proofs.FirstFaults.{Whole, Decides, Cuts, first_bad, first_bad_by, first_deep, not_inner, deep_before, fault_place, fault_kind}
 use Rattle.pure_parser.proofs.PartLaws.{of_read, bad_part, deep_part, nested_inner, NoneDeep, cut_read, cut_none, both_stand, one_read, room_of, ends_there}
 
 -- the parser, with all room for depth
@@ -98,16 +98,16 @@ script_decides = record {
 
 -- What is read is a script.
 
-script_ends : (stmt : StmtCalls) (ts us : List Lexeme) (a : Stmts) → bare (parser.script_of stmt ts) ≡ Read a [] us → is_end (head_of us).kind ≡ true
+pub script_ends : (stmt : StmtCalls) (ts us : List Lexeme) (a : Stmts) → bare (parser.script_of stmt ts) ≡ Read a [] us → is_end (head_of us).kind ≡ true
 unfolding parser.script_of
 script_ends stmt ts us a e = ends_there stmts_of (parser.stmts_from stmt false ts) a us e
 
-record Last (front inner : List Lexeme) (x last : Lexeme) (r : List Lexeme) : Type 0 where
-  same_front : front ≡ inner
-  same_last : x ≡ last
-  none : r ≡ []
+pub record Last (front inner : List Lexeme) (x last : Lexeme) (r : List Lexeme) : Type 0 where
+  pub same_front : front ≡ inner
+  pub same_last : x ≡ last
+  pub none : r ≡ []
 
-last_only : (front inner : List Lexeme) (x last : Lexeme) (r : List Lexeme) → front ++ x ∷ r ≡ inner ++ last ∷ [] → AllInner inner → (IsInner x.kind → ⊥) → Last front inner x last r
+pub last_only : (front inner : List Lexeme) (x last : Lexeme) (r : List Lexeme) → front ++ x ∷ r ≡ inner ++ last ∷ [] → AllInner inner → (IsInner x.kind → ⊥) → Last front inner x last r
 last_only [] [] x last r e h n = record { same_front = refl; same_last = cc; none = cc }
 last_only [] (t ∷ inner) x last r e h n = absurd (n (subst (λ y. IsInner y.kind) (first e) h.0))
   where
@@ -128,7 +128,7 @@ script_at inner last items us e s h =
     let r = (read_script_complete depth_limit items s.proper).at q.marked (last ∷ []) q.stands (end_kind last e) in
     subst NoneDeep q.depths_are (cut_read q.marked (last ∷ []) (Read items [] (last ∷ [])) items us (sym r.by ∙ ap (λ x. Reads (x ++ last ∷ [])) q.lexemes_are ∙ h)).0
 
-inner_no_end : (k : Kind) → k ≡ kind.End → IsInner k → ⊥
+pub inner_no_end : (k : Kind) → k ≡ kind.End → IsInner k → ⊥
 inner_no_end k e h = subst IsInner e h
 
 -- where a text is read, it is a script with this tree, and none of its tokens is too deep
@@ -162,6 +162,9 @@ script_read ts items s = ap Reads s.split ∙ script_is_read s.inner s.last [] i
 
 pub script_unexpected : (ts us : List Lexeme) → Whole ts → Reads ts ≡ Bad [] us → FirstFault (ScriptPart whole 0) ts (length ts - length us) Unexpected
 script_unexpected ts us t e = first_bad (ScriptPart whole 0) (read_script depth_limit) script_decides ts us t e
+
+pub script_unexpected_by : (ts us : List Lexeme) → (Reads ts ≡ Bad [] [] → ⊥) → Reads ts ≡ Bad [] us → FirstFault (ScriptPart whole 0) ts (length ts - length us) Unexpected
+script_unexpected_by ts us h e = first_bad_by (ScriptPart whole 0) (read_script depth_limit) script_decides ts us h e
 
 pub script_too_deep : (ts us : List Lexeme) → Reads ts ≡ Deep [] us → FirstFault (ScriptPart whole 0) ts (length ts - length us) TooDeep
 script_too_deep ts us e = first_deep (ScriptPart whole 0) (read_script depth_limit) script_decides ts us e

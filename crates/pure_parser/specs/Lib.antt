@@ -2,3 +2,4 @@ pub mod Parser
 pub mod Exprs
 pub mod Stmts
 pub mod Follow
+pub mod Filling

@@ -1,7 +1,7 @@
 -- What the parsers of parts that are read alone answer, by the definitions alone: an AssignmentExpression, an Expression, a
 -- braced body and a function. Each reads a part where its lexemes stand and no token is too deep, with its one tree, and where it faults
 -- there is the first fault of such a part. Bodies are read in place.
-use Rattle.std.proofs.Common.{◌≡◌, ℕ, suc, ◌+◌, ◌-◌, List, [], ◌++◌, length, refl, sym, ap, ◌∙◌, subst, arith, Bool, true, false, None}
+use Rattle.std.proofs.Common.{◌≡◌, ℕ, suc, ◌+◌, ◌-◌, List, [], ◌++◌, length, refl, sym, ap, ◌∙◌, arith, Bool, true, false, None}
 use Rattle.script_grammar.specs.declared.token.FuncForm.{FuncForm}
 use Rattle.script_grammar.specs.declared.token.FuncForm.TheVariants as form
 use Rattle.script_grammar.specs.Lexeme.{Lexeme}
@@ -24,8 +24,8 @@ use Rattle.pure_parser.proofs.Complete.{bare}
 use Rattle.pure_parser.proofs.Stops.{stop_end, stop_assign}
 use Rattle.pure_parser.proofs.SoundParts.{IsExpr, IsBraced, SoundEnv}
 use Rattle.pure_parser.proofs.SoundLists.{expr_sound}
-use Rattle.pure_parser.proofs.SoundNext.{Plain, next_of, stands}
-use Rattle.pure_parser.proofs.SoundEverything.{in_place_sound, reading_sound}
+use Rattle.pure_parser.proofs.SoundNext.{SoundNext, Plain, next_of, stands}
+use Rattle.pure_parser.proofs.SoundEverything.{in_place_sound, reading_sound, own_sound}
 use Rattle.pure_parser.proofs.LocalExprs.{expr_local}
 use Rattle.pure_parser.proofs.LocalStmts.{local_reading}
 use Rattle.pure_parser.proofs.LocalEverything.{in_place_local}
@@ -33,9 +33,8 @@ use Rattle.pure_parser.proofs.Completes.{Completes}
 use Rattle.pure_parser.proofs.CompleteParts.{CompleteEnv, expr_complete}
 use Rattle.pure_parser.proofs.CompleteEverything.{in_place_complete, reading_complete, own_complete}
 use Rattle.pure_parser.proofs.Bracketed.{AllInner}
-use Rattle.pure_parser.proofs.NestedTrees.{nested_expr, nested_body, nested_function}
-use Rattle.pure_parser.proofs.Nested.{Nested}
-use Rattle.pure_parser.proofs.FunctionAlone.{IsAlone, alone_print, proper_alone, alone_sound, alone_local, alone_complete}
+use Rattle.pure_parser.proofs.NestedTrees.{nested_expr, nested_body, nested_alone}
+use Rattle.pure_parser.proofs.FunctionAlone.{IsAlone, alone_in, alone_sound, alone_local, alone_complete}
 use Rattle.pure_parser.proofs.FirstFaults.{Whole, Decides, first_bad, first_deep, read_shallow}
 use Rattle.pure_parser.proofs.PartLaws.{bad_part, deep_part, nested_inner, of_read, cuts_end, part_is_read, NoneDeep, both_stand, one_read, room_of, ends_there}
 
@@ -245,10 +244,13 @@ one_body d x y u n m a b s t =
 abbrev pub read_function : ℕ → FuncForm → Parser Function
 read_function room f = read_alone in_place room f
 
-function_inner : (d : ℕ) (f : FuncForm) (u : List Lexeme) (x : Function) → IsAlone d f u x → AllInner u
-function_inner d f u x s = nested_inner (print_alone whole d x) (subst Nested (alone_print d x) (nested_function whole d x (proper_alone x s.proper))) u end_lexeme (s.fits.before end_lexeme)
+function_sound : (room d : ℕ) (f : FuncForm) → (f ≡ form.Script → ⊥) → SoundNext Inside (λ w x n. IsAlone whole d f w x) (read_function room f)
+function_sound room d f n = alone_sound whole d (env_with room) (reading (stmts_with room)) (env_sound room d) (own_sound whole d (stmts_with room) (in_place_sound room d).stmts) f n
 
-function_part : (d : ℕ) (f : FuncForm) (u v : List Lexeme) (x : Function) → IsAlone d f (u ++ v) x → Begins (FunctionPart whole f None d) u
+function_inner : (d : ℕ) (f : FuncForm) (u : List Lexeme) (x : Function) → IsAlone whole d f u x → AllInner u
+function_inner d f u x s = nested_inner (print_alone whole d x) (nested_alone whole d x s.proper) u end_lexeme (s.fits.before end_lexeme)
+
+function_part : (d : ℕ) (f : FuncForm) (u v : List Lexeme) (x : Function) → IsAlone whole d f (u ++ v) x → Begins (FunctionPart whole f None d) u
 function_part d f u v x s = record {
   end = v;
   deep = depths (print_alone whole d x) (u ++ v) end_lexeme (s.fits.before end_lexeme);
@@ -256,13 +258,13 @@ function_part d f u v x s = record {
 }
 
 function_complete : (limit room d : ℕ) → room + d ≡ limit → (f : FuncForm) (n : Lexeme) (u : List Lexeme) (x : Function) → IsFunction whole f None d u n x → Completes limit (print_alone whole d x) (λ t. is_end t.kind ≡ true) (read_function room f) x
-function_complete limit room d q f n u x s = alone_complete limit d (omega (arith, q)) (env_with room) (env_complete limit room d q) f x s.of s.proper
+function_complete limit room d q f n u x s = alone_complete limit whole_mode d (omega (arith, q)) (env_with room) (reading (stmts_with room)) (env_complete limit room d q) (λ g start end simple items h. own_complete limit whole_mode d (omega (arith, q)) (stmts_with room) (in_place_complete limit room d q).stmts g start end simple items h) f x s.of (alone_in x s.proper)
 
 pub function_decides : (room d : ℕ) → room + d ≡ depth_limit → (f : FuncForm) → (f ≡ form.Script → ⊥) → Decides (FunctionPart whole f None d) (read_function room f)
 function_decides room d q f n = record {
   local = alone_local (env_with room) (in_place_local room).room.env f;
-  bad_begins = bad_part (FunctionPart whole f None d) (read_function room f) Inside (λ w x k. IsAlone d f w x) (alone_sound d (env_with room) (env_sound room d) f n) (function_inner d f) (function_part d f);
-  deep_begins = deep_part (FunctionPart whole f None d) (read_function room f) Inside (λ w x k. IsAlone d f w x) (alone_sound d (env_with room) (env_sound room d) f n) (function_inner d f) (function_part d f);
+  bad_begins = bad_part (FunctionPart whole f None d) (read_function room f) Inside (λ w x k. IsAlone whole d f w x) (function_sound room d f n) (function_inner d f) (function_part d f);
+  deep_begins = deep_part (FunctionPart whole f None d) (read_function room f) Inside (λ w x k. IsAlone whole d f w x) (function_sound room d f n) (function_inner d f) (function_part d f);
   reads = λ u deep p. cuts_end (FunctionPart whole f None d) (read_function room f) (print_alone whole d p.tree) u p.next p.is.fits deep p.tree p.deep_is (λ m s. (function_complete depth_limit room d q f p.next u p.tree p.is).at m [] s refl);
 }
 
@@ -279,13 +281,13 @@ pub record FunctionReads (f : FuncForm) (d : ℕ) (ts us : List Lexeme) (x : Fun
   pub is : IsFunction whole f None d front (head_of us) x
   pub shallow : NoneDeep (depths (print_alone whole d x) front (head_of us) is.fits)
 
-function_ends : (v : Env) (f : FuncForm) (ts us : List Lexeme) (x : Function) → bare (parser.alone_of v f ts) ≡ Read x [] us → is_end (head_of us).kind ≡ true
+pub function_ends : (v : Env) (f : FuncForm) (ts us : List Lexeme) (x : Function) → bare (parser.alone_of v f ts) ≡ Read x [] us → is_end (head_of us).kind ≡ true
 unfolding parser.alone_of
 function_ends v f ts us x e = ends_there (λ y. y) (when (parser.is_arrow_form f) (parser.arrow_alone v) (function_of v f None) ts) x us e
 
 pub read_is_function : (room d : ℕ) → room + d ≡ depth_limit → (f : FuncForm) → (f ≡ form.Script → ⊥) → (ts us : List Lexeme) (x : Function) → bare (read_function room f ts) ≡ Read x [] us → FunctionReads f d ts us x
 read_is_function room d q f n ts us x h =
-    let o = of_read Inside (λ w y k. IsAlone d f w y) ts us x (read_function room f ts) h ((alone_sound d (env_with room) (env_sound room d) f n).at ts) in
+    let o = of_read Inside (λ w y k. IsAlone whole d f w y) ts us x (read_function room f ts) h ((function_sound room d f n).at ts) in
     let p = o.is (head_of us) (stands refl) in
     let is : IsFunction whole f None d o.front (head_of us) x = record { of = p.of; proper = p.proper; fits = p.fits.before (head_of us) } in
     record { front = o.front; split = o.split; ends = function_ends (env_with room) f ts us x h; is = is; shallow = read_shallow (FunctionPart whole f None d) (read_function room f) (function_decides room d q f n) o.front us x _ (ap (λ y. bare (read_function room f y)) (sym o.split) ∙ h) (record { next = head_of us; tree = x; is = is; deep_is = refl }) }

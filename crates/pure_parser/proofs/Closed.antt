@@ -1,14 +1,13 @@
 -- A text up to the stop of its brackets: no text whose brackets match begins with all of it, so the parser faults before its
 -- end. Where it reads a script, the text ends with its End token.
-use Rattle.std.proofs.Common.{◌≡◌, List, [], ◌∷◌, ◌++◌, refl, sym, ap, ◌∙◌, subst, append-nil, Option, Some, None, true, false}
+use Rattle.std.proofs.Common.{◌≡◌, List, [], ◌∷◌, ◌++◌, refl, sym, ap, ◌∙◌, subst, append-nil, Option, Some, None, false}
 use Rattle.script_grammar.specs.declared.token.Kind.TheVariants as kind
 use Rattle.script_grammar.specs.Lexeme.{Lexeme}
 use Rattle.script_grammar.specs.Kinds.{is_end}
 use Rattle.script_grammar.specs.Tree.{Stmts}
 use Rattle.script_grammar.specs.Pieces.{whole, Opener, open_behind, open_at_end}
-use Rattle.script_grammar.specs.Print.{print_stmts}
 use Rattle.script_grammar.specs.Script.{IsScript}
-use Rattle.script_grammar.specs.Fault.{depth_limit, ScriptPart}
+use Rattle.script_grammar.specs.Fault.{depth_limit}
 use Rattle.pure_parser.specs.Parser.{Read, Bad, head_of, end_lexeme}
 use Rattle.pure_parser.specs.Stmts as parser
 use Rattle.pure_parser.specs.Stmts.{read_script}
@@ -25,11 +24,11 @@ pub record Closed (ts : List Lexeme) : Type 0 where
   pub is : open_at_end [] ts ≡ None
 
 -- The brackets that are open behind some tokens are known where they are behind more.
-record Open (os : List Opener) (ts : List Lexeme) : Type 0 where
-  open_ones : List Opener
-  is : open_at_end os ts ≡ Some open_ones
+pub record Open (os : List Opener) (ts : List Lexeme) : Type 0 where
+  pub open_ones : List Opener
+  pub is : open_at_end os ts ≡ Some open_ones
 
-open_front : (u v : List Lexeme) (os qs : List Opener) → open_at_end os (u ++ v) ≡ Some qs → Open os u
+pub open_front : (u v : List Lexeme) (os qs : List Opener) → open_at_end os (u ++ v) ≡ Some qs → Open os u
 open_front [] v os qs e = record { open_ones = os; is = refl }
 open_front (t ∷ u) v os qs e = past (open_behind t.kind os) refl (λ x. open_front u v x qs) e
   where
@@ -37,7 +36,7 @@ open_front (t ∷ u) v os qs e = past (open_behind t.kind os) refl (λ x. open_f
     past None k h e = absurd (cc)
     past (Some x) k h e = let r = h x e in record { open_ones = r.open_ones; is = ap (λ o. elim o [ None ↦ None | Some y ↦ open_at_end y u ]) k ∙ r.is }
 
-not_both : (o : Option (List Opener)) (qs : List Opener) → o ≡ None → o ≡ Some qs → ⊥
+pub not_both : (o : Option (List Opener)) (qs : List Opener) → o ≡ None → o ≡ Some qs → ⊥
 not_both o qs n s = cc (n, s)
 
 closed_no_script : (w : List Lexeme) (next : Lexeme) (items : Stmts) → IsScript w next items → (u v : List Lexeme) → w ≡ u ++ v → Closed u → ⊥
@@ -47,11 +46,11 @@ closed_no_script w next items s u v e c =
     not_both (open_at_end [] u) o.open_ones c.is o.is
 
 -- tokens of a text that begin a text and its end begin the text
-record Front (u w : List Lexeme) : Type 0 where
-  rest : List Lexeme
-  is : w ≡ u ++ rest
+pub record Front (u w : List Lexeme) : Type 0 where
+  pub rest : List Lexeme
+  pub is : w ≡ u ++ rest
 
-front_of : (u v w : List Lexeme) (x : Lexeme) → u ++ v ≡ w ++ x ∷ [] → AllInner u → (IsInner x.kind → ⊥) → Front u w
+pub front_of : (u v w : List Lexeme) (x : Lexeme) → u ++ v ≡ w ++ x ∷ [] → AllInner u → (IsInner x.kind → ⊥) → Front u w
 front_of [] v w x e h n = record { rest = w; is = refl }
 front_of (t ∷ u) v [] x e h n = absurd (n (subst (λ (y : Lexeme). IsInner y.kind) (first e) h.0))
   where

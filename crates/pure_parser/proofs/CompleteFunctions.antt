@@ -180,7 +180,7 @@ module _ (limit : ℕ) (m : Mode) (d : ℕ) (low : d ≤ limit) (v : Env) (c : C
   setter_head start (more_params n o true ps) comma h k = absurd h
   setter_head start (more_params n o false (more_params n2 v2 r2 ps)) comma h k = absurd h
 
-  head_of_form : (f : FuncForm) → PlainForm f → (start : ℕ) (ps : Params) (comma : Bool) → AreParams ps comma → SuitsForm f ps comma → ProperParams m ps → HeadOf f start ps comma
+  pub head_of_form : (f : FuncForm) → PlainForm f → (start : ℕ) (ps : Params) (comma : Bool) → AreParams ps comma → SuitsForm f ps comma → ProperParams m ps → HeadOf f start ps comma
   head_of_form form.Function i start ps comma a s k = listed_head form.Function start ps comma (λ x. refl) a k
   head_of_form form.Method i start ps comma a s k = listed_head form.Method start ps comma (λ x. refl) a k
   head_of_form form.Getter i start ps comma a s k = subst (λ x. HeadOf form.Getter start ps x) (sym s.1) (subst (λ x. HeadOf form.Getter start x false) (sym s.0) (none_head start))
@@ -188,7 +188,7 @@ module _ (limit : ℕ) (m : Mode) (d : ℕ) (low : d ≤ limit) (v : Env) (c : C
   head_of_form form.Script i start ps comma a s k = absurd i
   head_of_form form.Arrow i start ps comma a s k = absurd i
 
-  function_as : (f : FuncForm) (name : Option Named) (start end : ℕ) (ps : Params) (comma : Bool) (items : Stmts) (h : Head) → HeadIs start ps comma h → function_case f name h (record { body = BracedBody items; end = end }) ≡ function f start end name ps comma false (BracedBody items)
+  pub function_as : (f : FuncForm) (name : Option Named) (start end : ℕ) (ps : Params) (comma : Bool) (items : Stmts) (h : Head) → HeadIs start ps comma h → function_case f name h (record { body = BracedBody items; end = end }) ≡ function f start end name ps comma false (BracedBody items)
   function_as f name start end ps comma items h q =
       ap (λ x. function f x end name (params_of h.params) h.comma h.bare (BracedBody items)) q.0
       ∙ ap (λ x. function f start end name x h.comma h.bare (BracedBody items)) q.1

@@ -12,7 +12,7 @@ use Rattle.script_grammar.specs.Pieces.{whole, Piece, mark_piece, glued_mark, un
 use Rattle.script_grammar.specs.Endings.{ending, body_ending}
 use Rattle.script_grammar.specs.Print.{print, print_params, print_body, parenthesized}
 use Rattle.script_grammar.specs.Proper.{rank, AreParams, IsBare, BareIf, free_of_in, body_free, InIf, assign_rank, begins_brace}
-use Rattle.pure_parser.specs.Parser.{Read, head_of, ret, bad, bind, step, when}
+use Rattle.pure_parser.specs.Parser.{Read, Parser, head_of, ret, bad, bind, peek, step, when}
 use Rattle.pure_parser.specs.Exprs as parser
 use Rattle.pure_parser.specs.Exprs.{Env, AnAssign, Head, BodyRead, Spanned, spanned, named, param, is_simple, is_arrow, arrow_case, bare_head, begins_assign, last_end, head_case}
 use Rattle.pure_parser.specs.Follow.{continues_assign}
@@ -89,13 +89,15 @@ module _ (limit : ℕ) (m : Mode) (d : ℕ) (low : d ≤ limit) (v : Env) (c : C
 
   -- the body
 
-  braced_here : (w : Bool) (h : Head) (t : Lexeme) (ts : List Lexeme) → is_mark mark.OPEN_BRACE t.kind ≡ true → parser.arrow_body v w h (t ∷ ts) ≡ v.body form.Arrow h.start (is_simple h.params) (t ∷ ts)
-  unfolding parser.arrow_body
-  braced_here w h t ts e = ap (λ b. when b (v.body form.Arrow h.start (is_simple h.params)) (bind (spanned (v.sub (AnAssign w))) (λ s. ret (parser.short_body s))) (t ∷ ts)) e
+  -- a braced body that is read so, or an expression
+  abbrev pub either_body : Bool → Parser BodyRead → Parser BodyRead
+  either_body w braced = peek (λ t. when (is_mark mark.OPEN_BRACE t.kind) braced (bind (spanned (v.sub (AnAssign w))) (λ s. ret (parser.short_body s))))
 
-  short_here : (w : Bool) (h : Head) (t : Lexeme) (ts : List Lexeme) → is_mark mark.OPEN_BRACE t.kind ≡ false → parser.arrow_body v w h (t ∷ ts) ≡ bind (spanned (v.sub (AnAssign w))) (λ s. ret (parser.short_body s)) (t ∷ ts)
-  unfolding parser.arrow_body
-  short_here w h t ts e = ap (λ b. when b (v.body form.Arrow h.start (is_simple h.params)) (bind (spanned (v.sub (AnAssign w))) (λ s. ret (parser.short_body s))) (t ∷ ts)) e
+  braced_here : (w : Bool) (braced : Parser BodyRead) (t : Lexeme) (ts : List Lexeme) → is_mark mark.OPEN_BRACE t.kind ≡ true → either_body w braced (t ∷ ts) ≡ braced (t ∷ ts)
+  braced_here w braced t ts e = ap (λ b. when b braced (bind (spanned (v.sub (AnAssign w))) (λ s. ret (parser.short_body s))) (t ∷ ts)) e
+
+  short_here : (w : Bool) (braced : Parser BodyRead) (t : Lexeme) (ts : List Lexeme) → is_mark mark.OPEN_BRACE t.kind ≡ false → either_body w braced (t ∷ ts) ≡ bind (spanned (v.sub (AnAssign w))) (λ s. ret (parser.short_body s)) (t ∷ ts)
+  short_here w braced t ts e = ap (λ b. when b braced (bind (spanned (v.sub (AnAssign w))) (λ s. ret (parser.short_body s))) (t ∷ ts)) e
 
   brace_some : (q : ℕ) (ps : List Piece) (w : List Marked) (n : Lexeme) → Stands (mark_piece mark.OPEN_BRACE q ∷ ps) w n → 0 < length (lexemes w)
   brace_some q ps [] n h = absurd h
@@ -104,11 +106,11 @@ module _ (limit : ℕ) (m : Mode) (d : ℕ) (low : d ≤ limit) (v : Env) (c : C
   abbrev pub read_body : ℕ → Body → BodyRead
   read_body end b = record { body = b; end = end }
 
-  braced_complete : {F : Lexeme → Type 0} (w : Bool) (h : Head) (end : ℕ) (items : Stmts) → ProperBody m form.Arrow h.start (BracedBody items) → Completes limit (print_body m.look d end (BracedBody items)) F (parser.arrow_body v w h) (read_body end (BracedBody items))
-  braced_complete w h end items k = c_front limit (v.body form.Arrow h.start (is_simple h.params)) (λ x u rest q g. braced_here w h x.lexeme (lexemes u ++ rest) (ap (is_mark mark.OPEN_BRACE) q.0.kind)) (brace_some d _) (c_weaken limit (λ t g. tt) (c.body.braced form.Arrow h.start end (is_simple h.params) items k))
+  pub braced_complete : {F : Lexeme → Type 0} (w : Bool) (braced : Parser BodyRead) (ps : List Piece) (b : BodyRead) → Completes limit (mark_piece mark.OPEN_BRACE d ∷ ps) Any braced b → Completes limit (mark_piece mark.OPEN_BRACE d ∷ ps) F (either_body w braced) b
+  braced_complete w braced ps b k = c_front limit braced (λ x u rest q g. braced_here w braced x.lexeme (lexemes u ++ rest) (ap (is_mark mark.OPEN_BRACE) q.0.kind)) (brace_some d ps) (c_weaken limit (λ t g. tt) k)
 
-  short_complete : (w : Bool) (h : Head) (end : ℕ) (value : Expr) → rank value ≤ assign_rank → begins_brace value ≡ false → Proper m value → InIf w (free_of_in value) → Completes limit (until end (print m.look (suc d) value)) (λ t. continues_assign w (ending value) t ≡ false) (parser.arrow_body v w h) (read_body end (ShortBody value))
-  short_complete w h end value r b k i = record { at = read }
+  pub short_complete : (w : Bool) (braced : Parser BodyRead) (end : ℕ) (value : Expr) → rank value ≤ assign_rank → begins_brace value ≡ false → Proper m value → InIf w (free_of_in value) → Completes limit (until end (print m.look (suc d) value)) (λ t. continues_assign w (ending value) t ≡ false) (either_body w braced) (read_body end (ShortBody value))
+  short_complete w braced end value r b k i = record { at = read }
     where
       behind : (u : List Marked) (rest : List Lexeme) → Stands (until end (print m.look (suc d) value)) u (head_of rest) → continues_assign w (ending value) (head_of rest) ≡ false → Parses limit (bind (spanned (v.sub (AnAssign w))) (λ s. ret (parser.short_body s))) u rest (read_body end (ShortBody value))
       behind u rest q g =
@@ -116,15 +118,19 @@ module _ (limit : ℕ) (m : Mode) (d : ℕ) (low : d ≤ limit) (v : Env) (c : C
           subst (Parses limit (bind (spanned (v.sub (AnAssign w))) (λ s. ret (parser.short_body s))) u rest) (ap (λ e. read_body e (ShortBody value)) (s.1 0))
           (parses_map limit (λ s. ret (parser.short_body s)) (parses_spanned limit ((c.calls.assign w value r k i).at u rest s.0 g)) refl)
 
-      read : (u : List Marked) (rest : List Lexeme) → Stands (until end (print m.look (suc d) value)) u (head_of rest) → continues_assign w (ending value) (head_of rest) ≡ false → Parses limit (parser.arrow_body v w h) u rest (read_body end (ShortBody value))
+      read : (u : List Marked) (rest : List Lexeme) → Stands (until end (print m.look (suc d) value)) u (head_of rest) → continues_assign w (ending value) (head_of rest) ≡ false → Parses limit (either_body w braced) u rest (read_body end (ShortBody value))
       read [] rest q g = absurd (omega (arith, opens_some begins_assign (print m.look (suc d) value) [] (head_of rest) (expr_opens m (suc d) value k) (until_stands end (print m.look (suc d) value) [] (head_of rest) (expr_ends m (suc d) value k) q).0))
       read (x ∷ u) rest q g =
           let s = until_stands end (print m.look (suc d) value) (x ∷ u) (head_of rest) (expr_ends m (suc d) value k) q in
-          record { by = ap bare (short_here w h x.lexeme (lexemes u ++ rest) (not_begun (is_mark mark.OPEN_BRACE) (print m.look (suc d) value) (begins_same (is_mark mark.OPEN_BRACE) m.look whole (suc d) 1 value ∙ b) x u (head_of rest) (expr_opens m (suc d) value k) s.0)) ∙ (behind (x ∷ u) rest q g).by }
+          record { by = ap bare (short_here w braced x.lexeme (lexemes u ++ rest) (not_begun (is_mark mark.OPEN_BRACE) (print m.look (suc d) value) (begins_same (is_mark mark.OPEN_BRACE) m.look whole (suc d) 1 value ∙ b) x u (head_of rest) (expr_opens m (suc d) value k) s.0)) ∙ (behind (x ∷ u) rest q g).by }
 
-  pub body_complete : (w : Bool) (h : Head) (end : ℕ) (b : Body) → ProperBody m form.Arrow h.start b → InIf w (body_free b) → Completes limit (print_body m.look d end b) (λ t. continues_assign w (body_ending b) t ≡ false) (parser.arrow_body v w h) (read_body end b)
-  body_complete w h end (BracedBody items) k i = braced_complete w h end items k
-  body_complete w h end (ShortBody value) k i = short_complete w h end value k.1 k.2 k.3 i
+  either_complete : (w : Bool) (h : Head) (end : ℕ) (b : Body) → ProperBody m form.Arrow h.start b → InIf w (body_free b) → Completes limit (print_body m.look d end b) (λ t. continues_assign w (body_ending b) t ≡ false) (either_body w (v.body form.Arrow h.start (is_simple h.params))) (read_body end b)
+  either_complete w h end (BracedBody items) k i = braced_complete w (v.body form.Arrow h.start (is_simple h.params)) _ (read_body end (BracedBody items)) (c.body.braced form.Arrow h.start end (is_simple h.params) items k)
+  either_complete w h end (ShortBody value) k i = short_complete w (v.body form.Arrow h.start (is_simple h.params)) end value k.1 k.2 k.3 i
+
+  body_complete : (w : Bool) (h : Head) (end : ℕ) (b : Body) → ProperBody m form.Arrow h.start b → InIf w (body_free b) → Completes limit (print_body m.look d end b) (λ t. continues_assign w (body_ending b) t ≡ false) (parser.arrow_body v w h) (read_body end b)
+  unfolding parser.arrow_body
+  body_complete w h end b k i = record { at = λ u rest q g. record { by = ((either_complete w h end b k i).at u rest q g).by } }
 
   -- an arrow whole
 

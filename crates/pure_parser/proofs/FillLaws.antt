@@ -312,7 +312,7 @@ module _ (bodies : ℕ → Body) (braced : AreBraced bodies) where
     pub function_print : (d : ℕ) (f : Function) → print_function passed d (fill_function bodies f) ≡ print_function passed d f
     function_print d (function form start end name params comma bare body) = rw ((params_print (param_depth form bare d) d params), (body_print d end start body)) refl
 
-    params_print : (q d : ℕ) (ps : Params) → print_params passed q d (fill_params bodies ps) ≡ print_params passed q d ps
+    pub params_print : (q d : ℕ) (ps : Params) → print_params passed q d (fill_params bodies ps) ≡ print_params passed q d ps
     params_print q d no_params = refl
     params_print q d (more_params name value rest ps) = rw ((initializer_print q value), (more_params_print q d ps)) refl
 

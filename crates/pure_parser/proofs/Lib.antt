@@ -60,10 +60,14 @@ pub mod OnePassed
 pub mod PartLaws
 pub mod PassedAlone
 pub mod PassedBodies
+pub mod PassedFunctions
 pub mod PassedHeads
 pub mod PassedIn
 pub mod Closed
+pub mod ClosedParts
+pub mod CutTexts
 pub mod PassedLaws
+pub mod TotalParts
 pub mod Totals
 pub mod PassedParts
 pub mod Passing

@@ -10,7 +10,7 @@ use Rattle.script_grammar.specs.Kinds.{op_kind, decl_word}
 use Rattle.script_grammar.specs.Tree.{Named, Expr, Exprs, no_exprs, more_exprs, MaybeExpr, no_expr, some_expr, MaybeArgs, no_args, some_args, Parts, no_parts, more_parts, Items, no_items, more_items, Operands, no_operands, more_operands, Tail, Tails, no_tails, more_tails, Key, Prop, Props, no_props, more_props, Function, function, Params, no_params, more_params, Body, Binds, no_binds, more_binds, Init, Each, Clauses, no_clauses, more_clauses, Stmt, Stmts, no_stmts, more_stmts, MaybeStmt, no_stmt, some_stmt}
 use Rattle.script_grammar.specs.Tree as tree
 use Rattle.script_grammar.specs.Pieces.{Bodies, whole, passed, Piece, At, Fits, Opener, template, open_at_end, comma_piece, mark_piece, template_piece, Exactly, open_behind, text_piece, Slot, word_piece}
-use Rattle.script_grammar.specs.Script.{print_braced}
+use Rattle.script_grammar.specs.Script.{OwnProper, ProperAlone, print_braced, print_own, print_alone}
 use Rattle.script_grammar.specs.Print
 use Rattle.script_grammar.specs.Proper.{Proper, ProperExprs, ProperMaybe, ProperOption, ProperArgs, ProperParts, ProperItems, ProperOperands, ProperTails, ProperTail, ProperKey, ProperProp, ProperProps, ProperFunction, ProperParams, ProperBody, ProperBinds, ProperInit, ProperEach, ProperClauses, ProperStmts, ProperElse, ProperStmt, operands_level}
 use Rattle.pure_parser.proofs.Fitting.{fits_part}
@@ -243,3 +243,12 @@ mutual
 -- a braced body whose own statements are read
 pub nested_own : (m : Bodies) (d end : ℕ) (items : Stmts) → ProperStmts m true items → Nested (print_braced m d end items)
 nested_own m d end items p = braces _ _ (Print.print_stmts m d items) [] refl refl (nested_stmts m d true items p) nested_none
+
+-- a function alone, its own statements read
+
+own_nested : (m : Bodies) (d end : ℕ) (form : FuncForm) (b : Body) → OwnProper m form b → Nested (print_own m d end b)
+own_nested m d end form (tree.BracedBody items) p = nested_own m d end items p
+own_nested m d end form (tree.ShortBody value) p = until_nested end (Print.print m (suc d) value) (nested_expr m (suc d) value p.3)
+
+pub nested_alone : (m : Bodies) (d : ℕ) (f : Function) → ProperAlone m f → Nested (print_alone m d f)
+nested_alone m d (function form start end name ps comma bare body) p = nested_append (parenthesized_nested bare start d _ comma (nested_params m (Print.param_depth form bare d) d ps p.3)) (nested_append (arrow_nested form d) (own_nested m d end form body p.4))

@@ -45,7 +45,7 @@ inner-at (x ∷ xs) zero (suc q) d l w h = h.0
 inner-at (x ∷ xs) (suc p) zero d l w h = absurd (omega arith)
 inner-at (x ∷ xs) (suc p) (suc q) d l w h = inner-at xs p q d (omega arith) (omega arith) h.1
 
-part-read : (ls : List Lexeme) (n : ℕ) (d : Lexeme) → n < length ls → part_at (kinds ls) n ≡ part_of (get_or ls n d).kind
+pub part-read : (ls : List Lexeme) (n : ℕ) (d : Lexeme) → n < length ls → part_at (kinds ls) n ≡ part_of (get_or ls n d).kind
 part-read ls n d within = ap part_of (get_or-map (λ t. t.kind) ls n d kind.End within)
 
 some-eq : {A : Type 0} {a b : A} → Some a ≡ Some b → a ≡ b
@@ -156,7 +156,7 @@ next-none k u b base h = found (next_open (u ++ (b ∷ [])) (part_of k)) refl
     found None e = refl
     found (Some o) e = absurd (no_some (sym h ∙ ap (λ s. next_open s (part_of k)) (sym (append_assoc u (b ∷ []) base)) ∙ next_open-under k (u ++ (b ∷ [])) o base e))
 
-inner-or_not : (k : Kind) → IsInner k ⊎ (IsInner k → ⊥)
+pub inner-or_not : (k : Kind) → IsInner k ⊎ (IsInner k → ⊥)
 inner-or_not kind.Name = inl tt
 inner-or_not kind.Number = inl tt
 inner-or_not kind.Str = inl tt
@@ -169,7 +169,7 @@ inner-or_not (kind.Mark i) = inl tt
 inner-or_not kind.Bad = inr (λ h. h)
 inner-or_not kind.End = inr (λ h. h)
 
-open_behind-last : (k : Kind) (q : List Opener) → (IsInner k → ⊥) → open_behind k q ≡ None
+pub open_behind-last : (k : Kind) (q : List Opener) → (IsInner k → ⊥) → open_behind k q ≡ None
 open_behind-last kind.Name q h = absurd (h tt)
 open_behind-last kind.Number q h = absurd (h tt)
 open_behind-last kind.Str q h = absurd (h tt)

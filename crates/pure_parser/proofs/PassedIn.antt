@@ -21,7 +21,7 @@ abbrev pub passed_mode : (ℕ → Body) → Mode
 passed_mode bodies = record { look = passed; keeps = λ start items. bodies start ≡ tree.BracedBody items }
 
 module _ (bodies : ℕ → Body) (braced : AreBraced bodies) where
-  rank_le : (e : Expr) {n : ℕ} → rank e ≤ n → rank (fill bodies e) ≤ n
+  pub rank_le : (e : Expr) {n : ℕ} → rank e ≤ n → rank (fill bodies e) ≤ n
   rank_le e {n} h = subst (λ x. x ≤ n) (sym (rank_fill bodies braced e)) h
 
   rest_fill : (n : ℕ) (os : Operands) → rest_rank n (fill_operands bodies os) ≡ rest_rank n os
@@ -29,7 +29,7 @@ module _ (bodies : ℕ → Body) (braced : AreBraced bodies) where
   rest_fill zero (more_operands op is_word value rest) = refl
   rest_fill (suc n) os = refl
 
-  brace_fill : (e : Expr) → begins_brace (fill bodies e) ≡ begins_brace e
+  pub brace_fill : (e : Expr) → begins_brace (fill bodies e) ≡ begins_brace e
   brace_fill e = begins_same (is_mark mark.OPEN_BRACE) whole passed 1 1 (fill bodies e) ∙ ap (begins_with (is_mark mark.OPEN_BRACE)) (print_fill bodies braced 1 e) ∙ begins_same (is_mark mark.OPEN_BRACE) passed whole 1 1 e
 
   function_begin : (e : Expr) → begins_function (fill bodies e) ≡ begins_function e
@@ -66,7 +66,7 @@ module _ (bodies : ℕ → Body) (braced : AreBraced bodies) where
   keeps_items (more_items (some_expr e) no_items) comma h = h
   keeps_items (more_items i (more_items j is)) comma h = keeps_items (more_items j is) comma h
 
-  keeps_params : (ps : Params) (comma : Bool) → AreParams ps comma → AreParams (fill_params bodies ps) comma
+  pub keeps_params : (ps : Params) (comma : Bool) → AreParams ps comma → AreParams (fill_params bodies ps) comma
   keeps_params no_params comma h = h
   keeps_params (more_params name no_expr true no_params) comma h = h
   keeps_params (more_params name (some_expr e) true no_params) comma h = h
@@ -80,7 +80,7 @@ module _ (bodies : ℕ → Body) (braced : AreBraced bodies) where
   keeps_one (more_params name value true ps) comma h = absurd h
   keeps_one (more_params name value false (more_params n v r ps)) comma h = absurd h
 
-  keeps_form : (f : FuncForm) (ps : Params) (comma : Bool) → SuitsForm f ps comma → SuitsForm f (fill_params bodies ps) comma
+  pub keeps_form : (f : FuncForm) (ps : Params) (comma : Bool) → SuitsForm f ps comma → SuitsForm f (fill_params bodies ps) comma
   keeps_form form.Script ps comma h = absurd h
   keeps_form form.Function ps comma h = h
   keeps_form form.Arrow ps comma h = h
@@ -95,7 +95,7 @@ module _ (bodies : ℕ → Body) (braced : AreBraced bodies) where
   keeps_lone start (more_params name no_expr true ps) comma h = absurd h
   keeps_lone start (more_params name no_expr false (more_params n v r ps)) comma h = absurd h
 
-  keeps_bare : (b : Bool) (f : FuncForm) (start : ℕ) (ps : Params) (comma : Bool) → BareIf b f start ps comma → BareIf b f start (fill_params bodies ps) comma
+  pub keeps_bare : (b : Bool) (f : FuncForm) (start : ℕ) (ps : Params) (comma : Bool) → BareIf b f start ps comma → BareIf b f start (fill_params bodies ps) comma
   keeps_bare false f start ps comma h = h
   keeps_bare true form.Arrow start ps comma h = keeps_lone start ps comma h
   keeps_bare true form.Script start ps comma h = absurd h

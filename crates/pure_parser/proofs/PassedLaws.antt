@@ -9,7 +9,7 @@ use Rattle.script_grammar.specs.Fault.{depth_limit, ScriptPart, Unexpected, TooD
 use Rattle.pure_parser.specs.Parser.{Recorded, Reply, Read, Bad, Deep, Parser}
 use Rattle.pure_parser.specs.Stmts.{everything, script_of, read_script}
 use Rattle.pure_parser.proofs.Complete.{bare}
-use Rattle.pure_parser.proofs.ScriptLaws.{Text, ScriptOf, script_unexpected_by, script_too_deep, read_is_script, script_read}
+use Rattle.pure_parser.proofs.ScriptLaws.{ScriptOf, script_unexpected_by, script_too_deep, read_is_script, script_read}
 use Rattle.pure_parser.proofs.Closed.{Closed, Ended, no_bad_end, read_text}
 use Rattle.pure_parser.proofs.Agrees.{Verdict, fine, bad_at, deep_at, judged, records, MeetsAt}
 use Rattle.pure_parser.specs.Filling.{fill_stmts}

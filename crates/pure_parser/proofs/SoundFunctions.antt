@@ -244,7 +244,7 @@ module _ (m : Bodies) where
     form_sound form.Getter i t e = none_sound t e
     form_sound form.Setter i t e = one_sound t e
 
-    head_sound : (f : FuncForm) → IsPlainForm f → Sound Inside (SuitedHead f) (Exprs.params_head v f)
+    pub head_sound : (f : FuncForm) → IsPlainForm f → Sound Inside (SuitedHead f) (Exprs.params_head v f)
     unfolding Exprs.params_head
     head_sound f i =
         let open_paren : Lexeme = lexeme_of_kind (kind.Mark mark.OPEN_PAREN) in
@@ -259,7 +259,7 @@ module _ (m : Bodies) where
       pub proper : ProperFunction m x
       pub fits : FitsAll (print_function m d x) u
 
-    plain_arrow : (f : FuncForm) → IsPlainForm f → is_arrow_form f ≡ false
+    pub plain_arrow : (f : FuncForm) → IsPlainForm f → is_arrow_form f ≡ false
     plain_arrow form.Script i = absurd i
     plain_arrow form.Function i = refl
     plain_arrow form.Arrow i = absurd i

@@ -12,7 +12,7 @@ use Rattle.script_grammar.specs.TreeLists.{Param, exprs_of, maybe_expr_of}
 use Rattle.script_grammar.specs.Pieces.{Bodies, Fits, mark_piece}
 use Rattle.script_grammar.specs.Print.{print, print_list, print_more, print_body}
 use Rattle.script_grammar.specs.Proper.{rank, Proper, ProperExprs, ProperBody, ProperMaybe, HasExprs, begins_brace, body_free}
-use Rattle.pure_parser.specs.Parser.{head_of, rest_of, ret, bind, Turn, Again, Stop, loop, Many, stopped, begun}
+use Rattle.pure_parser.specs.Parser.{Parser, head_of, rest_of, ret, bind, peek, when, Turn, Again, Stop, loop, Many, stopped, begun}
 use Rattle.pure_parser.specs.Exprs
 use Rattle.pure_parser.specs.Exprs.{Env, Calls, BodyParser, AnAssign, APrefix, ANew, AParam, ARest, ParamsEnd, Plain, Trailing, Rest, Head, BodyRead, Spanned, spanned, short_body, expect, named, param, head_case, bare_head, arrow_case, is_simple, is_arrow, is_param_form}
 use Rattle.pure_parser.proofs.Friendly.{AtFront, Inside}
@@ -251,26 +251,27 @@ module _ (m : Bodies) (d : ℕ) where
     abbrev ShortEnd : Bool → Lexeme → List Lexeme → Expr → Type 0
     ShortEnd w t u e = IsExpr m w (suc d) 20 u e × Begun t u
 
-    short_mend : (w : Bool) (t : Lexeme) → is_mark mark.OPEN_BRACE t.kind ≡ false → (u : List Lexeme) (x : Spanned Expr) → WithEnd (ShortEnd w t) u x → Mended Inside (Behind u (ArrowBody m d w))
-    short_mend w t k u x q = some_done (ArrowBody m d w) u (short_body x) (short_is w t k u x q.0.0 q.0.1 q.1)
+    -- a braced body that is read so, or an expression
+    module _ (w : Bool) (R : List Lexeme → BodyRead → Type 0) (braced : Parser BodyRead) (are : Sound Inside R braced) (short : (u : List Lexeme) (x : Spanned Expr) → ArrowBody m d w u (short_body x) → R u (short_body x)) where
+      short_mend : (t : Lexeme) → is_mark mark.OPEN_BRACE t.kind ≡ false → (u : List Lexeme) (x : Spanned Expr) → WithEnd (ShortEnd w t) u x → Mended Inside (Behind u R)
+      short_mend t k u x q = some_done R u (short_body x) (short u x (short_is w t k u x q.0.0 q.0.1 q.1))
 
-    short_sound : (w : Bool) (t : Lexeme) → is_mark mark.OPEN_BRACE t.kind ≡ false → LeadsAt Inside (ArrowBody m d w) (ArrowBody m d w) t (bind (spanned (v.sub (AnAssign w))) (λ x. ret (short_body x)))
-    short_sound w t k = at_bind (at_spanned (at_inside (sound_first t (s.calls.assign w)))) (λ u x q. sound_done (ArrowBody m d w) u (short_body x) (short_is w t k u x q.0.0 (here q.0.1) q.1)) (short_mend w t k)
+      short_sound : (t : Lexeme) → is_mark mark.OPEN_BRACE t.kind ≡ false → LeadsAt Inside R R t (bind (spanned (v.sub (AnAssign w))) (λ x. ret (short_body x)))
+      short_sound t k = at_bind (at_spanned (at_inside (sound_first t (s.calls.assign w)))) (λ u x q. sound_done R u (short_body x) (short u x (short_is w t k u x q.0.0 (here q.0.1) q.1))) (short_mend t k)
 
-    short_end : (w : Bool) → Outcome Inside (ArrowBody m d w) (ArrowBody m d w) [] (bind (spanned (v.sub (AnAssign w))) (λ x. ret (short_body x)) [])
-    short_end w =
-        let t : Lexeme = head_of [] in
-        inside_outcome (ArrowBody m d w) (ArrowBody m d w) [] (bind (spanned (v.sub (AnAssign w))) (λ x. ret (short_body x)) [])
-        (end_outcome (WithEnd (Short w t)) (WithEnd (ShortEnd w t)) (ArrowBody m d w) (ArrowBody m d w) (λ x. ret (short_body x)) (short_mend w t refl) (spanned (v.sub (AnAssign w)) [])
-        (spanned_outcome AtFront (Short w t) (ShortEnd w t) [] (v.sub (AnAssign w) []) (sound_first_end t (s.calls.assign w))))
+      short_end : Outcome Inside R R [] (bind (spanned (v.sub (AnAssign w))) (λ x. ret (short_body x)) [])
+      short_end =
+          let t : Lexeme = head_of [] in
+          inside_outcome R R [] (bind (spanned (v.sub (AnAssign w))) (λ x. ret (short_body x)) [])
+          (end_outcome (WithEnd (Short w t)) (WithEnd (ShortEnd w t)) R R (λ x. ret (short_body x)) (short_mend t refl) (spanned (v.sub (AnAssign w)) [])
+          (spanned_outcome AtFront (Short w t) (ShortEnd w t) [] (v.sub (AnAssign w) []) (sound_first_end t (s.calls.assign w))))
 
-    pub arrow_body_sound : (w : Bool) (h : Head) → Sound Inside (ArrowBody m d w) (Exprs.arrow_body v w h)
+      pub either_body_sound : Sound Inside R (peek (λ t. when (is_mark mark.OPEN_BRACE t.kind) braced (bind (spanned (v.sub (AnAssign w))) (λ x. ret (short_body x)))))
+      either_body_sound = sound_look (λ t. at_when (is_mark mark.OPEN_BRACE t.kind) (λ _. sound_at t are) (short_sound t)) short_end
+
+    arrow_body_sound : (w : Bool) (h : Head) → Sound Inside (ArrowBody m d w) (Exprs.arrow_body v w h)
     unfolding Exprs.arrow_body
-    arrow_body_sound w h = sound_look
-        (λ t. at_when (is_mark mark.OPEN_BRACE t.kind)
-        (λ _. sound_at t (sound_map (λ u b r. braced_is w u b r) (s.body.braced form.Arrow h.start (is_simple h.params))))
-        (short_sound w t))
-        (short_end w)
+    arrow_body_sound w h = record { at = λ ts. (either_body_sound w (ArrowBody m d w) (v.body form.Arrow h.start (is_simple h.params)) (sound_map (λ u b r. braced_is w u b r) (s.body.braced form.Arrow h.start (is_simple h.params))) (λ u x q. q)).at ts }
 
     head_mend : (w : Bool) (u : List Lexeme) (h : Head) → HeadEnd u h → Mended Inside (Behind u (IsExpr m w d 20))
     head_mend w u h (head_usual p) = record { end = arrow_lexeme m d ∷ zero_lexeme ∷ []; of = arrow_case h (zero_body m d); starts = tt; is = arrow_is m d w u (arrow_lexeme m d ∷ []) (zero_lexeme ∷ []) h (zero_body m d) p (arrow_mark_is m d) (zero_body_is m d w) }

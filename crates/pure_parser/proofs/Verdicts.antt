@@ -26,18 +26,32 @@ module _ {A B : Type 0} (P : Part) (K : A → B → Type 0) (e : Parser A) (l : 
   clean ts s h k = subst (MeetsAt body_in_place K fine (e ts)) k (meets ts fine h)
 
   -- a recorded body has a fault
+
+  pub inner_bad : (ts vs : List Lexeme) → verdict (l ts) ≡ bad_at vs → bare (e ts) ≡ Bad [] vs
+  inner_bad ts vs h = ap bare (meets ts (bad_at vs) h)
+
+  pub inner_deep : (ts vs : List Lexeme) → verdict (l ts) ≡ deep_at vs → bare (e ts) ≡ Deep [] vs
+  inner_deep ts vs h = ap bare (meets ts (deep_at vs) h)
+
   pub inner_unexpected : (ts vs : List Lexeme) → Whole ts → verdict (l ts) ≡ bad_at vs → FirstFault P ts (length ts - length vs) Unexpected
-  inner_unexpected ts vs t h = first_bad P e d ts vs t (ap bare (meets ts (bad_at vs) h))
+  inner_unexpected ts vs t h = first_bad P e d ts vs t (inner_bad ts vs h)
 
   pub inner_too_deep : (ts vs : List Lexeme) → verdict (l ts) ≡ deep_at vs → FirstFault P ts (length ts - length vs) TooDeep
-  inner_too_deep ts vs h = first_deep P e d ts vs (ap bare (meets ts (deep_at vs) h))
+  inner_too_deep ts vs h = first_deep P e d ts vs (inner_deep ts vs h)
 
   -- no recorded body has one
+
+  pub own_bad : (ts us : List Lexeme) (rs : List Recorded) → verdict (l ts) ≡ fine → l ts ≡ Bad rs us → bare (e ts) ≡ Bad [] us
+  own_bad ts us rs h k = ap bare (clean ts (Bad rs us) h k)
+
+  pub own_deep : (ts us : List Lexeme) (rs : List Recorded) → verdict (l ts) ≡ fine → l ts ≡ Deep rs us → bare (e ts) ≡ Deep [] us
+  own_deep ts us rs h k = ap bare (clean ts (Deep rs us) h k)
+
   pub own_unexpected : (ts us : List Lexeme) (rs : List Recorded) → Whole ts → verdict (l ts) ≡ fine → l ts ≡ Bad rs us → FirstFault P ts (length ts - length us) Unexpected
-  own_unexpected ts us rs t h k = first_bad P e d ts us t (ap bare (clean ts (Bad rs us) h k))
+  own_unexpected ts us rs t h k = first_bad P e d ts us t (own_bad ts us rs h k)
 
   pub own_too_deep : (ts us : List Lexeme) (rs : List Recorded) → verdict (l ts) ≡ fine → l ts ≡ Deep rs us → FirstFault P ts (length ts - length us) TooDeep
-  own_too_deep ts us rs h k = first_deep P e d ts us (ap bare (clean ts (Deep rs us) h k))
+  own_too_deep ts us rs h k = first_deep P e d ts us (own_deep ts us rs h k)
 
   -- and both read
   pub both_read : (ts us : List Lexeme) (b : B) (rs : List Recorded) → verdict (l ts) ≡ fine → l ts ≡ Read b rs us → (x : A) × (e ts ≡ Read x [] us) × K x b

@@ -93,11 +93,34 @@ pub looping_again : {E A B : Type 0} {for : E → A → Type 0} {turn : Parser (
 looping_again {for = for} {turn = turn} {ns = ns} {start = start} {rs = rs} {qs = qs} {us = us} {vs = vs} {es = es} e a g l t f =
     again_at for turn ns start rs qs us vs es e a l.done l.fuel l.enough l.read l.means t (again_shorter turn g rs qs us vs a t) f
 
+again_at_done : {E A B : Type 0} (for : E → A → Type 0) (turn : Parser (Turn A B)) (ns : List Recorded) (start : Reply (Many A B)) (rs qs : List Recorded) (us vs : List Lexeme) (es : List E) (e : E) (a : A) (done : List A) (fuel : ℕ)
+    (h : length us < fuel) (r : noted ns start ≡ with_front done (noted rs (turns turn fuel us))) (m : ShowAll for es done) (t : ReadAs rs (turn us) (Again a) qs vs) (s : length vs < length us) (f : for e a) → (again_at for turn ns start rs qs us vs es e a done fuel h r m t s f).done ≡ done ++ a ∷ []
+unfolding again_at
+again_at_done for turn ns start rs qs us vs es e a done zero h r m t s f = absurd (omega arith)
+again_at_done for turn ns start rs qs us vs es e a done (suc n) h r m t s f = refl
+
+-- which items a loop has read: at its start, behind a turn, and at its end
+
+pub init_done : {E A B : Type 0} (for : E → A → Type 0) (turn : Parser (Turn A B)) (rs : List Recorded) (us : List Lexeme) → (looping_init for turn rs us).done ≡ []
+unfolding looping_init
+init_done for turn rs us = refl
+
+pub again_done : {E A B : Type 0} {for : E → A → Type 0} {turn : Parser (Turn A B)} {ns : List Recorded} {start : Reply (Many A B)} {rs qs : List Recorded} {us vs : List Lexeme} {es : List E} (e : E) (a : A)
+    (g : Gains turn) (l : Looping for turn ns start rs us es) (t : ReadAs rs (turn us) (Again a) qs vs) (f : for e a) → (looping_again e a g l t f).done ≡ l.done ++ a ∷ []
+unfolding looping_again
+again_done {for = for} {turn = turn} {ns = ns} {start = start} {rs = rs} {qs = qs} {us = us} {vs = vs} {es = es} e a g l t f =
+    again_at_done for turn ns start rs qs us vs es e a l.done l.fuel l.enough l.read l.means t (again_shorter turn g rs qs us vs a t) f
+
 -- how it ends: the items, and how the last turn stopped
 pub looping_stop : {E A B : Type 0} {for : E → A → Type 0} {turn : Parser (Turn A B)} {ns : List Recorded} {start : Reply (Many A B)} {rs qs : List Recorded} {us vs : List Lexeme} {es : List E} (b : B)
     → Looping for turn ns start rs us es → ReadAs rs (turn us) (Stop b) qs vs → (xs : List A) × ShowAll for es xs × ReadAs ns start (record { items = xs; last = b }) qs vs
 looping_stop {turn = turn} {rs = rs} {qs = qs} {us = us} {vs = vs} b l t =
     (l.done, l.means, record { is = l.read ∙ ap (with_front l.done) (turns_stop turn l.fuel rs qs us vs b t l.enough) ∙ ap (λ x. Read (record { items = x; last = b }) qs vs) (append-nil l.done) })
+
+pub stop_done : {E A B : Type 0} {for : E → A → Type 0} {turn : Parser (Turn A B)} {ns : List Recorded} {start : Reply (Many A B)} {rs qs : List Recorded} {us vs : List Lexeme} {es : List E} (b : B)
+    (l : Looping for turn ns start rs us es) (t : ReadAs rs (turn us) (Stop b) qs vs) → (looping_stop b l t).0 ≡ l.done
+unfolding looping_stop
+stop_done b l t = refl
 
 front_refused : {A B : Type 0} (s : Source) (i : Interpretation) (p : Place) (e : ParseFault) (xs : List A) (ns : List Recorded) (start : Reply (Many A B)) (rs : List Recorded) (r : Reply (Many A B)) → noted ns start ≡ with_front xs (noted rs r) → Refuses s i p e rs r → Refuses s i p e ns start
 front_refused s i p (faults.Unexpected k) xs ns start rs r l h = record { is = l ∙ ap (with_front xs) h.is }
@@ -109,6 +132,12 @@ pub looping_failed : {E A B D : Type 0} {for : E → A → Type 0} {turn : Parse
     → IsErrAnd o (λ y. y ≡ e) → Looping for turn ns start rs us es → Refuses s i p e rs (turn us) → Answers gives s i p o ns start
 looping_failed {turn = turn} {ns = ns} {start = start} {rs = rs} {us = us} s i p e o gives h l t =
     handed s i p e o gives ns start h (front_refused s i p e l.done ns start rs (turns turn l.fuel us) l.read (turns_refused s i p e turn l.fuel rs us t l.enough))
+
+-- the same where something is made of what it read
+pub looping_failed_in : {E A B C D : Type 0} {for : E → A → Type 0} {turn : Parser (Turn A B)} {ns : List Recorded} {start : Reply (Many A B)} {rs : List Recorded} {us : List Lexeme} {es : List E} (s : Source) (i : Interpretation) (p : Place) (e : ParseFault) (o : Result D ParseFault) (gives : D → (C → Type 0) → Type 0) (f : Many A B → Parser C)
+    → IsErrAnd o (λ y. y ≡ e) → Looping for turn ns start rs us es → Refuses s i p e rs (turn us) → Answers gives s i p o ns (after start f)
+looping_failed_in {turn = turn} {ns = ns} {start = start} {rs = rs} {us = us} s i p e o gives f h l t =
+    handed s i p e o gives ns (after start f) h (refused s i p e ns start f (front_refused s i p e l.done ns start rs (turns turn l.fuel us) l.read (turns_refused s i p e turn l.fuel rs us t l.enough)))
 
 -- The measure of a loop counts tokens, of which there are as many as lexemes.
 

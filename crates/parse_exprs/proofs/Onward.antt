@@ -47,10 +47,10 @@ pub items_maps : {E A C B : Type 0} (shows : E → A → Type 0) (last : C → (
 items_maps shows last m e k n f h = (h.0, h.1, m e.last _ _ (λ b x. f _ x) h.2)
 
 pub ranked_maps : {E : Type 0} (shows : E → Expr → Type 0) → Maps (RankedOf shows)
-ranked_maps shows e k n f h = (h.0, h.1, h.2, f h.0 h.3)
+ranked_maps shows e k n f h = (h.0, h.1, h.2, h.3, f h.0 h.4)
 
 pub atom_maps : {E : Type 0} (shows : E → Expr → Type 0) → Maps (AtomOf shows)
-atom_maps shows e k n f h = (h.0, h.1, h.2, f h.0 h.3)
+atom_maps shows e k n f h = (h.0, h.1, h.2, h.3, f h.0 h.4)
 
 pub turn_maps : {E A C B : Type 0} (item : E → (A → Type 0) → Type 0) (last : C → (B → Type 0) → Type 0) → Maps item → Maps last → Maps (TurnOf item last)
 turn_maps item last m w (turned.Next e) k n f h = m e _ _ (λ a x. f _ x) h

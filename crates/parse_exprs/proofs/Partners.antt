@@ -25,14 +25,14 @@ use Rattle.pure_parser.proofs.Tests.{mark_known}
 use Rattle.parse_exprs.specs.declared.source.Source.{Source}
 use Rattle.parse_exprs.specs.Source.{IsSource, lexemes, front, ends_all}
 use Rattle.parse_exprs.specs.Ends.{no_token}
-use Rattle.parse_exprs.proofs.Passing.{pass_local}
+use Rattle.pure_parser.proofs.PassingLaws.{pass_local}
 
-true_false : true ≡ false → ⊥
+pub true_false : true ≡ false → ⊥
 true_false e = cc
 
 -- tokens that are neither Bad nor End
 
-inner_kind : (k : Kind) → ends_all k ≡ false → IsInner k
+pub inner_kind : (k : Kind) → ends_all k ≡ false → IsInner k
 inner_kind kind.Name h = tt
 inner_kind kind.Number h = tt
 inner_kind kind.Str h = tt
@@ -91,10 +91,10 @@ module _ (s : Source) (h : IsSource s) (i : Interpretation) where
   f : Token → Lexeme
   f = lexeme_of s.get s.set i.texts
 
-  ls : List Lexeme
+  unfoldable pub ls : List Lexeme
   ls = lexemes s i
 
-  more : List Lexeme
+  pub more : List Lexeme
   more = map (lexeme_of s.get s.set i.texts) h.behind
 
   size : length ls ≡ length s.tokens.now
@@ -108,20 +108,20 @@ module _ (s : Source) (h : IsSource s) (i : Interpretation) where
   whole_kinds : kinds (ls ++ more) ≡ kinds_of (s.tokens.now ++ h.behind)
   whole_kinds = ap kinds (sym whole) ∙ kinds_mapped (lexeme_of s.get s.set i.texts) (λ t. refl) (s.tokens.now ++ h.behind)
 
-  matches : IsMatching (kinds (ls ++ more)) s.brackets.now
+  pub matches : IsMatching (kinds (ls ++ more)) s.brackets.now
   matches = subst (λ ks. IsMatching ks s.brackets.now) (sym whole_kinds) h.matching
 
-  within : suc s.brackets.now.stop ≡ length ls
+  pub within : suc s.brackets.now.stop ≡ length ls
   within = h.stop ∙ sym size
 
-  inner : AllInner (take s.brackets.now.stop ls)
+  pub inner : AllInner (take s.brackets.now.stop ls)
   unfolding ls
   inner = all_inner (lexeme_of s.get s.set i.texts) (λ t. refl) s.tokens.now s.brackets.now.stop (let e = h.stop in omega arith) h.inner
 
   inner_whole : AllInner (take s.brackets.now.stop (ls ++ more))
   inner_whole = subst AllInner (sym (take-append-le s.brackets.now.stop ls more (let e = within in omega arith))) inner
 
-  kind_at : (a : ℕ) (d : Lexeme) → a < length ls → get_or (kinds (ls ++ more)) a kind.End ≡ (get_or ls a d).kind
+  pub kind_at : (a : ℕ) (d : Lexeme) → a < length ls → get_or (kinds (ls ++ more)) a kind.End ≡ (get_or ls a d).kind
   kind_at a d l = get_or-map (λ t. t.kind) (ls ++ more) a d kind.End (let e = length-append ls more in omega arith) ∙ ap (λ t. t.kind) (get_or-append ls more d a l)
 
   -- where a mark stands, a token stands
@@ -155,7 +155,7 @@ module _ (s : Source) (h : IsSource s) (i : Interpretation) where
   unfolding ls
   stop_kind = ap (λ (t : Lexeme). t.kind) (sym (get_or-map (lexeme_of s.get s.set i.texts) s.tokens.now s.brackets.now.stop no_token end_lexeme (let w = h.stop in omega arith)))
 
-  stop_ends : length (ls ++ more) ≡ length ls → IsInner (get_or ls s.brackets.now.stop end_lexeme).kind → ⊥
+  pub stop_ends : length (ls ++ more) ≡ length ls → IsInner (get_or ls s.brackets.now.stop end_lexeme).kind → ⊥
   stop_ends last k = last_kind (get_or s.tokens.now s.brackets.now.stop no_token).kind (h.last no_token (nil_from_length h.behind (omega (arith, last, behind_size, length-append ls more)))) (subst IsInner (sym stop_kind) k)
 
   -- an opening bracket stands before the stop

@@ -7,7 +7,7 @@ use Rattle.script_grammar.specs.Interpretation.{Interpretation}
 use Rattle.script_grammar.specs.Kinds.{is_mark}
 use Rattle.pure_parser.specs.Parser.{Recorded, Reply, Read, Bad, Deep, Parser, head_of, rest_of, noted, after, ret, bad, step, when}
 use Rattle.pure_parser.specs.Exprs.{expect, arrow_mark, is_arrow}
-use Rattle.pure_parser.proofs.LocalExprs.{after_noted}
+use Rattle.pure_parser.proofs.LocalExprs.{after_noted, after_twice}
 use Rattle.pure_parser.proofs.LocalHeads.{read_noted}
 use Rattle.parse_exprs.specs.declared.source.Source.{Source}
 use Rattle.parse_exprs.specs.declared.place.Place.{Place}
@@ -38,6 +38,14 @@ then {rs = rs} {r = r} f h k = record { is = sym (after_noted rs r f) ∙ ap (λ
 -- the last part and what is made of it
 pub made : {A B : Type 0} {rs qs : List Recorded} {us : List Lexeme} {r : Reply A} {a : A} (g : A → B) → ReadAs rs r a qs us → ReadAs rs (after r (λ x. ret (g x))) (g a) qs us
 made {qs = qs} {us = us} {a = a} g h = then (λ x. ret (g x)) h (just qs (g a) us)
+
+-- what is made of what was made
+pub made_twice : {A B C : Type 0} {rs qs : List Recorded} {us : List Lexeme} {b : B} (r : Reply A) (f : A → B) (g : B → C) → ReadAs rs (after r (λ x. ret (f x))) b qs us → ReadAs rs (after r (λ x. ret (g (f x)))) (g b) qs us
+made_twice {rs = rs} r f g h = record { is = ap (noted rs) (sym (after_twice r (λ x. ret (f x)) (λ x. ret (g x)))) ∙ (made g h).is }
+
+-- the same value by another name
+pub read_is : {A : Type 0} {rs qs : List Recorded} {us : List Lexeme} {r : Reply A} {a b : A} → ReadAs rs r a qs us → a ≡ b → ReadAs rs r b qs us
+read_is {rs = rs} {qs = qs} {us = us} {r = r} h e = subst (λ x. ReadAs rs r x qs us) e h
 
 -- a fault of the first part
 pub refused : {A B : Type 0} (s : Source) (i : Interpretation) (p : Place) (e : ParseFault) (rs : List Recorded) (r : Reply A) (f : A → Parser B) → Refuses s i p e rs r → Refuses s i p e rs (after r f)

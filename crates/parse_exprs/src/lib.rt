@@ -16,12 +16,19 @@
 //! `proofs/Steps.antt` put together, as `then _ a.2 (made _ b)`, and exits with another part of which something is asked:
 //! `proofs/Onward.antt`. A call that counts for the depth is one of `proofs/Calls.antt`.
 //!
-//! So far it has the base of the parser: the place, tests of tokens, names, bodies that are passed over, the test for an
-//! arrow, and the nodes of flat lists.
+//! So far it has what reads no expression inside: the place, tests of tokens, names, bodies that are passed over, the test for
+//! an arrow, the ends of lists and of parameters, and the nodes that are made of several parts.
 #![tactic(auto)]
 
+pub mod arrows;
+pub mod chains;
+pub mod exprs;
 pub mod kinds;
+pub mod lists;
 pub mod nodes;
+pub mod operators;
+pub mod params;
+pub mod parens;
 pub mod part;
 pub mod place;
 pub mod source;

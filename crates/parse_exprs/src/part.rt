@@ -49,11 +49,19 @@ pub enum Ending {
     Operand,
 }
 
-/// An expression, and how loosely it binds.
+/// An expression, how loosely it binds, and how it ends.
 #[derive(Drop)]
 pub struct Ranked<E> {
     pub node: E,
     pub rank: Rank,
+    pub ending: Ending,
+}
+
+/// A part, and how an expression ends that ends with it.
+#[derive(Drop)]
+pub struct Ended<A> {
+    pub part: A,
+    pub ending: Ending,
 }
 
 impl Rank {
@@ -114,16 +122,18 @@ impl<E> Params<E> {
     }
 }
 
-/// An expression, and the offset where its last token ends.
+/// An expression, how it ends, and the offset where its last token ends.
 #[derive(Drop)]
 pub struct Spanned<E> {
     pub value: E,
+    pub ending: Ending,
     pub end: u32,
 }
 
-/// The body of an arrow, and the offset where it ends.
+/// The body of an arrow, how the arrow ends, and the offset of its end.
 #[derive(Drop)]
 pub struct ArrowBody<E, B> {
     pub body: NodeFuncBody<E, B>,
+    pub ending: Ending,
     pub end: u32,
 }

@@ -1,4 +1,4 @@
-// The code of names that are found from where an expression stands.
+//! The code of names that are found from where an expression stands.
 ghost use Rattle.std.specs.Prelude.{◌≡◌, OnOk};
 ghost use Rattle.stencil_data.specs.Fits.{PlaceFits};
 ghost use Rattle.stencil_data.specs.Resolve as defined;

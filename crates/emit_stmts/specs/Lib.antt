@@ -1,3 +1,10 @@
 pub mod Frames
 pub mod Functions
+pub mod Leaving
+pub mod OneProof
+pub mod Positions
+pub mod Scoping
+pub mod StmtCode
+pub mod StmtFits
 pub mod Stmts
+pub mod ValueCode

@@ -1,0 +1,13 @@
+use Rattle.std.proofs.Common.{drop_of_length-le, refl}
+use Rattle.emit_exprs.proofs.Lists.{next_of}
+use Rattle.emit_stmts.proofs.Values as list
+use Rattle.emit_stmts.proofs.functions.block_functions.Goals as goal
+
+pub loop-item-init : goal.loop-item-init
+loop-item-init c = list.block_begin _ _ _
+
+pub loop-item-preserved : goal.loop-item-preserved
+loop-item-preserved c = list.block_next _ _ c.item-item.result (next_of c.args.items.now c.loop-item.item-index c.item-item.result c.loop-item-test.true c.item-item.is) c.in_ok-declared_in.ensures c.loop-item.invariant
+
+pub returns : goal.returns
+returns c = list.block_end _ (drop_of_length-le c.args.items.now c.loop-item-test.false) c.loop-item.invariant

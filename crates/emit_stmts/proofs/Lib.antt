@@ -1,6 +1,8 @@
 pub mod CodeRows
+pub mod Declaring
 pub mod Exits
 pub mod Hiding
+pub mod LoopRows
 pub mod Scopes
 pub mod SimpleRows
 pub mod Values

@@ -1,5 +1,5 @@
 -- Rows of statements that no other statement stands in.
-use Rattle.std.proofs.Common.{◌≡◌, ℕ, Bool, List, [], ◌∷◌, ◌++◌, Option, Some, None, map, refl, sym, ◌∙◌, ap, add-zero}
+use Rattle.std.proofs.Common.{◌≡◌, ℕ, Bool, List, ◌++◌, Option, Some, None, map, refl, sym, ap, add-zero}
 use Rattle.script_grammar.specs.declared.token.Decl.{Decl}
 use Rattle.script_grammar.specs.declared.tree.Bind.{Bind}
 use Rattle.script_grammar.specs.declared.tree.Expr.{Expr}
@@ -12,7 +12,6 @@ use Rattle.stencil_data.specs.declared.stencils.TryNote.{TryNote}
 use Rattle.bytecode_buf.specs.declared.opcode.Op.TheVariants as op
 use Rattle.bytecode_buf.specs.declared.waits.Wait.{Wait}
 use Rattle.bytecode_buf.specs.Emits.{emitted}
-use Rattle.bytecode_buf.specs.Pieces.{Code}
 use Rattle.emit_exprs.specs.declared.uses.Use.TheVariants.{Plainly}
 use Rattle.emit_exprs.specs.Exprs.{Scene, expr_code}
 use Rattle.emit_exprs.specs.Sites.{EmitsAt}
@@ -22,10 +21,9 @@ use Rattle.emit_exprs.proofs.Writing.{written_of, written_both}
 use Rattle.emit_stmts.specs.declared.leaving.Goal.TheVariants as goal
 use Rattle.emit_stmts.specs.declared.stmt_site.StmtSite.{StmtSite}
 use Rattle.emit_stmts.specs.Frames.{Out, Again, leaving}
-use Rattle.emit_stmts.specs.Frames as frames
 use Rattle.emit_stmts.specs.Leaving.{Leaves, label_in}
 use Rattle.emit_stmts.specs.Positions.{position_of, within}
-use Rattle.emit_stmts.specs.StmtCode.{Written, RowWritten}
+use Rattle.emit_stmts.specs.StmtCode.{RowWritten}
 use Rattle.emit_stmts.specs.Stmts.{binds_code, result_code, label_text}
 use Rattle.emit_stmts.specs.ValueCode.{BindsEmit}
 use Rattle.emit_stmts.proofs.Writing.{written_plain, row_of, scene_is}

@@ -1,5 +1,5 @@
 -- Code that was appended, one after the other.
-use Rattle.std.proofs.Common.{◌≡◌, ℕ, ◌+◌, ◌<◌, ◌≤◌, ◌^◌, List, [], ◌∷◌, ◌++◌, length, refl, sym, ◌∙◌, ap, ap₂, subst, append_assoc, append-nil, add-zero, add_assoc, arith}
+use Rattle.std.proofs.Common.{◌≡◌, ℕ, ◌+◌, List, [], ◌∷◌, ◌++◌, length, refl, sym, ◌∙◌, ap, ap₂, subst, add-zero, arith}
 use Rattle.script_grammar.specs.Tree.{Stmts}
 use Rattle.script_grammar.specs.Tree as model
 use Rattle.script_grammar.specs.declared.tree.Stmt.{Stmt}
@@ -9,12 +9,10 @@ use Rattle.scope_analysis.specs.Scopes.{count_stmt}
 use Rattle.bytecode_buf.specs.declared.opcode.Op.{Op}
 use Rattle.bytecode_buf.specs.declared.waits.Aim.{Aim}
 use Rattle.bytecode_buf.specs.declared.waits.Wait.{Wait}
-use Rattle.bytecode_buf.specs.Appends.{Emitted, Appends, AllRoom}
-use Rattle.bytecode_buf.specs.Emits.{emitted, Emits, Waits, LandsHere, TurnsBack}
+use Rattle.bytecode_buf.specs.Appends.{Emitted, AllRoom}
+use Rattle.bytecode_buf.specs.Emits.{emitted, Waits, LandsHere, TurnsBack}
 use Rattle.bytecode_buf.specs.Pieces.{Code, Waiting, here, turning}
 use Rattle.bytecode_buf.proofs.AppendLemmas.{appends_none, appends_both, appends_room}
-use Rattle.emit_exprs.specs.Exprs.{Scene}
-use Rattle.emit_exprs.specs.Sites.{scene_of}
 use Rattle.emit_exprs.specs.TreeCode as expr
 use Rattle.emit_stmts.specs.declared.stmt_site.StmtSite.{StmtSite}
 use Rattle.emit_stmts.specs.Frames.{Frame, chain_of, kept_values}

@@ -1,3 +1,4 @@
+pub mod Declares
 pub mod Frames
 pub mod Functions
 pub mod Leaving

@@ -1,6 +1,6 @@
 -- That the code of a statement was appended: whatever the tree was, some code; and the code of what the statement stands
 -- for, under the texts of its position, where its counts fit and the chain is that of the frames around it.
-use Rattle.std.specs.Prelude.{◌≡◌, ℕ, ◌+◌, ◌<◌, ◌^◌, List, [], map}
+use Rattle.std.specs.Prelude.{◌≡◌, ℕ, ◌+◌, ◌<◌, ◌^◌, List, map}
 use Rattle.script_grammar.specs.declared.tree.Stmt.{Stmt}
 use Rattle.script_grammar.specs.Tree as model
 use Rattle.script_grammar.specs.TreeLists.{stmts_of}

@@ -6,10 +6,11 @@
 //!
 //! Of the code that emits it these parts stand: the site of a statement with the frames around it (`stmt_site`,
 //! `frames`), the jumps out of these (`leaving`), scopes that are entered and left (`entering`, `scoping`), functions
-//! that are declared (`functions`), and `break`, `continue` and `debugger` (`simple`). Each appends its code as the
-//! definition has it (`specs/StmtCode.antt`).
+//! that are declared (`functions`), whether there are any names for a scope (`declares`), and `break`, `continue` and
+//! `debugger` (`simple`). Each appends its code as the definition has it (`specs/StmtCode.antt`).
 #![tactic(auto)]
 
+pub mod declares;
 mod draft;
 pub mod entering;
 pub mod frames;

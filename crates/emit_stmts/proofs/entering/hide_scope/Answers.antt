@@ -1,4 +1,4 @@
-use Rattle.std.proofs.Common.{◌≡◌, ℕ, ◌^◌, List, sym, ◌∙◌, ap, subst}
+use Rattle.std.proofs.Common.{◌≡◌, ◌^◌, List, sym, ◌∙◌, ap, subst}
 use Rattle.stencil_data.specs.declared.scopes.Binding.{Binding}
 use Rattle.stencil_data.specs.Named.{NamedScope}
 use Rattle.stencil_data.specs.StandsFor.{named_bindings}

@@ -1,2 +1,10 @@
+pub mod Alone
 pub mod Blocks
+pub mod Clauses
+pub mod Faults
+pub mod Gains
+pub mod Later
+pub mod Locals
+pub mod Names
+pub mod Parts
 pub mod Rooms

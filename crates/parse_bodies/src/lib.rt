@@ -8,13 +8,20 @@
 //! A part that reads expressions or statements is stated over `block_at i depth` (specs/Blocks.antt), the parser of what
 //! stands inside so many nodes that count for the depth.
 //!
-//! So far it has what of statements holds neither expressions nor statements: words and semicolons that must stand, labels,
-//! a catch's parameter, `debugger`, `continue` and `break`.
+//! So far it has what of statements holds neither expressions nor statements: words and semicolons that must stand, labels, a
+//! catch's parameter, `debugger`, `continue` and `break`, the ends of bodies and scripts, and the nodes and tests of the others;
+//! and the lemmas of scripts whose bodies are passed over and read later (proofs/Later.antt).
 #![tactic(auto)]
 
+pub mod bindings;
 pub mod ending;
 pub mod kinds;
+pub mod loops;
 pub mod part;
 pub mod pieces;
 pub mod position;
+pub mod scripts;
+pub mod stmts;
+pub mod values;
+pub mod whole;
 pub mod words;

@@ -2,14 +2,15 @@
 
 ghost use Rattle.std.specs.Prelude.{◌≡◌};
 ghost use Rattle.script_grammar.specs.Interpretation.{Interpretation};
+ghost use Rattle.pure_parser.specs.Parser.{head_of, rest_of};
 ghost use Rattle.pure_parser.specs.Stmts as pure;
 ghost use Rattle.parse_exprs.specs.Answers.{Reads};
 ghost use Rattle.parse_exprs.specs.Means.{Itself, NameOf, MaybeNameOf};
-ghost use Rattle.parse_exprs.specs.Source.{IsSource};
+ghost use Rattle.parse_exprs.specs.Source.{IsSource, front};
 ghost use Rattle.parse_bodies.specs.Means.{stmt_ending};
 
 use crate::ending::{StmtEnding, may_omit};
-use parse_exprs::kinds::is_name;
+use parse_exprs::kinds::{is_end, is_mark, is_name};
 use parse_exprs::place::{ParseFault, Place};
 use parse_exprs::source::Source;
 use parse_exprs::token;
@@ -57,6 +58,35 @@ pub fn label_name(place: &mut Place, source: &Source) -> Result<Option<Ident>, P
     }
     place.step(source);
     Ok(Some(token::ident(token)))
+}
+
+/// Whether a line end stands before the present token.
+pub fn after_line(place: &Place, source: &Source) -> bool
+    requires { IsSource source.now }
+    ensures { (i : Interpretation) → result ≡ (head_of (front source.now i place.now.at)).after_line }
+{
+    place.token(source).after_line
+}
+
+/// Whether a `return` before the present token has no value.
+pub fn ends_return(place: &Place, source: &Source) -> bool
+    requires { IsSource source.now }
+    ensures { (i : Interpretation) → result ≡ pure.ends_return (head_of (front source.now i place.now.at)) }
+{
+    let token = place.token(source);
+    token.after_line
+        || is_mark(token.kind, mark::SEMICOLON)
+        || is_mark(token.kind, mark::CLOSE_BRACE)
+        || is_end(token.kind)
+}
+
+/// Whether a label stands here: a name and a colon behind it.
+pub fn is_label(place: &Place, source: &Source) -> bool
+    requires { IsSource source.now }
+    ensures { (i : Interpretation) → result ≡ pure.is_label (head_of (front source.now i place.now.at)) (head_of (rest_of (front source.now i place.now.at))) }
+{
+    let next = source.token(place.at as usize + 1);
+    place.is_name(source) && is_mark(next.kind, mark::COLON)
 }
 
 /// Reads the parameter of a `catch` behind its parenthesis, and the one that closes it.

@@ -1,10 +1,13 @@
 //! Statements that hold neither expressions nor statements, and the name of a label.
 
 ghost use Rattle.script_grammar.specs.Interpretation.{Interpretation};
+ghost use Rattle.script_grammar.specs.Tree.{Empty};
+ghost use Rattle.pure_parser.specs.Parser.{ret};
 ghost use Rattle.pure_parser.specs.Stmts as pure;
 ghost use Rattle.parse_exprs.specs.Answers.{Reads};
 ghost use Rattle.parse_exprs.specs.Means.{NameOf};
 ghost use Rattle.parse_exprs.specs.Source.{IsSource};
+ghost use Rattle.parse_exprs.specs.declared.source.Source.{Source};
 ghost use Rattle.parse_bodies.specs.Blocks.{label_at};
 ghost use Rattle.parse_bodies.specs.Means.{StmtOf};
 
@@ -86,4 +89,15 @@ pub fn label<H: Handler>(
         return Err(state.place.no_room(begins));
     }
     state.place.name(source)
+}
+
+/// The empty statement, behind its semicolon.
+pub fn empty<H: Handler>(state: &mut State<H>) -> Result<StmtNode<H::S>, ParseFault>
+    ensures { (i : Interpretation) (source : Source) → Reads (StmtOf (H.shows_stmt i)) (ret Empty) source i state.old.place state.new.place result }
+{
+    let node = state.handler.make_empty()?;
+    Ok(StmtNode {
+        node,
+        takes_else: false,
+    })
 }

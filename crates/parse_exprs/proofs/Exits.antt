@@ -1,13 +1,23 @@
 -- What turns of loops answer, and the levels of operators.
-use Rattle.std.proofs.Common.{◌≡◌, ℕ, zero, suc, ◌-◌, ◌<◌, List, Bool, true, false, refl, ap, arith, if◌then◌else◌, Some}
+use Rattle.std.proofs.Common.{◌≡◌, ℕ, zero, suc, ◌-◌, ◌<◌, List, Bool, true, false, refl, ap, subst, arith, if◌then◌else◌, nat_eq, Some}
+use Rattle.std.proofs.lemmas.Bool.Decides.{nat_tests}
+use Rattle.script_grammar.specs.declared.token.Kind.{Kind}
+use Rattle.script_grammar.specs.declared.token.Kind.TheVariants as kind
 use Rattle.script_grammar.specs.declared.token.mark.TheConstants as mark
 use Rattle.script_grammar.specs.Kinds.{is_mark}
+use Rattle.script_grammar.specs.Interpretation.{Interpretation}
 use Rattle.script_grammar.specs.Lexeme.{Lexeme}
 use Rattle.script_grammar.specs.Tree.{Expr}
-use Rattle.pure_parser.specs.Parser.{Recorded, Parser, head_of, rest_of, after, Again, Stop}
-use Rattle.pure_parser.specs.Exprs.{Env, AnAssign, more_turn, unary_of, power_operand, power_turn, is_update_expr, operand, is_op, op_turn, level_of, operands_from, power_of}
-use Rattle.parse_exprs.specs.Answers.{ReadAs}
-use Rattle.parse_exprs.proofs.Steps.{made, read_is, when_true}
+use Rattle.script_grammar.specs.Tree as model
+use Rattle.script_grammar.specs.TreeLists.{Args, exprs_of}
+use Rattle.pure_parser.specs.Parser.{Recorded, Reply, Parser, head_of, rest_of, after, ret, Again, Stop}
+use Rattle.pure_parser.specs.Exprs.{Env, AnAssign, more_turn, unary_of, power_operand, power_turn, is_update_expr, operand, is_op, op_turn, level_of, operands_from, power_of, args_of, call_of, tail_turn}
+use Rattle.pure_parser.proofs.LocalExprs.{after_twice}
+use Rattle.parse_exprs.specs.declared.source.Source.{Source}
+use Rattle.parse_exprs.specs.declared.place.Place.{Place}
+use Rattle.parse_exprs.specs.declared.place.ParseFault.{ParseFault}
+use Rattle.parse_exprs.specs.Answers.{ReadAs, Refuses}
+use Rattle.parse_exprs.proofs.Steps.{made, read_is, refused, when_false, when_true}
 
 -- a turn that goes past the comma, and reads an item
 pub more_turn_next : {rs qs : List Recorded} {us : List Lexeme} (v : Env) (w : Bool) (ts : List Lexeme) (e : Expr) → is_mark mark.COMMA (head_of ts).kind ≡ true → ReadAs rs (v.sub (AnAssign w) (rest_of ts)) e qs us → ReadAs rs (more_turn v w ts) (Again e) qs us
@@ -39,3 +49,32 @@ pub level_zero : (v : Env) (w : Bool) (n : ℕ) (heads : Bool) (ts : List Lexeme
 unfolding level_of
 level_zero v w zero heads ts h = refl
 level_zero v w (suc n) heads ts h = absurd (omega arith)
+
+-- a fault in front of what is made twice
+pub refused_twice : {A B C : Type 0} (s : Source) (i : Interpretation) (p : Place) (e : ParseFault) (rs : List Recorded) (r : Reply A) (f : A → B) (g : B → C) → Refuses s i p e rs (after r (λ x. ret (f x))) → Refuses s i p e rs (after r (λ x. ret (g (f x))))
+refused_twice s i p e rs r f g h = subst (λ x. Refuses s i p e rs x) (after_twice r (λ x. ret (f x)) (λ x. ret (g x))) (refused s i p e rs (after r (λ x. ret (f x))) (λ x. ret (g x)) h)
+
+-- no kind is two marks
+pub other_mark : (m n : ℕ) (k : Kind) → nat_eq m n ≡ false → is_mark m k ≡ true → is_mark n k ≡ false
+other_mark m n (kind.Mark j) d h = apart j m n d h
+  where
+    apart : (j m n : ℕ) → nat_eq m n ≡ false → nat_eq j m ≡ true → nat_eq j n ≡ false
+    apart j m n d h = grind (arith, nat_tests)
+other_mark m n kind.Name d h = refl
+other_mark m n kind.Number d h = refl
+other_mark m n kind.Str d h = refl
+other_mark m n kind.TemplateWhole d h = refl
+other_mark m n kind.TemplateHead d h = refl
+other_mark m n kind.TemplateMiddle d h = refl
+other_mark m n kind.TemplateTail d h = refl
+other_mark m n (kind.Word j) d h = refl
+other_mark m n kind.Bad d h = refl
+other_mark m n kind.End d h = refl
+
+-- a turn that goes past the parenthesis, and reads arguments
+pub tail_turn_call : {rs qs : List Recorded} {us : List Lexeme} (v : Env) (ts : List Lexeme) (a : Args) → is_mark mark.OPEN_PAREN (head_of ts).kind ≡ true → ReadAs rs (args_of v (rest_of ts)) a qs us → ReadAs rs (tail_turn v ts) (Again (model.Call (exprs_of a.items) a.comma)) qs us
+unfolding tail_turn call_of
+tail_turn_call v ts a h k =
+    let no_dot = other_mark mark.OPEN_PAREN mark.DOT (head_of ts).kind refl h in
+    let no_bracket = other_mark mark.OPEN_PAREN mark.OPEN_BRACKET (head_of ts).kind refl h in
+    when_false _ _ no_dot (when_false _ _ no_bracket (when_true _ _ h (made Again (made _ k))))

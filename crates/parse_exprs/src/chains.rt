@@ -1,28 +1,30 @@
 //! Primaries, members, calls and `new`.
 
-ghost use Rattle.std.specs.Prelude.{◌≡◌, ◌<◌, true, Option, ℕ};
+ghost use Rattle.std.specs.Prelude.{◌≡◌, ◌<◌, true, false, Option, Some, None, ℕ};
 ghost use Rattle.script_grammar.specs.Endings.{ending};
 ghost use Rattle.script_grammar.specs.Interpretation.{Interpretation};
 ghost use Rattle.script_grammar.specs.Lexeme.{lexeme_of};
 ghost use Rattle.script_grammar.specs.Proper.{rank};
-ghost use Rattle.script_grammar.specs.Shows.{ShowMaybe, ShowArgs, TailOf};
+ghost use Rattle.script_grammar.specs.Shows.{ShowMaybe, ShowArgs, ShowTail, TailOf};
 ghost use Rattle.script_grammar.specs.Tree as model;
 ghost use Rattle.script_grammar.specs.TreeLists as part;
 ghost use Rattle.script_grammar.specs.TreeLists.{maybe_args_of};
-ghost use Rattle.pure_parser.specs.Parser.{step};
+ghost use Rattle.pure_parser.specs.Parser.{loop};
 ghost use Rattle.pure_parser.specs.Exprs as pure;
 ghost use Rattle.parse_exprs.specs.Source.{IsSource, HasAtom};
+ghost use Rattle.parse_exprs.specs.Env.{env_at};
 ghost use Rattle.parse_exprs.specs.Answers.{Reads, Makes};
-ghost use Rattle.parse_exprs.specs.Means.{ShowRanked};
+ghost use Rattle.parse_exprs.specs.Means.{Itself, TurnOf, ItemsOf, RankedOf, AtomOf, MaybeArgsOf, ShowRanked, ending_as};
+ghost use Rattle.parse_exprs.specs.Ranks.{rank_of};
 
-use crate::part::{Ending, Rank, Ranked};
+use crate::part::{Ending, Items, Rank, Ranked, Turned};
 use crate::place::ParseFault;
 use crate::source::Source;
 use crate::state::State;
 use crate::{kinds, token};
 use script_grammar::handler::Handler;
 use script_grammar::node::{NodeArgs, NodeTail};
-use script_grammar::token::{Kind, Token, word};
+use script_grammar::token::{Kind, Token, mark, word};
 
 impl<H: Handler> State<H> {
     /// The node of a word that is a PrimaryExpression.
@@ -63,6 +65,43 @@ impl<H: Handler> State<H> {
         }
     }
 
+    /// A PrimaryExpression; the flag says whether an arrow's parameters may stand here.
+    #[cycle(exprs)]
+    #[tactic(auto, unfolding(pure_parser::specs::Exprs::prim_of))]
+    fn prim(&mut self, source: &Source, heads: bool, depth: u32) -> Result<H::E, ParseFault>
+        requires { IsSource source.now }
+        ensures { (i : Interpretation) → Reads (AtomOf (H.shows_expr i)) (pure.prim_of (env_at i depth) heads) source.now i self.old.place self.new.place result }
+    {
+        let token = self.place.token(source);
+        if kinds::is_atom(token.kind) {
+            self.place.step(source);
+            return self.atom(token);
+        }
+        if kinds::is_mark(token.kind, mark::OPEN_PAREN) {
+            self.place.step(source);
+            return self.paren(source, heads, token.start, depth);
+        }
+        if kinds::is_word(token.kind, word::FUNCTION) {
+            self.place.step(source);
+            return self.func(source, token.start, depth);
+        }
+        if kinds::is_mark(token.kind, mark::OPEN_BRACKET) {
+            self.place.step(source);
+            return self.array(source, token.start, depth);
+        }
+        if kinds::is_mark(token.kind, mark::OPEN_BRACE) {
+            self.place.step(source);
+            return self.object(source, token.start, depth);
+        }
+        if kinds::is_head(token.kind) {
+            self.place.step(source);
+            return self.template(source, token.start, token::atom(token), depth);
+        }
+        Err(ParseFault::Unexpected {
+            token: self.place.at,
+        })
+    }
+
     #[tactic(auto, unfolding(pure_parser::specs::Exprs::dot_of))]
     fn dot(&mut self, source: &Source) -> Result<NodeTail<H::E>, ParseFault>
         requires { IsSource source.now }
@@ -78,6 +117,124 @@ impl<H: Handler> State<H> {
         Ok(NodeTail::Dot {
             atom: token::atom(token),
         })
+    }
+
+    #[cycle(exprs)]
+    #[tactic(auto, unfolding(pure_parser::specs::Exprs::member_turn, pure_parser::specs::Exprs::index_of))]
+    fn member(
+        &mut self,
+        source: &Source,
+        depth: u32,
+    ) -> Result<Turned<NodeTail<H::E>, ()>, ParseFault>
+        requires { IsSource source.now }
+        ensures { (i : Interpretation) → Reads (TurnOf (TailOf i (H.shows_expr i)) Itself) (pure.member_turn (env_at i depth)) source.now i self.old.place self.new.place result }
+    {
+        if self.place.is_mark(source, mark::DOT) {
+            self.place.step(source);
+            let tail = self.dot(source)?;
+            return Ok(Turned::Next(tail));
+        }
+        if self.place.is_mark(source, mark::OPEN_BRACKET) {
+            self.place.step(source);
+            let value = self.expr(source, true, depth)?;
+            self.place.expect(source, mark::CLOSE_BRACKET)?;
+            return Ok(Turned::Next(NodeTail::Index(value.node)));
+        }
+        Ok(Turned::Last(()))
+    }
+
+    #[cycle(exprs)]
+    #[tactic(auto, unfolding(pure_parser::specs::Exprs::tail_turn, pure_parser::specs::Exprs::member_turn, pure_parser::specs::Exprs::call_of))]
+    fn tail(
+        &mut self,
+        source: &Source,
+        depth: u32,
+    ) -> Result<Turned<NodeTail<H::E>, ()>, ParseFault>
+        requires { IsSource source.now }
+        ensures { (i : Interpretation) → Reads (TurnOf (TailOf i (H.shows_expr i)) Itself) (pure.tail_turn (env_at i depth)) source.now i self.old.place self.new.place result }
+    {
+        if self.place.is_mark(source, mark::OPEN_PAREN) {
+            self.place.step(source);
+            let args = self.args(source, depth)?;
+            return Ok(Turned::Next(NodeTail::Call(args)));
+        }
+        self.member(source, depth)
+    }
+
+    #[cycle(exprs)]
+    fn members(
+        &mut self,
+        source: &Source,
+        depth: u32,
+    ) -> Result<Items<NodeTail<H::E>, ()>, ParseFault>
+        requires { IsSource source.now }
+        ensures { (i : Interpretation) → Reads (ItemsOf (ShowTail i (H.shows_expr i)) Itself) (loop (pure.member_turn (env_at i depth))) source.now i self.old.place self.new.place result }
+    {
+        let mut items = Vec::new(self.alloc);
+        loop {
+            match self.member(source, depth)? {
+                Turned::Next(item) => items.push(item)?,
+                Turned::Last(last) => return Ok(Items { items, last }),
+            }
+        }
+    }
+
+    #[cycle(exprs)]
+    fn tails(
+        &mut self,
+        source: &Source,
+        depth: u32,
+    ) -> Result<Items<NodeTail<H::E>, ()>, ParseFault>
+        requires { IsSource source.now }
+        ensures { (i : Interpretation) → Reads (ItemsOf (ShowTail i (H.shows_expr i)) Itself) (loop (pure.tail_turn (env_at i depth))) source.now i self.old.place self.new.place result }
+    {
+        let mut items = Vec::new(self.alloc);
+        loop {
+            match self.tail(source, depth)? {
+                Turned::Next(item) => items.push(item)?,
+                Turned::Last(last) => return Ok(Items { items, last }),
+            }
+        }
+    }
+
+    #[cycle(exprs)]
+    #[tactic(auto, unfolding(pure_parser::specs::Exprs::new_or_prim))]
+    fn new_or_prim(
+        &mut self,
+        source: &Source,
+        heads: bool,
+        depth: u32,
+    ) -> Result<Ranked<H::E>, ParseFault>
+        requires { IsSource source.now }
+        ensures { (i : Interpretation) → Reads (RankedOf (H.shows_expr i)) (pure.new_or_prim (env_at i depth) heads) source.now i self.old.place self.new.place result }
+    {
+        if self.place.is_word(source, word::NEW) {
+            return self.new(source, depth);
+        }
+        let node = self.prim(source, heads, depth)?;
+        Ok(Ranked {
+            node,
+            rank: Rank::Head,
+            ending: Ending::Operand,
+        })
+    }
+
+    #[cycle(exprs)]
+    #[tactic(auto, unfolding(pure_parser::specs::Exprs::new_args))]
+    fn new_args(
+        &mut self,
+        source: &Source,
+        depth: u32,
+    ) -> Result<Option<NodeArgs<H::E>>, ParseFault>
+        requires { IsSource source.now }
+        ensures { (i : Interpretation) → Reads (MaybeArgsOf (H.shows_expr i)) (pure.new_args (env_at i depth)) source.now i self.old.place self.new.place result }
+    {
+        if !self.place.is_mark(source, mark::OPEN_PAREN) {
+            return Ok(None);
+        }
+        self.place.step(source);
+        let args = self.args(source, depth)?;
+        Ok(Some(args))
     }
 
     /// `new` of this, with these arguments or none.
@@ -101,5 +258,48 @@ impl<H: Handler> State<H> {
             rank,
             ending: Ending::Operand,
         })
+    }
+
+    #[cycle(exprs)]
+    #[tactic(auto, unfolding(pure_parser::specs::Exprs::new_of, pure_parser::specs::Exprs::new_from))]
+    pub(crate) fn new_in(&mut self, source: &Source, depth: u32) -> Result<Ranked<H::E>, ParseFault>
+        requires { IsSource source.now }
+        ensures { (i : Interpretation) → Reads (RankedOf (H.shows_expr i)) (pure.new_of (env_at i depth)) source.now i self.old.place self.new.place result }
+    {
+        let at = self.place.token(source).start;
+        if !self.place.is_word(source, word::NEW) {
+            return Err(ParseFault::Unexpected {
+                token: self.place.at,
+            });
+        }
+        self.place.step(source);
+        let head = self.new_or_prim(source, false, depth)?;
+        if !head.rank.may_begin_chain() {
+            return self.make_new(at, head.node, None);
+        }
+        let members = self.members(source, depth)?;
+        let args = self.new_args(source, depth)?;
+        let callee = self.make_chain(head, members.items)?;
+        self.make_new(at, callee.node, args)
+    }
+
+    /// A LeftHandSideExpression.
+    #[cycle(exprs)]
+    #[tactic(auto, unfolding(pure_parser::specs::Exprs::left_of))]
+    pub fn left(
+        &mut self,
+        source: &Source,
+        heads: bool,
+        depth: u32,
+    ) -> Result<Ranked<H::E>, ParseFault>
+        requires { IsSource source.now }
+        ensures { (i : Interpretation) → Reads (RankedOf (H.shows_expr i)) (pure.left_of (env_at i depth) heads) source.now i self.old.place self.new.place result }
+    {
+        let head = self.new_or_prim(source, heads, depth)?;
+        if !head.rank.may_begin_chain() {
+            return Ok(head);
+        }
+        let tails = self.tails(source, depth)?;
+        self.make_chain(head, tails.items)
     }
 }

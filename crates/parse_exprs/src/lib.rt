@@ -16,16 +16,19 @@
 //! `proofs/Steps.antt` put together, as `then _ a.2 (made _ b)`, and exits with another part of which something is asked:
 //! `proofs/Onward.antt`. A call that counts for the depth is one of `proofs/Calls.antt`.
 //!
-//! So far it has what reads no expression inside: the place, tests of tokens, names, bodies that are passed over, the test for
-//! an arrow, the ends of lists and of parameters, and the nodes that are made of several parts.
+//! `assign` and `expr` read an AssignmentExpression and an Expression, `function` the parameters and the body of a function.
+//! All functions that lead back to `assign` are one cycle: each call in it goes to a part of a lower rank, or to one that stands
+//! a node deeper, and at the limit of depth nothing is read (proofs/state/State/+exprs/Invariants.antt).
 #![tactic(auto)]
 
 pub mod arrows;
 pub mod chains;
 pub mod exprs;
+pub mod functions;
 pub mod kinds;
 pub mod lists;
 pub mod nodes;
+pub mod objects;
 pub mod operators;
 pub mod params;
 pub mod parens;

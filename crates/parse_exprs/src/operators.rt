@@ -1,22 +1,40 @@
 //! Operators.
 
-ghost use Rattle.std.specs.Prelude.{◌≡◌, ◌<◌, false};
-ghost use Rattle.script_grammar.specs.Endings.{ending};
+ghost use Rattle.std.specs.Prelude.{◌≡◌, ◌≤◌, ◌<◌, true, false, Option, Some, None};
+ghost use Rattle.script_grammar.specs.Endings.{ending, operands_ending};
 ghost use Rattle.script_grammar.specs.Interpretation.{Interpretation};
 ghost use Rattle.script_grammar.specs.Proper.{rank};
+ghost use Rattle.script_grammar.specs.Shows.{ShowOperand};
 ghost use Rattle.script_grammar.specs.Tree as model;
+ghost use Rattle.script_grammar.specs.TreeLists.{operands_of};
+ghost use Rattle.pure_parser.specs.Parser.{loop, bind, ret};
 ghost use Rattle.pure_parser.specs.Exprs as pure;
 ghost use Rattle.parse_exprs.specs.Source.{IsSource};
+ghost use Rattle.parse_exprs.specs.Env.{env_at};
 ghost use Rattle.parse_exprs.specs.Answers.{Reads};
-ghost use Rattle.parse_exprs.specs.Means.{RankedOf, ending_as};
+ghost use Rattle.parse_exprs.specs.Means.{Itself, TurnOf, RankedOf, EndedOf, MaybeEndedOf, EndsOf, OperandsOf, ending_as};
 ghost use Rattle.parse_exprs.specs.Ranks.{rank_of};
 
-use crate::part::{Ending, Rank, Ranked};
+use crate::kinds;
+use crate::part::{Ended, Ending, Items, Rank, Ranked, Turned};
 use crate::place::ParseFault;
 use crate::source::Source;
 use crate::state::State;
-use crate::{kinds, token};
 use script_grammar::handler::Handler;
+use script_grammar::node::NodeOperand;
+use script_grammar::token::mark;
+
+/// The level of `|`.
+const BIT_OR_LEVEL: u32 = 8;
+
+/// The level of `&&`.
+const AND_LEVEL: u32 = 9;
+
+/// The level of `||`.
+const OR_LEVEL: u32 = 10;
+
+/// The level of `??`.
+const COALESCE_LEVEL: u32 = 11;
 
 impl<H: Handler> State<H> {
     #[tactic(auto, unfolding(pure_parser::specs::Exprs::postfix_of))]
@@ -42,5 +60,315 @@ impl<H: Handler> State<H> {
             rank: Rank::Update,
             ending: Ending::Postfix,
         })
+    }
+
+    /// A UnaryExpression.
+    #[cycle(exprs)]
+    #[tactic(auto, unfolding(pure_parser::specs::Exprs::unary_of, pure_parser::specs::Exprs::update_of))]
+    fn unary(
+        &mut self,
+        source: &Source,
+        heads: bool,
+        depth: u32,
+    ) -> Result<Ranked<H::E>, ParseFault>
+        requires { IsSource source.now }
+        ensures { (i : Interpretation) → Reads (RankedOf (H.shows_expr i)) (pure.unary_of (env_at i depth) heads) source.now i self.old.place self.new.place result }
+    {
+        let kind = self.place.kind(source);
+        if kinds::is_prefix(kind) || kinds::is_update(kind) {
+            return self.prefix(source, depth);
+        }
+        let at = self.place.token(source).start;
+        let first = self.left(source, heads, depth)?;
+        self.postfix(source, at, first)
+    }
+
+    #[cycle(exprs)]
+    #[tactic(auto, unfolding(pure_parser::specs::Exprs::prefix_of))]
+    pub(crate) fn prefix_in(
+        &mut self,
+        source: &Source,
+        depth: u32,
+    ) -> Result<Ranked<H::E>, ParseFault>
+        requires { IsSource source.now }
+        ensures { (i : Interpretation) → Reads (RankedOf (H.shows_expr i)) (pure.prefix_of (env_at i depth)) source.now i self.old.place self.new.place result }
+    {
+        let token = self.place.token(source);
+        if kinds::is_prefix(token.kind) {
+            self.place.step(source);
+            let of = self.unary(source, false, depth)?;
+            let is_word = kinds::is_word_kind(token.kind);
+            let node = self
+                .handler
+                .make_unary(token.start, kinds::mark_of(token.kind), of.node, is_word)?;
+            return Ok(Ranked {
+                node,
+                rank: Rank::Other,
+                ending: of.ending,
+            });
+        }
+        if kinds::is_update(token.kind) {
+            self.place.step(source);
+            let of = self.unary(source, false, depth)?;
+            let node = self
+                .handler
+                .make_update(token.start, kinds::mark_of(token.kind), true, of.node)?;
+            return Ok(Ranked {
+                node,
+                rank: Rank::Update,
+                ending: of.ending,
+            });
+        }
+        Err(ParseFault::Unexpected {
+            token: self.place.at,
+        })
+    }
+
+    #[cycle(exprs)]
+    #[tactic(auto, unfolding(pure_parser::specs::Exprs::power_turn))]
+    fn power_turn(
+        &mut self,
+        source: &Source,
+        depth: u32,
+    ) -> Result<Turned<Ended<NodeOperand<H::E>>, Option<Ended<NodeOperand<H::E>>>>, ParseFault>
+        requires { IsSource source.now }
+        ensures { (i : Interpretation) → Reads (TurnOf (EndedOf (H.shows_expr i)) (MaybeEndedOf (H.shows_expr i))) (pure.power_turn (env_at i depth)) source.now i self.old.place self.new.place result }
+    {
+        let kind = self.place.kind(source);
+        if !kinds::is_mark(kind, mark::POWER) {
+            return Ok(Turned::Last(None));
+        }
+        self.place.step(source);
+        let of = self.unary(source, false, depth)?;
+        let part = NodeOperand {
+            op: kinds::mark_of(kind),
+            is_word: kinds::is_word_kind(kind),
+            value: of.node,
+        };
+        let operand = Ended {
+            part,
+            ending: of.ending,
+        };
+        if of.rank.may_be_raised() {
+            return Ok(Turned::Next(operand));
+        }
+        Ok(Turned::Last(Some(operand)))
+    }
+
+    /// The operands of a chain of powers, behind what ends so.
+    #[cycle(exprs)]
+    fn powers(
+        &mut self,
+        source: &Source,
+        ending: Ending,
+        depth: u32,
+    ) -> Result<Items<NodeOperand<H::E>, Ending>, ParseFault>
+        requires { IsSource source.now }
+        ensures { (i : Interpretation) → Reads (OperandsOf (H.shows_expr i) (ending_as ending)) (bind (loop (pure.power_turn (env_at i depth))) (λ m. ret (pure.with_last m.items m.last))) source.now i self.old.place self.new.place result }
+    {
+        let mut items = Vec::new(self.alloc);
+        let mut last = ending;
+        loop {
+            match self.power_turn(source, depth)? {
+                Turned::Next(item) => {
+                    last = item.ending;
+                    items.push(item.part)?;
+                }
+                Turned::Last(None) => return Ok(Items { items, last }),
+                Turned::Last(Some(item)) => {
+                    items.push(item.part)?;
+                    return Ok(Items {
+                        items,
+                        last: item.ending,
+                    });
+                }
+            }
+        }
+    }
+
+    #[cycle(exprs)]
+    #[tactic(auto, unfolding(pure_parser::specs::Exprs::power_of))]
+    fn power(
+        &mut self,
+        source: &Source,
+        heads: bool,
+        depth: u32,
+    ) -> Result<Ranked<H::E>, ParseFault>
+        requires { IsSource source.now }
+        ensures { (i : Interpretation) → Reads (RankedOf (H.shows_expr i)) (pure.power_of (env_at i depth) heads) source.now i self.old.place self.new.place result }
+    {
+        let first = self.unary(source, heads, depth)?;
+        if !first.rank.may_be_raised() {
+            return Ok(first);
+        }
+        let rest = self.powers(source, first.ending, depth)?;
+        self.make_binary(first, rest)
+    }
+
+    #[cycle(exprs)]
+    #[tactic(auto, unfolding(pure_parser::specs::Exprs::op_turn))]
+    fn op_turn(
+        &mut self,
+        source: &Source,
+        with_in: bool,
+        of: u32,
+        lower: u32,
+        depth: u32,
+    ) -> Result<Turned<Ended<NodeOperand<H::E>>, ()>, ParseFault>
+        requires source { IsSource source.now }
+        requires of { of < 12 }
+        requires lower { lower ≤ 10 }
+        ensures { (i : Interpretation) → Reads (TurnOf (EndedOf (H.shows_expr i)) Itself) (pure.op_turn with_in of (pure.level_of (env_at i depth) with_in lower false)) source.now i self.old.place self.new.place result }
+    {
+        let kind = self.place.kind(source);
+        if !kinds::is_op(kind, with_in, of) {
+            return Ok(Turned::Last(()));
+        }
+        self.place.step(source);
+        let value = self.level(source, with_in, lower, false, depth)?;
+        let part = NodeOperand {
+            op: kinds::mark_of(kind),
+            is_word: kinds::is_word_kind(kind),
+            value: value.node,
+        };
+        Ok(Turned::Next(Ended {
+            part,
+            ending: value.ending,
+        }))
+    }
+
+    #[cycle(exprs)]
+    fn operands(
+        &mut self,
+        source: &Source,
+        with_in: bool,
+        of: u32,
+        lower: u32,
+        ending: Ending,
+        depth: u32,
+    ) -> Result<Items<NodeOperand<H::E>, Ending>, ParseFault>
+        requires source { IsSource source.now }
+        requires of { of < 12 }
+        requires lower { lower ≤ 10 }
+        ensures { (i : Interpretation) → Reads (EndsOf (ShowOperand (H.shows_expr i)) (λ os. operands_ending (ending_as ending) (operands_of os))) (loop (pure.op_turn with_in of (pure.level_of (env_at i depth) with_in lower false))) source.now i self.old.place self.new.place result }
+    {
+        let mut items = Vec::new(self.alloc);
+        let mut last = ending;
+        loop {
+            match self.op_turn(source, with_in, of, lower, depth)? {
+                Turned::Next(item) => {
+                    last = item.ending;
+                    items.push(item.part)?;
+                }
+                Turned::Last(()) => return Ok(Items { items, last }),
+            }
+        }
+    }
+
+    /// The further operands of a level, behind the first.
+    #[cycle(exprs)]
+    fn operands_from(
+        &mut self,
+        source: &Source,
+        with_in: bool,
+        of: u32,
+        lower: u32,
+        first: Ranked<H::E>,
+        depth: u32,
+    ) -> Result<Ranked<H::E>, ParseFault>
+        requires source { IsSource source.now }
+        requires of { of < 12 }
+        requires lower { lower ≤ 10 }
+        ensures { (i : Interpretation) → (t : model.Expr) → H.shows_expr i first.node t → first.rank ≡ rank_of t → ending_as first.ending ≡ ending t → Reads (RankedOf (H.shows_expr i)) (pure.operands_from with_in of (pure.level_of (env_at i depth) with_in lower false) t) source.now i self.old.place self.new.place result }
+    {
+        let rest = self.operands(source, with_in, of, lower, first.ending, depth)?;
+        self.make_binary(first, rest)
+    }
+
+    /// The levels of binary operators up to `||`.
+    #[cycle(exprs)]
+    #[tactic(auto, unfolding(pure_parser::specs::Exprs::level_of))]
+    fn level(
+        &mut self,
+        source: &Source,
+        with_in: bool,
+        of: u32,
+        heads: bool,
+        depth: u32,
+    ) -> Result<Ranked<H::E>, ParseFault>
+        requires source { IsSource source.now }
+        requires of { of ≤ 10 }
+        ensures { (i : Interpretation) → Reads (RankedOf (H.shows_expr i)) (pure.level_of (env_at i depth) with_in of heads) source.now i self.old.place self.new.place result }
+    {
+        if of == 0 {
+            return self.power(source, heads, depth);
+        }
+        let first = self.level(source, with_in, of - 1, heads, depth)?;
+        self.operands_from(source, with_in, of, of - 1, first, depth)
+    }
+
+    /// A ShortCircuitExpression: a list of `??`, or of `||` over `&&`, and not both.
+    #[cycle(exprs)]
+    #[tactic(auto, unfolding(pure_parser::specs::Exprs::short_circuit, pure_parser::specs::Exprs::or_from))]
+    fn short_circuit(
+        &mut self,
+        source: &Source,
+        with_in: bool,
+        heads: bool,
+        depth: u32,
+    ) -> Result<Ranked<H::E>, ParseFault>
+        requires { IsSource source.now }
+        ensures { (i : Interpretation) → Reads (RankedOf (H.shows_expr i)) (pure.short_circuit (env_at i depth) with_in heads) source.now i self.old.place self.new.place result }
+    {
+        let first = self.level(source, with_in, BIT_OR_LEVEL, heads, depth)?;
+        if kinds::is_op(self.place.kind(source), with_in, COALESCE_LEVEL) {
+            return self.operands_from(source, with_in, COALESCE_LEVEL, BIT_OR_LEVEL, first, depth);
+        }
+        let left = self.operands_from(source, with_in, AND_LEVEL, BIT_OR_LEVEL, first, depth)?;
+        self.operands_from(source, with_in, OR_LEVEL, AND_LEVEL, left, depth)
+    }
+
+    #[cycle(exprs)]
+    #[tactic(auto, unfolding(pure_parser::specs::Exprs::cond_tail, pure_parser::specs::Exprs::branches_of))]
+    fn cond_tail(
+        &mut self,
+        source: &Source,
+        with_in: bool,
+        first: Ranked<H::E>,
+        depth: u32,
+    ) -> Result<Ranked<H::E>, ParseFault>
+        requires { IsSource source.now }
+        ensures { (i : Interpretation) → (t : model.Expr) → H.shows_expr i first.node t → first.rank ≡ rank_of t → ending_as first.ending ≡ ending t → Reads (RankedOf (H.shows_expr i)) (pure.cond_tail (env_at i depth) with_in t) source.now i self.old.place self.new.place result }
+    {
+        if !self.place.is_mark(source, mark::QUESTION) {
+            return Ok(first);
+        }
+        self.place.step(source);
+        let yes = self.assign(source, true, depth)?;
+        self.place.expect(source, mark::COLON)?;
+        let no = self.assign(source, with_in, depth)?;
+        let node = self.handler.make_cond(first.node, yes.node, no.node)?;
+        Ok(Ranked {
+            node,
+            rank: Rank::Other,
+            ending: no.ending,
+        })
+    }
+
+    /// A ConditionalExpression.
+    #[cycle(exprs)]
+    #[tactic(auto, unfolding(pure_parser::specs::Exprs::cond_of))]
+    pub(crate) fn cond(
+        &mut self,
+        source: &Source,
+        with_in: bool,
+        heads: bool,
+        depth: u32,
+    ) -> Result<Ranked<H::E>, ParseFault>
+        requires { IsSource source.now }
+        ensures { (i : Interpretation) → Reads (RankedOf (H.shows_expr i)) (pure.cond_of (env_at i depth) with_in heads) source.now i self.old.place self.new.place result }
+    {
+        let first = self.short_circuit(source, with_in, heads, depth)?;
+        self.cond_tail(source, with_in, first, depth)
     }
 }

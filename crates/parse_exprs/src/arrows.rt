@@ -127,7 +127,7 @@ impl<H: Handler> State<H> {
     }
 
     /// A single parameter without parentheses.
-    fn bare(&self, token: Token) -> Result<Params<H::E>, ParseFault>
+    pub fn bare(&self, token: Token) -> Result<Params<H::E>, ParseFault>
         requires name { test.is_name token.kind ≡ true }
         requires atom { HasAtom token }
         ensures { (i : Interpretation) (get set : ℕ) → Makes result (λ p. ParamsOf i (H.shows_expr i) p (λ h. pure.bare_head (lexeme_of get set i.texts token) ≡ h)) }
@@ -204,7 +204,7 @@ impl<H: Handler> State<H> {
     /// A ConciseBody.
     #[cycle(exprs)]
     #[tactic(auto, unfolding(pure_parser::specs::Exprs::arrow_body))]
-    fn arrow_body(
+    pub fn arrow_body(
         &mut self,
         source: &Source,
         with_in: bool,

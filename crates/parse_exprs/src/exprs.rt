@@ -76,11 +76,7 @@ impl<H: Handler> State<H> {
     /// A parameter in an arrow's parentheses.
     #[cycle(exprs)]
     #[tactic(auto, unfolding(pure_parser::specs::Exprs::arrow_param))]
-    pub(crate) fn param_call(
-        &mut self,
-        source: &Source,
-        depth: u32,
-    ) -> Result<NodeParam<H::E>, ParseFault>
+    pub fn param_call(&mut self, source: &Source, depth: u32) -> Result<NodeParam<H::E>, ParseFault>
         requires { IsSource source.now }
         ensures { (i : Interpretation) → Reads (ParamOf i (H.shows_expr i)) ((env_at i depth).sub (AParam)) source.now i self.old.place self.new.place result }
     {
@@ -92,7 +88,7 @@ impl<H: Handler> State<H> {
     }
 
     /// A rest parameter in an arrow's parentheses.
-    pub(crate) fn rest_call(&mut self, source: &Source, depth: u32) -> Result<Ident, ParseFault>
+    pub fn rest_call(&mut self, source: &Source, depth: u32) -> Result<Ident, ParseFault>
         requires { IsSource source.now }
         ensures { (i : Interpretation) → Reads (NameOf i) ((env_at i depth).sub (ARest)) source.now i self.old.place self.new.place result }
     {

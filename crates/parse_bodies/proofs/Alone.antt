@@ -1,10 +1,17 @@
 -- What stands by itself: the end of all behind it, and functions.
 use Rattle.std.proofs.Common.{◌≡◌, ℕ, List, Bool, true, false, refl, sym, subst}
+use Rattle.std.proofs.Common.{None}
+use Rattle.script_grammar.specs.Endings.{body_ending}
+use Rattle.script_grammar.specs.TreeLists.{params_of}
+use Rattle.script_grammar.specs.declared.token.FuncForm.TheVariants as form
+use Rattle.pure_parser.specs.Exprs.{Head, BodyRead, function_case}
+use Rattle.parse_exprs.specs.declared.part.ArrowBody.{ArrowBody}
+use Rattle.parse_exprs.specs.Means.{ending_as, ArrowBodyOf}
 use Rattle.script_grammar.specs.Interpretation.{Interpretation}
 use Rattle.script_grammar.specs.Kinds.{is_end}
 use Rattle.script_grammar.specs.Lexeme.{Lexeme}
 use Rattle.script_grammar.specs.Shows.{FuncBodyOf, FuncOf, ShowFunc}
-use Rattle.script_grammar.specs.Tree.{Expr, Stmts, Function}
+use Rattle.script_grammar.specs.Tree.{Expr, Stmts, Function, function}
 use Rattle.script_grammar.specs.declared.node.NodeFunc.{NodeFunc}
 use Rattle.script_grammar.specs.declared.node.NodeFuncBody.TheVariants as bodies
 use Rattle.pure_parser.specs.Parser.{Recorded, Reply, head_of, after, ret, bad, when}
@@ -41,3 +48,9 @@ func_maps i shows shows_body e k n f h = (h.0, h.1, body_maps i shows shows_body
 -- a function that is given
 pub func_made : {E B : Type 0} {rs qs : List Recorded} {us : List Lexeme} {r : Reply Function} {f : Function} (i : Interpretation) (shows : E → Expr → Type 0) (shows_body : B → Stmts → Type 0) (n : NodeFunc E B) → ShowFunc i shows shows_body n f → ReadAs rs r f qs us → FuncOf i shows shows_body n (λ x. ReadAs rs r x qs us)
 func_made {rs = rs} {qs = qs} {us = us} {r = r} {f = f} i shows shows_body n h p = func_maps i shows shows_body n (λ x. f ≡ x) (λ x. ReadAs rs r x qs us) (λ x e. subst (λ y. ReadAs rs r y qs us) e p) h
+
+-- an arrow, by its body
+pub arrow_made : {E B : Type 0} {rs qs ps : List Recorded} {us : List Lexeme} {r : Reply BodyRead} {u : Reply Function} (i : Interpretation) (shows : E → Expr → Type 0) (shows_body : B → Stmts → Type 0) (v : ArrowBody E B) (h : Head) → ArrowBodyOf i shows shows_body h.start v (λ b. ReadAs rs r b qs us)
+    → ((b : BodyRead) → ReadAs rs r b qs us → ReadAs ps u (function_case form.Arrow None h b) qs us) → FuncBodyOf i shows shows_body h.start v.body (λ b. ReadAs ps u (function form.Arrow h.start v.end None (params_of h.params) h.comma h.bare b) qs us)
+arrow_made {rs = rs} {qs = qs} {ps = ps} {us = us} {r = r} {u = u} i shows shows_body v h x f =
+    body_maps i shows shows_body h.start v.body (λ b. (ending_as v.ending ≡ body_ending b) × ReadAs rs r (record { body = b; end = v.end }) qs us) (λ b. ReadAs ps u (function form.Arrow h.start v.end None (params_of h.params) h.comma h.bare b) qs us) (λ b y. f (record { body = b; end = v.end }) y.1) x

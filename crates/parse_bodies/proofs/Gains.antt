@@ -3,13 +3,14 @@ use Rattle.std.proofs.Common.{Bool, true, Option, Some, None, ◌∷◌}
 use Rattle.script_grammar.specs.declared.token.mark.TheConstants as mark
 use Rattle.script_grammar.specs.declared.token.word.TheConstants as word
 use Rattle.script_grammar.specs.Lexeme.{Lexeme}
-use Rattle.script_grammar.specs.Kinds.{is_mark, is_word}
+use Rattle.script_grammar.specs.Kinds.{is_mark, is_word, is_name}
 use Rattle.script_grammar.specs.TreeLists.{Bind, Clause}
 use Rattle.pure_parser.specs.Parser.{Parser, ret, bind, step, when, Turn, Again, Stop}
-use Rattle.pure_parser.specs.Exprs.{Env, again}
+use Rattle.pure_parser.specs.Exprs.{Env, AParam, ARest, Plain, Trailing, Rest, again}
 use Rattle.pure_parser.specs.Stmts as parser
 use Rattle.pure_parser.specs.Stmts.{AnItem, StmtCalls, Block}
-use Rattle.pure_parser.proofs.Local.{Local, local_ret, local_bind, local_peek, local_when, local_step, Gains, gains_peek, gains_step, moves_when, moves_eats, eats_bind}
+use Rattle.pure_parser.proofs.Local.{Local, local_ret, local_bad, local_bind, local_peek, local_when, local_step, Gains, gains_peek, gains_step, moves_when, moves_eats, eats_bind}
+use Rattle.pure_parser.proofs.LocalExprs.{LocalEnv}
 use Rattle.pure_parser.proofs.LocalStmts.{LocalUses, LocalStmts, LocalBlock, local_expect, local_name, local_stmts}
 
 module _ (stmt : StmtCalls) (s : LocalStmts stmt) where
@@ -63,3 +64,16 @@ module _ (b : Block) (l : LocalBlock b) (i : Bool) where
   clause_turn_gains = gains_peek (λ t. when (is_word word.CASE t.kind) (step (bind (parser.case_of b i) again)) (default_turn t)) tt
       (λ t ts. moves_when (step (bind (parser.case_of b i) again)) (default_turn t) (is_word word.CASE t.kind) t ts (gains_step (bind (parser.case_of b i) again) behind_case t ts)
       (moves_when (step (bind (parser.default_of b i) (λ c. ret (Stop (Some c))))) (ret (Stop None)) (is_word word.DEFAULT t.kind) t ts (gains_step (bind (parser.default_of b i) (λ c. ret (Stop (Some c)))) behind_default t ts) tt))
+
+module _ (v : Env) (l : LocalEnv v) where
+  strict_param_local : Local (parser.strict_param v)
+  unfolding parser.strict_param
+  strict_param_local = local_peek (λ t. local_when (is_mark mark.ELLIPSIS t.kind) (local_bind (l.at ARest) (λ n. local_ret (Stop (Rest n)))) (local_when (is_name t.kind) (local_bind (l.at AParam) (λ p. local_ret (Again p))) local_bad))
+
+  strict_next_local : Local (parser.strict_next v)
+  unfolding parser.strict_next
+  strict_next_local = local_peek (λ t. local_when (is_mark mark.CLOSE_PAREN t.kind) (local_ret (Stop Trailing)) strict_param_local)
+
+  pub strict_turn_gains : Gains (parser.strict_turn v)
+  unfolding parser.strict_turn
+  strict_turn_gains = gains_peek (λ t. when (is_mark mark.COMMA t.kind) (step (parser.strict_next v)) (ret (Stop Plain))) tt (λ t ts. moves_when _ _ (is_mark mark.COMMA t.kind) t ts (gains_step _ strict_next_local t ts) tt)

@@ -6,5 +6,6 @@ pub mod Gains
 pub mod Later
 pub mod Locals
 pub mod Names
+pub mod Params
 pub mod Parts
 pub mod Rooms

@@ -8,11 +8,15 @@
 //! A part that reads expressions or statements is stated over `block_at i depth` (specs/Blocks.antt), the parser of what
 //! stands inside so many nodes that count for the depth.
 //!
-//! So far it has what of statements holds neither expressions nor statements: words and semicolons that must stand, labels, a
-//! catch's parameter, `debugger`, `continue` and `break`, the ends of bodies and scripts, and the nodes and tests of the others;
-//! and the lemmas of scripts whose bodies are passed over and read later (proofs/Later.antt).
+//! All functions that lead back to `stmts::stmt` are one cycle, `stmts`. They end, since `stmt` reads what it holds one deeper,
+//! up to `DEPTH_LIMIT`, and the others call one another only downwards (proofs/+stmts/Invariants.antt has their ranks).
+//!
+//! `scripts` reads a whole script, a body that was passed over before, and a function alone. Arrows that are read alone take
+//! five functions from `stand_ins`, which have the contracts of those of parse_exprs and answer that memory ran out: as long
+//! as they stand there, `scripts::alone` reads no arrow.
 #![tactic(auto)]
 
+pub mod arrows;
 pub mod bindings;
 pub mod ending;
 pub mod kinds;
@@ -21,7 +25,9 @@ pub mod part;
 pub mod pieces;
 pub mod position;
 pub mod scripts;
+pub mod stand_ins;
 pub mod stmts;
+pub mod switch;
 pub mod values;
 pub mod whole;
 pub mod words;

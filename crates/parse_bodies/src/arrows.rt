@@ -11,7 +11,6 @@ ghost use Rattle.parse_exprs.specs.Env.{env_at};
 ghost use Rattle.parse_exprs.specs.Means.{TurnOf, ItemsOf, ParamsEndOf, ParamsOf};
 ghost use Rattle.parse_exprs.specs.Source.{IsSource};
 
-use crate::stand_ins::{arrow_body, bare, ended, param_call, rest_call};
 use parse_exprs::kinds;
 use parse_exprs::part::{Items, Params, ParamsEnd, Turned};
 use parse_exprs::place::ParseFault;
@@ -32,7 +31,7 @@ fn strict_param<H: Handler>(
     ensures { (i : Interpretation) → Reads (TurnOf (ParamOf i (H.shows_expr i)) (ParamsEndOf i)) (pure.strict_param (env_at i depth)) source.now i state.old.place state.new.place result }
 {
     if state.place.is_mark(source, mark::ELLIPSIS) {
-        let name = rest_call(state, source, depth)?;
+        let name = state.rest_call(source, depth)?;
         return Ok(Turned::Last(ParamsEnd::Rest(name)));
     }
     if !state.place.is_name(source) {
@@ -40,7 +39,7 @@ fn strict_param<H: Handler>(
             token: state.place.at,
         });
     }
-    let param = param_call(state, source, depth)?;
+    let param = state.param_call(source, depth)?;
     Ok(Turned::Next(param))
 }
 
@@ -135,7 +134,7 @@ fn strict_listed<H: Handler>(
 {
     let read = strict_params(state, source, depth)?;
     state.place.expect(source, mark::CLOSE_PAREN)?;
-    ended(state, start, read)
+    State::<H>::ended(start, read)
 }
 
 /// What stands before the mark of an arrow.
@@ -151,7 +150,7 @@ fn strict_head<H: Handler>(
     let token = state.place.token(source);
     if kinds::is_name(token.kind) {
         state.place.step(source);
-        return bare(state, token);
+        return state.bare(token);
     }
     if kinds::is_mark(token.kind, mark::OPEN_PAREN) {
         state.place.step(source);
@@ -174,7 +173,7 @@ pub fn arrow_alone<H: Handler>(
 {
     let head = strict_head(state, source, depth)?;
     state.place.arrow_mark(source)?;
-    let body = arrow_body(state, source, true, head.start, head.is_simple(), depth)?;
+    let body = state.arrow_body(source, true, head.start, head.is_simple(), depth)?;
     Ok(NodeFunc {
         form: FuncForm::Arrow,
         start: head.start,

@@ -11,9 +11,8 @@
 //! All functions that lead back to `stmts::stmt` are one cycle, `stmts`. They end, since `stmt` reads what it holds one deeper,
 //! up to `DEPTH_LIMIT`, and the others call one another only downwards (proofs/+stmts/Invariants.antt has their ranks).
 //!
-//! `scripts` reads a whole script, a body that was passed over before, and a function alone. Arrows that are read alone take
-//! five functions from `stand_ins`, which have the contracts of those of parse_exprs and answer that memory ran out: as long
-//! as they stand there, `scripts::alone` reads no arrow.
+//! `scripts` reads a script, a body that was passed over before, and a function alone. `whole::whole` reads a script with all
+//! bodies in it: its clause is in the words of the grammar (specs/Whole.antt).
 #![tactic(auto)]
 
 pub mod arrows;
@@ -25,7 +24,6 @@ pub mod part;
 pub mod pieces;
 pub mod position;
 pub mod scripts;
-pub mod stand_ins;
 pub mod stmts;
 pub mod switch;
 pub mod values;

@@ -47,10 +47,7 @@ fn pending_body<H: Handler>(
 
 /// A script and the bodies of all functions in it, or the first fault of all. Each body is read behind the one around it, and
 /// before what stands behind that; then all are pending, in this order.
-pub fn whole<H: Handler>(
-    state: &mut State<H>,
-    source: &Source,
-) -> Result<Script<H::B>, ParseFault>
+pub fn whole<H: Handler>(state: &mut State<H>, source: &Source) -> Result<Script<H::B>, ParseFault>
     requires source { IsSource source.now }
     requires start { state.old.place.at ≡ 0 }
     requires none { state.old.place.pending.items ≡ [] }

@@ -1,6 +1,6 @@
 use Rattle.std.proofs.Common.{◌∙◌, refl, None}
 use Rattle.script_grammar.specs.Shows.{FuncOf}
-use Rattle.parse_bodies.proofs.Params.{simple_same}
+use Rattle.parse_exprs.proofs.ParamParts.{simple_same}
 use Rattle.script_grammar.specs.declared.token.FuncForm.TheVariants as form
 use Rattle.pure_parser.specs.Exprs.{Head, function_case, arrow_body}
 use Rattle.parse_bodies.proofs.Alone.{arrow_made}
@@ -21,7 +21,7 @@ returns g c = λ i. let a = c.in_ok-head.ensures i in
 
 pub returns-in_err-body : goal.returns-in_err-body
 unfolding arrow_alone strict_body arrow_body
-returns-in_err-body g c = λ i. let s = c.args.source.now in let p = c.arrow_body.new.state.place in let e = c.in_err-body.field-0.0 in let a = c.in_ok-head.ensures i in
+returns-in_err-body g c = λ i. let s = c.args.source.now in let p = c.arrow_body.new.self.place in let e = c.in_err-body.field-0.0 in let a = c.in_ok-head.ensures i in
     let h : Head = record { start = c.in_ok-head.head.start; params = a.0; comma = c.in_ok-head.head.comma; bare = c.in_ok-head.head.bare } in
     handed s i p e c.from_residual-in_err-body.result (FuncOf i (g.H.Handler.shows_expr i) (g.H.Handler.shows_body i)) _ _ c.from_residual-in_err-body.ensures.1
     (refused_behind s i p e _ a.2 (refused_behind s i p e _ (c.in_ok-arrow_mark.ensures i) (refused s i p e _ _ _ (c.in_err-body.ensures i h refl (c.is_simple.ensures ∙ simple_same i (g.H.Handler.shows_expr i) _ a.0 a.1)))))

@@ -10,10 +10,13 @@ use Rattle.parse_bodies.proofs.whole.whole.Goals.{in-Ok+in_ok-push-in-Ok, in-Err
 use Rattle.parse_bodies.proofs.whole.whole.Goals as goal
 
 pub loop-init : goal.loop-init
-loop-init g c = (ap length c.new-read.ensures.items, λ i.
-    subst (Going (g.H.Handler.shows_body i) c.args.source.now i (script_reply c.args.source.now i) c.script-top.result)
-    (sym (ap (λ (w : List Pending). c.script-top.new.state.place.pending.items ++ reverse w) c.new-waiting.ensures.items ∙ append-nil c.script-top.new.state.place.pending.items))
-    (going_init (g.H.Handler.shows_body i) c.args.source.now i _ c.script-top.new.state.place c.script-top.result c.requires.start c.requires.none (c.script-top.ensures i)))
+loop-init g c = (
+  ap length c.new-read.ensures.items,
+  λ i.
+      subst (Going (g.H.Handler.shows_body i) c.args.source.now i (script_reply c.args.source.now i) c.script-top.result)
+      (sym (ap (λ (w : List Pending). c.script-top.new.state.place.pending.items ++ reverse w) c.new-waiting.ensures.items ∙ append-nil c.script-top.new.state.place.pending.items))
+      (going_init (g.H.Handler.shows_body i) c.args.source.now i _ c.script-top.new.state.place c.script-top.result c.requires.start c.requires.none (c.script-top.ensures i)),
+)
 
 pub returns-in_err-top : goal.returns-in_err-top
 returns-in_err-top g c = λ i.
@@ -31,18 +34,22 @@ returns-in_default g c = λ i.
     (subst (λ r. Going (g.H.Handler.shows_body i) c.args.source.now i (script_reply c.args.source.now i) r []) c.in_ok-top.was going)
 
 pub loop-preserved : goal.loop-preserved
-loop-preserved g c = (ap length c.in_ok-push.ensures.items ∙ length-append _ _ ∙ ap (λ n. n + 1) c.loop.invariant.0, λ i.
-    let s = c.args.source.now in
-    let shows = g.H.Handler.shows_body i in
-    let rest : List Pending = reverse c.pop.new.self.items in
-    let going = subst (Going shows s i (script_reply s i) c.loop.top) (next_ahead c.loop.state.place.pending.items c.loop.waiting.items _ _ c.pop.new.self.items c.in-Some.next c.reverse.ensures.items c.in_ok-append.ensures.items c.in-Some.ensures.items) (c.loop.invariant.1 i) in
-    let b = c.pending_body.ensures i in
-    elim c.match-pending_body.branch [
-      in-Ok+in_ok-push-in-Ok w ↦
-          subst (λ top. Going shows s i (script_reply s i) top (c.pending_body.new.state.place.pending.items ++ reverse c.match-pending_body.waiting.items)) (sym w.top-is)
-          (subst (λ (v : Vec Pending Global). Going shows s i (script_reply s i) c.loop.top (c.pending_body.new.state.place.pending.items ++ reverse v.items)) (sym w.waiting-is)
-          (going_read shows s i (script_reply s i) c.pending_body.new.state.place c.loop.top w.in-Ok.body c.in-Some.next rest (rw w.in-Ok.is at b) going))
-    | in-Err w ↦
-          subst (λ top. Going shows s i (script_reply s i) top (c.pending_body.new.state.place.pending.items ++ reverse c.match-pending_body.waiting.items)) (sym w.top-is)
-          (subst (λ (ps : List Pending). Going shows s i (script_reply s i) (Err w.in-Err.fault) ps) (sym (ap (λ (v : Vec Pending Global). c.pending_body.new.state.place.pending.items ++ reverse v.items) w.waiting-is ∙ ap (λ ps. c.pending_body.new.state.place.pending.items ++ reverse ps) w.clear.ensures.items ∙ append-nil c.pending_body.new.state.place.pending.items))
-          (going_faulty shows s i (script_reply s i) c.pending_body.new.state.place c.loop.top w.in-Err.fault c.in-Some.next rest (BodyOf shows) (sym c.lacks_memory.ensures ∙ c.if-lacks_memory.false) (rw w.in-Err.is at b) going)) ])
+loop-preserved g c = (
+  ap length c.in_ok-push.ensures.items ∙ length-append _ _ ∙ ap (λ n. n + 1) c.loop.invariant.0,
+  λ i.
+      let s = c.args.source.now in
+      let shows = g.H.Handler.shows_body i in
+      let rest : List Pending = reverse c.pop.new.self.items in
+      let going = subst (Going shows s i (script_reply s i) c.loop.top) (next_ahead c.loop.state.place.pending.items c.loop.waiting.items _ _ c.pop.new.self.items c.in-Some.next c.reverse.ensures.items c.in_ok-append.ensures.items c.in-Some.ensures.items) (c.loop.invariant.1 i) in
+      let b = c.pending_body.ensures i in
+      elim c.match-pending_body.branch [
+        | in-Ok+in_ok-push-in-Ok w ↦
+            subst (λ top. Going shows s i (script_reply s i) top (c.pending_body.new.state.place.pending.items ++ reverse c.match-pending_body.waiting.items)) (sym w.top-is)
+            (subst (λ (v : Vec Pending Global). Going shows s i (script_reply s i) c.loop.top (c.pending_body.new.state.place.pending.items ++ reverse v.items)) (sym w.waiting-is)
+            (going_read shows s i (script_reply s i) c.pending_body.new.state.place c.loop.top w.in-Ok.body c.in-Some.next rest (rw w.in-Ok.is at b) going))
+        | in-Err w ↦
+            subst (λ top. Going shows s i (script_reply s i) top (c.pending_body.new.state.place.pending.items ++ reverse c.match-pending_body.waiting.items)) (sym w.top-is)
+            (subst (λ (ps : List Pending). Going shows s i (script_reply s i) (Err w.in-Err.fault) ps) (sym (ap (λ (v : Vec Pending Global). c.pending_body.new.state.place.pending.items ++ reverse v.items) w.waiting-is ∙ ap (λ ps. c.pending_body.new.state.place.pending.items ++ reverse ps) w.clear.ensures.items ∙ append-nil c.pending_body.new.state.place.pending.items))
+            (going_faulty shows s i (script_reply s i) c.pending_body.new.state.place c.loop.top w.in-Err.fault c.in-Some.next rest (BodyOf shows) (sym c.lacks_memory.ensures ∙ c.if-lacks_memory.false) (rw w.in-Err.is at b) going))
+      ],
+)

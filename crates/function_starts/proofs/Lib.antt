@@ -1,0 +1,5 @@
+pub mod Finding
+pub mod KeepingLaws
+pub mod OwnBodies
+pub mod Starting
+pub mod WholeTrees

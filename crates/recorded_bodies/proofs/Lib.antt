@@ -1,3 +1,5 @@
 pub mod Lists
 pub mod ListedParts
 pub mod ListsExprs
+pub mod ListsCalls
+pub mod ListsStmts

@@ -160,6 +160,9 @@ module _ (judge : Recorded → Reply BodyRead) where
   pub lists_behind : {A B : Type 0} {K : A → B → Type 0} {pre : List Stmts → List Stmts} {w : Bodies A} {e : Parser A} {l : Parser B} (before : List Stmts → List Stmts) → Lists K pre w e l → Lists K (λ x. before (pre x)) (λ a x. before (w a x)) e l
   lists_behind {K = K} {pre = pre} {w = w} {e = e} {l = l} before m = record { at = λ ts. at_behind K before pre w (judged judge (records (l ts))) (e ts) (l ts) (m.at ts) }
 
+  pub lists_known : {A B : Type 0} {K : A → B → Type 0} {pre pre2 : List Stmts → List Stmts} {w : Bodies A} {e : Parser A} {l : Parser B} → ((x : List Stmts) → pre x ≡ pre2 x) → Lists K pre2 w e l → Lists K pre w e l
+  lists_known {K = K} {pre = pre} {pre2 = pre2} {w = w} {e = e} {l = l} h m = record { at = λ ts. at_same K pre pre2 w h (judged judge (records (l ts))) (e ts) (l ts) (m.at ts) }
+
   -- the same, where what is read first is known by itself
 
   pub lists_then : {A B A2 B2 : Type 0} {K : A → B → Type 0} {J : A2 → B2 → Type 0} {pre : List Stmts → List Stmts} {w : Bodies A} {w2 : Bodies A2} {e : Parser A} {l : Parser B} {f : A → Parser A2} {g : B → Parser B2} → Lists K as_is w e l → ((a : A) (b : B) → K a b → Lists J (λ r. pre (w a r)) w2 (f a) (g b)) → Lists J pre w2 (bind e f) (bind l g)

@@ -3,3 +3,4 @@ pub mod ListedParts
 pub mod ListsExprs
 pub mod ListsCalls
 pub mod ListsStmts
+pub mod ListsScripts

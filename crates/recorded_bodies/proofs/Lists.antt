@@ -37,17 +37,17 @@ abbrev pub in_many : {A X : Type 0} → Bodies A → Bodies X → Bodies (Many A
 in_many f g m r = in_list f m.items (g m.last r)
 
 -- a body that was read, before these
-abbrev pub in_read : Reply BodyRead → List Stmts → List Stmts
-in_read (Read b rs us) r = in_body false b.body r
-in_read (Bad rs us) r = r
-in_read (Deep rs us) r = r
+abbrev pub in_read : Bool → Reply BodyRead → List Stmts → List Stmts
+in_read nested (Read b rs us) r = in_body nested b.body r
+in_read nested (Bad rs us) r = r
+in_read nested (Deep rs us) r = r
 
--- over how a recorded body is read in place
-module _ (judge : Recorded → Reply BodyRead) where
+-- Over whether the bodies inside a body are wanted too, and how a recorded body is read in place.
+module _ (nested : Bool) (judge : Recorded → Reply BodyRead) where
   -- the recorded bodies, before these
   abbrev pub in_records : List Recorded → List Stmts → List Stmts
   in_records [] r = r
-  in_records (b ∷ rs) r = in_read (judge b) (in_records rs r)
+  in_records (b ∷ rs) r = in_read nested (judge b) (in_records rs r)
 
   -- The reply of the parser that reads in place, by the verdict on what the other recorded, and by its reply. Where both
   -- read, the bodies in what was read are those that were known before, and those that were recorded.
@@ -63,7 +63,7 @@ module _ (judge : Recorded → Reply BodyRead) where
 
   pub in_append : (rs qs : List Recorded) (r : List Stmts) → in_records (rs ++ qs) r ≡ in_records rs (in_records qs r)
   in_append [] qs r = refl
-  in_append (b ∷ rs) qs r = ap (in_read (judge b)) (in_append rs qs r)
+  in_append (b ∷ rs) qs r = ap (in_read nested (judge b)) (in_append rs qs r)
 
   records_noted : {B : Type 0} (rs : List Recorded) (s : Reply B) → records (noted rs s) ≡ rs ++ records s
   records_noted [] s = refl

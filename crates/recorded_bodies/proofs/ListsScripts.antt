@@ -26,11 +26,11 @@ use Rattle.recorded_bodies.proofs.ListsCalls.{case_lists, no_calls_lists}
 use Rattle.recorded_bodies.proofs.ListsStmts.{ListsBlock, in_inner, stmt_lists, reading_lists, script_lists}
 
 -- of parsers that agree, by what the second records where both read
-module _ {A B : Type 0} (K : A → B → Type 0) (w : Bodies A) (e : Parser A) (l : Parser B) where
-  from_agreed : Agrees body_in_place K e l → ((ts us : List Lexeme) (a : A) (b : B) (rs : List Recorded) → e ts ≡ Read a [] us → l ts ≡ Read b rs us → (r : List Stmts) → in_records body_in_place rs r ≡ w a r) → Lists body_in_place K as_is w e l
+module _ (nested : Bool) {A B : Type 0} (K : A → B → Type 0) (w : Bodies A) (e : Parser A) (l : Parser B) where
+  from_agreed : Agrees body_in_place K e l → ((ts us : List Lexeme) (a : A) (b : B) (rs : List Recorded) → e ts ≡ Read a [] us → l ts ≡ Read b rs us → (r : List Stmts) → in_records nested body_in_place rs r ≡ w a r) → Lists nested body_in_place K as_is w e l
   from_agreed m h = record { at = λ ts. by ts (judged body_in_place (records (l ts))) (l ts) refl (m.at ts) }
     where
-      by : (ts : List Lexeme) (v : Verdict) (s : Reply B) → l ts ≡ s → MeetsAt body_in_place K v (e ts) s → ListsAt body_in_place K as_is w v (e ts) s
+      by : (ts : List Lexeme) (v : Verdict) (s : Reply B) → l ts ≡ s → MeetsAt body_in_place K v (e ts) s → ListsAt nested body_in_place K as_is w v (e ts) s
       by ts fine (Read b rs us) k n = (n.0, n.1, n.2, h ts us n.0 b rs n.1 k)
       by ts fine (Bad rs us) k n = n
       by ts fine (Deep rs us) k n = n
@@ -83,10 +83,10 @@ same_reading : (stmt : StmtCalls) (f g : FuncForm) (x y : ℕ) (p q : Bool) (ts 
 unfolding reading
 same_reading stmt f g x y p q ts = refl
 
-module _ (bodies : ℕ → Body) (braced : (n : ℕ) → body_ending (bodies n) ≡ BracedArrow) where
+module _ (nested : Bool) (bodies : ℕ → Body) (braced : (n : ℕ) → body_ending (bodies n) ≡ BracedArrow) where
   -- a body
-  body_lists : (room : ℕ) (f : FuncForm) (start : ℕ) (simple simple2 : Bool) → Lists body_in_place (BodyK bodies start) as_is in_own (reading (everything in_place room).stmts f start simple) (passing bodies room f start simple2)
-  body_lists room f start simple simple2 = from_agreed (BodyK bodies start) in_own (reading e.stmts f start simple) (passing bodies room f start simple2) (body_agrees bodies braced room f start simple simple2 (λ ts. silent (reading_agrees bodies body_in_place e.stmts l.stmts (everything_agrees bodies braced room).stmts f f start start simple simple2) ts)) told
+  body_lists : (room : ℕ) (f : FuncForm) (start : ℕ) (simple simple2 : Bool) → Lists nested body_in_place (BodyK bodies start) as_is (in_own nested) (reading (everything in_place room).stmts f start simple) (passing bodies room f start simple2)
+  body_lists room f start simple simple2 = from_agreed nested (BodyK bodies start) (in_own nested) (reading e.stmts f start simple) (passing bodies room f start simple2) (body_agrees bodies braced room f start simple simple2 (λ ts. silent (reading_agrees bodies body_in_place e.stmts l.stmts (everything_agrees bodies braced room).stmts f f start start simple simple2) ts)) told
     where
       e : All
       e = everything in_place room
@@ -94,41 +94,41 @@ module _ (bodies : ℕ → Body) (braced : (n : ℕ) → body_ending (bodies n) 
       l : All
       l = everything (passed_over bodies) room
 
-      told : (ts us : List Lexeme) (a b : BodyRead) (rs : List Recorded) → reading (everything in_place room).stmts f start simple ts ≡ Read a [] us → passing bodies room f start simple2 ts ≡ Read b rs us → (r : List Stmts) → in_records body_in_place rs r ≡ in_own a r
+      told : (ts us : List Lexeme) (a b : BodyRead) (rs : List Recorded) → reading (everything in_place room).stmts f start simple ts ≡ Read a [] us → passing bodies room f start simple2 ts ≡ Read b rs us → (r : List Stmts) → in_records nested body_in_place rs r ≡ (in_own nested) a r
       told ts us a b rs h k r =
-          ap (λ x. in_records body_in_place x r) (recorded_once bodies room f start simple2 ts us b rs k)
-          ∙ ap (λ x. in_read x r) (same_reading (everything in_place room).stmts f f 0 start simple2 simple ts ∙ h)
+          ap (λ x. in_records nested body_in_place x r) (recorded_once bodies room f start simple2 ts us b rs k)
+          ∙ ap (λ x. in_read nested x r) (same_reading (everything in_place room).stmts f f 0 start simple2 simple ts ∙ h)
 
   -- all calls
 
   pub record ListsAll (a l : All) : Type 0 where
-    pub exprs : (c : Call) → Lists body_in_place (CallK bodies c) as_is (in_call c) (a.exprs c) (l.exprs c)
-    pub stmts : (p : Place) → Lists body_in_place (StmtK bodies) as_is (in_stmt false) (a.stmts p) (l.stmts p)
-    pub label : Lists body_in_place SameK as_is in_none a.label l.label
+    pub exprs : (c : Call) → Lists nested body_in_place (CallK bodies c) as_is (in_call nested c) (a.exprs c) (l.exprs c)
+    pub stmts : (p : Place) → Lists nested body_in_place (StmtK bodies) as_is (in_stmt nested) (a.stmts p) (l.stmts p)
+    pub label : Lists nested body_in_place SameK as_is in_none a.label l.label
 
   pub everything_lists : (room : ℕ) → ListsAll (everything in_place room) (everything (passed_over bodies) room)
   unfolding everything
   everything_lists zero = record {
-    exprs = no_calls_lists bodies body_in_place;
-    stmts = λ p. lists_no_room body_in_place (begins_stmt p);
-    label = lists_no_room body_in_place is_name;
+    exprs = no_calls_lists nested bodies body_in_place;
+    stmts = λ p. lists_no_room nested body_in_place (begins_stmt p);
+    label = lists_no_room nested body_in_place is_name;
   }
   everything_lists (suc room) =
       let a = everything_lists room in
       let e : All = everything in_place room in
       let l : All = everything (passed_over bodies) room in
-      let v : ListsEnv bodies body_in_place (env_of (in_place room e.stmts) e) (env_of (passed_over bodies room l.stmts) l) = record { sub = a.exprs; body = body_lists room } in
-      let k : ListsBlock bodies body_in_place (block_of (in_place room e.stmts) e) (block_of (passed_over bodies room l.stmts) l) = record { exprs = v; stmt = a.stmts; label = a.label } in
+      let v : ListsEnv nested bodies body_in_place (env_of (in_place room e.stmts) e) (env_of (passed_over bodies room l.stmts) l) = record { sub = a.exprs; body = body_lists room } in
+      let k : ListsBlock nested bodies body_in_place (block_of (in_place room e.stmts) e) (block_of (passed_over bodies room l.stmts) l) = record { exprs = v; stmt = a.stmts; label = a.label } in
       record {
-        exprs = case_lists bodies body_in_place (env_of (in_place room e.stmts) e) (env_of (passed_over bodies room l.stmts) l) v;
-        stmts = λ p. stmt_lists bodies body_in_place (block_of (in_place room e.stmts) e) (block_of (passed_over bodies room l.stmts) l) k p;
-        label = name_lists bodies body_in_place;
+        exprs = case_lists nested bodies body_in_place (env_of (in_place room e.stmts) e) (env_of (passed_over bodies room l.stmts) l) v;
+        stmts = λ p. stmt_lists nested bodies body_in_place (block_of (in_place room e.stmts) e) (block_of (passed_over bodies room l.stmts) l) k p;
+        label = name_lists nested bodies body_in_place;
       }
 
   -- scripts
-  pub scripts_list : (room : ℕ) → Lists body_in_place (StmtsK bodies) as_is (in_stmts false) (read_script room) (script_of (everything (passed_over bodies) room).stmts)
-  scripts_list room = script_lists bodies body_in_place (everything in_place room).stmts (everything (passed_over bodies) room).stmts (everything_lists room).stmts
+  pub scripts_list : (room : ℕ) → Lists nested body_in_place (StmtsK bodies) as_is (in_stmts nested) (read_script room) (script_of (everything (passed_over bodies) room).stmts)
+  scripts_list room = script_lists nested bodies body_in_place (everything in_place room).stmts (everything (passed_over bodies) room).stmts (everything_lists room).stmts
 
   -- a body whose own statements are read by both
-  pub own_bodies_list : (room : ℕ) (f : FuncForm) (start : ℕ) (simple : Bool) → Lists body_in_place (OwnK bodies) as_is in_inner (reading (everything in_place room).stmts f start simple) (reading (everything (passed_over bodies) room).stmts f start simple)
-  own_bodies_list room f start simple = reading_lists bodies body_in_place (everything in_place room).stmts (everything (passed_over bodies) room).stmts (everything_lists room).stmts f f start start simple simple
+  pub own_bodies_list : (room : ℕ) (f : FuncForm) (start : ℕ) (simple : Bool) → Lists nested body_in_place (OwnK bodies) as_is (in_inner nested) (reading (everything in_place room).stmts f start simple) (reading (everything (passed_over bodies) room).stmts f start simple)
+  own_bodies_list room f start simple = reading_lists nested bodies body_in_place (everything in_place room).stmts (everything (passed_over bodies) room).stmts (everything_lists room).stmts f f start start simple simple

@@ -5,7 +5,7 @@ use Rattle.script_grammar.specs.Tree.{Expr, Exprs, no_exprs, more_exprs, MaybeEx
 use Rattle.script_grammar.specs.Tree as tree
 use Rattle.pure_parser.specs.Filling.{fill, fill_exprs, fill_maybe, fill_args, fill_parts, fill_items, fill_operands, fill_tails, fill_tail, fill_key, fill_prop, fill_props, fill_function, fill_params, fill_body, fill_binds, fill_init, fill_each, fill_clauses, fill_stmt, fill_stmts, fill_else}
 use Rattle.function_starts.specs.Started.{Started, started, started_exprs, started_maybe, started_args, started_parts, started_items, started_operands, started_tails, started_tail, started_key, started_prop, started_props, started_function, started_params, started_body, started_binds, started_init, started_each, started_clauses, started_stmt, started_stmts, started_else}
-use Rattle.function_starts.specs.Own.{AllOf, HasOwn, Inside}
+use Rattle.function_starts.specs.Own.{AllOf, HasOwn}
 
 module _ (P : Started → Type 0) where
   pub first_of : (xs ys : List Started) → AllOf P (xs ++ ys) → AllOf P xs
@@ -15,10 +15,6 @@ module _ (P : Started → Type 0) where
   pub rest_of : (xs ys : List Started) → AllOf P (xs ++ ys) → AllOf P ys
   rest_of [] ys h = h
   rest_of (x ∷ xs) ys h = rest_of xs ys h.1
-
-  pub both_of : (xs ys : List Started) → AllOf P xs → AllOf P ys → AllOf P (xs ++ ys)
-  both_of [] ys h k = k
-  both_of (x ∷ xs) ys h k = (h.0, both_of xs ys h.1 k)
 
 module _ (bodies : ℕ → Body) where
   mutual
@@ -151,134 +147,3 @@ module _ (bodies : ℕ → Body) where
     pub same_body : (start : ℕ) (body : Body) → HasOwn bodies (record { start = start; body = body }) → AllOf (HasOwn bodies) (started_body body) → fill_body bodies start body ≡ body
     same_body start (tree.BracedBody items) own h = own
     same_body start (tree.ShortBody value) own h = ap (λ x. tree.ShortBody x) (same value h)
-
--- what holds of all functions of a tree holds of those inside each
-module _ (P : Started → Type 0) where
-  mutual
-    pub deep : (x : Expr) → AllOf P (started x) → AllOf (Inside P) (started x)
-    deep (tree.This at) h = tt
-    deep (tree.Name name) h = tt
-    deep (tree.Null at) h = tt
-    deep (tree.True at) h = tt
-    deep (tree.False at) h = tt
-    deep (tree.Number at value) h = tt
-    deep (tree.Str at end text) h = tt
-    deep (tree.Template at first parts) h = deep_parts parts h
-    deep (tree.Array at items comma) h = deep_items items h
-    deep (tree.Object at props comma) h = deep_props props h
-    deep (tree.Func at f) h = deep_function f h
-    deep (tree.Paren at inner) h = deep inner h
-    deep (tree.Chain head tails) h = both_of _ (started head) _ (deep head (first_of _ (started head) _ h)) (deep_tails tails (rest_of _ (started head) _ h))
-    deep (tree.New at callee args) h = both_of _ (started callee) _ (deep callee (first_of _ (started callee) _ h)) (deep_args args (rest_of _ (started callee) _ h))
-    deep (tree.Unary at op of is_word) h = deep of h
-    deep (tree.Update at op prefix of) h = deep of h
-    deep (tree.Binary first rest) h = both_of _ (started first) _ (deep first (first_of _ (started first) _ h)) (deep_operands rest (rest_of _ (started first) _ h))
-    deep (tree.Cond test then_value else_value) h = both_of _ (started test) _ (deep test (first_of _ (started test) _ h)) (both_of _ (started then_value) _ (deep then_value (first_of _ (started then_value) _ (rest_of _ (started test) _ h))) (deep else_value (rest_of _ (started then_value) _ (rest_of _ (started test) _ h))))
-    deep (tree.Assign op target value) h = both_of _ (started target) _ (deep target (first_of _ (started target) _ h)) (deep value (rest_of _ (started target) _ h))
-    deep (tree.Comma items) h = deep_exprs items h
-
-    pub deep_exprs : (x : Exprs) → AllOf P (started_exprs x) → AllOf (Inside P) (started_exprs x)
-    deep_exprs no_exprs h = tt
-    deep_exprs (more_exprs e es) h = both_of _ (started e) _ (deep e (first_of _ (started e) _ h)) (deep_exprs es (rest_of _ (started e) _ h))
-
-    pub deep_maybe : (x : MaybeExpr) → AllOf P (started_maybe x) → AllOf (Inside P) (started_maybe x)
-    deep_maybe no_expr h = tt
-    deep_maybe (some_expr e) h = deep e h
-
-    pub deep_args : (x : MaybeArgs) → AllOf P (started_args x) → AllOf (Inside P) (started_args x)
-    deep_args no_args h = tt
-    deep_args (some_args es comma) h = deep_exprs es h
-
-    pub deep_parts : (x : Parts) → AllOf P (started_parts x) → AllOf (Inside P) (started_parts x)
-    deep_parts no_parts h = tt
-    deep_parts (more_parts value behind rest) h = both_of _ (started value) _ (deep value (first_of _ (started value) _ h)) (deep_parts rest (rest_of _ (started value) _ h))
-
-    pub deep_items : (x : Items) → AllOf P (started_items x) → AllOf (Inside P) (started_items x)
-    deep_items no_items h = tt
-    deep_items (more_items i is) h = both_of _ (started_maybe i) _ (deep_maybe i (first_of _ (started_maybe i) _ h)) (deep_items is (rest_of _ (started_maybe i) _ h))
-
-    pub deep_operands : (x : Operands) → AllOf P (started_operands x) → AllOf (Inside P) (started_operands x)
-    deep_operands no_operands h = tt
-    deep_operands (more_operands op is_word value rest) h = both_of _ (started value) _ (deep value (first_of _ (started value) _ h)) (deep_operands rest (rest_of _ (started value) _ h))
-
-    pub deep_tails : (x : Tails) → AllOf P (started_tails x) → AllOf (Inside P) (started_tails x)
-    deep_tails no_tails h = tt
-    deep_tails (more_tails t ts) h = both_of _ (started_tail t) _ (deep_tail t (first_of _ (started_tail t) _ h)) (deep_tails ts (rest_of _ (started_tail t) _ h))
-
-    pub deep_tail : (x : Tail) → AllOf P (started_tail x) → AllOf (Inside P) (started_tail x)
-    deep_tail (tree.Dot text) h = tt
-    deep_tail (tree.Index e) h = deep e h
-    deep_tail (tree.Call es comma) h = deep_exprs es h
-
-    pub deep_key : (x : Key) → AllOf P (started_key x) → AllOf (Inside P) (started_key x)
-    deep_key (tree.WordKey n) h = tt
-    deep_key (tree.StrKey n) h = tt
-    deep_key (tree.NumberKey at value) h = tt
-    deep_key (tree.ComputedKey e) h = deep e h
-
-    pub deep_prop : (x : Prop) → AllOf P (started_prop x) → AllOf (Inside P) (started_prop x)
-    deep_prop (tree.Short n) h = tt
-    deep_prop (tree.Pair key value) h = both_of _ (started_key key) _ (deep_key key (first_of _ (started_key key) _ h)) (deep value (rest_of _ (started_key key) _ h))
-    deep_prop (tree.Method key f) h = both_of _ (started_key key) _ (deep_key key (first_of _ (started_key key) _ h)) (deep_function f (rest_of _ (started_key key) _ h))
-    deep_prop (tree.Get key f) h = both_of _ (started_key key) _ (deep_key key (first_of _ (started_key key) _ h)) (deep_function f (rest_of _ (started_key key) _ h))
-    deep_prop (tree.Set key f) h = both_of _ (started_key key) _ (deep_key key (first_of _ (started_key key) _ h)) (deep_function f (rest_of _ (started_key key) _ h))
-
-    pub deep_props : (x : Props) → AllOf P (started_props x) → AllOf (Inside P) (started_props x)
-    deep_props no_props h = tt
-    deep_props (more_props p ps) h = both_of _ (started_prop p) _ (deep_prop p (first_of _ (started_prop p) _ h)) (deep_props ps (rest_of _ (started_prop p) _ h))
-
-    pub deep_function : (x : Function) → AllOf P (started_function x) → AllOf (Inside P) (started_function x)
-    deep_function (function form start end name params comma bare body) h = (rest_of _ (started_params params) _ h.1, both_of _ (started_params params) _ (deep_params params (first_of _ (started_params params) _ h.1)) (deep_body body (rest_of _ (started_params params) _ h.1)))
-
-    pub deep_params : (x : Params) → AllOf P (started_params x) → AllOf (Inside P) (started_params x)
-    deep_params no_params h = tt
-    deep_params (more_params name value rest ps) h = both_of _ (started_maybe value) _ (deep_maybe value (first_of _ (started_maybe value) _ h)) (deep_params ps (rest_of _ (started_maybe value) _ h))
-
-    pub deep_body : (x : Body) → AllOf P (started_body x) → AllOf (Inside P) (started_body x)
-    deep_body (tree.BracedBody items) h = deep_stmts items h
-    deep_body (tree.ShortBody value) h = deep value h
-
-    pub deep_binds : (x : Binds) → AllOf P (started_binds x) → AllOf (Inside P) (started_binds x)
-    deep_binds no_binds h = tt
-    deep_binds (more_binds name value bs) h = both_of _ (started_maybe value) _ (deep_maybe value (first_of _ (started_maybe value) _ h)) (deep_binds bs (rest_of _ (started_maybe value) _ h))
-
-    pub deep_init : (x : Init) → AllOf P (started_init x) → AllOf (Inside P) (started_init x)
-    deep_init tree.NoInit h = tt
-    deep_init (tree.ValueInit e) h = deep e h
-    deep_init (tree.BindsInit decl bs) h = deep_binds bs h
-
-    pub deep_each : (x : Each) → AllOf P (started_each x) → AllOf (Inside P) (started_each x)
-    deep_each (tree.TargetEach e) h = deep e h
-    deep_each (tree.BindEach decl name) h = tt
-
-    pub deep_clauses : (x : Clauses) → AllOf P (started_clauses x) → AllOf (Inside P) (started_clauses x)
-    deep_clauses no_clauses h = tt
-    deep_clauses (more_clauses test items cs) h = both_of _ (started_maybe test) _ (deep_maybe test (first_of _ (started_maybe test) _ h)) (both_of _ (started_stmts items) _ (deep_stmts items (first_of _ (started_stmts items) _ (rest_of _ (started_maybe test) _ h))) (deep_clauses cs (rest_of _ (started_stmts items) _ (rest_of _ (started_maybe test) _ h))))
-
-    pub deep_stmt : (x : Stmt) → AllOf P (started_stmt x) → AllOf (Inside P) (started_stmt x)
-    deep_stmt (tree.Block items) h = deep_stmts items h
-    deep_stmt tree.Empty h = tt
-    deep_stmt (tree.Debugger semi) h = tt
-    deep_stmt (tree.Binding decl bs semi) h = deep_binds bs h
-    deep_stmt (tree.Value e semi) h = deep e h
-    deep_stmt (tree.If test then_stmt else_stmt) h = both_of _ (started test) _ (deep test (first_of _ (started test) _ h)) (both_of _ (started_stmt then_stmt) _ (deep_stmt then_stmt (first_of _ (started_stmt then_stmt) _ (rest_of _ (started test) _ h))) (deep_else else_stmt (rest_of _ (started_stmt then_stmt) _ (rest_of _ (started test) _ h))))
-    deep_stmt (tree.Do body test semi) h = both_of _ (started_stmt body) _ (deep_stmt body (first_of _ (started_stmt body) _ h)) (deep test (rest_of _ (started_stmt body) _ h))
-    deep_stmt (tree.While test body) h = both_of _ (started test) _ (deep test (first_of _ (started test) _ h)) (deep_stmt body (rest_of _ (started test) _ h))
-    deep_stmt (tree.For init test update body) h = both_of _ (started_init init) _ (deep_init init (first_of _ (started_init init) _ h)) (both_of _ (started_maybe test) _ (deep_maybe test (first_of _ (started_maybe test) _ (rest_of _ (started_init init) _ h))) (both_of _ (started_maybe update) _ (deep_maybe update (first_of _ (started_maybe update) _ (rest_of _ (started_maybe test) _ (rest_of _ (started_init init) _ h)))) (deep_stmt body (rest_of _ (started_maybe update) _ (rest_of _ (started_maybe test) _ (rest_of _ (started_init init) _ h))))))
-    deep_stmt (tree.ForIn each over body) h = both_of _ (started_each each) _ (deep_each each (first_of _ (started_each each) _ h)) (both_of _ (started over) _ (deep over (first_of _ (started over) _ (rest_of _ (started_each each) _ h))) (deep_stmt body (rest_of _ (started over) _ (rest_of _ (started_each each) _ h))))
-    deep_stmt (tree.Continue at label semi) h = tt
-    deep_stmt (tree.Break at label semi) h = tt
-    deep_stmt (tree.Return value semi) h = deep_maybe value h
-    deep_stmt (tree.Throw e semi) h = deep e h
-    deep_stmt (tree.Switch of cs) h = both_of _ (started of) _ (deep of (first_of _ (started of) _ h)) (deep_clauses cs (rest_of _ (started of) _ h))
-    deep_stmt (tree.Label name body) h = deep_stmt body h
-    deep_stmt (tree.Try body param handler) h = both_of _ (started_stmts body) _ (deep_stmts body (first_of _ (started_stmts body) _ h)) (deep_stmts handler (rest_of _ (started_stmts body) _ h))
-    deep_stmt (tree.Declared f) h = deep_function f h
-
-    pub deep_stmts : (x : Stmts) → AllOf P (started_stmts x) → AllOf (Inside P) (started_stmts x)
-    deep_stmts no_stmts h = tt
-    deep_stmts (more_stmts s ss) h = both_of _ (started_stmt s) _ (deep_stmt s (first_of _ (started_stmt s) _ h)) (deep_stmts ss (rest_of _ (started_stmt s) _ h))
-
-    pub deep_else : (x : MaybeStmt) → AllOf P (started_else x) → AllOf (Inside P) (started_else x)
-    deep_else no_stmt h = tt
-    deep_else (some_stmt s) h = deep_stmt s h

@@ -4,11 +4,13 @@ use Rattle.script_grammar.specs.Lexeme.{Lexeme}
 use Rattle.script_grammar.specs.Script.{IsScript}
 use Rattle.script_grammar.specs.Tree.{Body, BracedBody, ShortBody, Stmts}
 use Rattle.pure_parser.specs.Filling.{fill_stmts}
-use Rattle.function_starts.specs.Started.{Started, started_stmts, started_body}
-use Rattle.function_starts.specs.Own.{AllOf, HasOwn, Inside, TokensRise, StartsRise, stmts_in, stmts_at}
+use Rattle.recorded_bodies.specs.Braced.{braced_all}
+use Rattle.function_starts.specs.Started.{Started, started_stmts}
+use Rattle.function_starts.specs.Own.{AllOf, HasOwn, IsFilled, TokensRise, StartsRise, stmts_in, stmts_at}
 use Rattle.function_starts.proofs.Finding.{starts_rise, all_found, found}
 use Rattle.function_starts.proofs.Starting.{keeps_stmts}
-use Rattle.function_starts.proofs.OwnBodies.{same_stmts, deep_stmts}
+use Rattle.function_starts.proofs.OwnBodies.{same_stmts}
+use Rattle.function_starts.proofs.OwnInside.{own_in_stmts}
 
 -- the functions of a script start in the order of the source, no two at one offset
 pub script_starts_rise : (w : List Lexeme) (next : Lexeme) (items : Stmts) (from : ℕ) → IsScript w next items → TokensRise from w → StartsRise from (started_stmts items)
@@ -33,18 +35,6 @@ all_own w next items from s r = own_of_found (started_stmts items) (started_stmt
 pub script_is_own : (w : List Lexeme) (next : Lexeme) (items : Stmts) (from : ℕ) → IsScript w next items → TokensRise from w → fill_stmts (own_bodies items) items ≡ items
 script_is_own w next items from s r = same_stmts (own_bodies items) items (all_own w next items from s r)
 
--- a function whose body in braces has its own bodies
-abbrev pub IsOwn : (ℕ → Body) → Started → Type 0
-IsOwn bodies f = elim f.body [ BracedBody items ↦ fill_stmts bodies items ≡ items | ShortBody value ↦ Unit {0} ]
-
-own_inside : (bodies : ℕ → Body) (fs : List Started) → AllOf (Inside (HasOwn bodies)) fs → AllOf (IsOwn bodies) fs
-own_inside bodies [] h = tt
-own_inside bodies (f ∷ fs) h = (by f.start f.body h.0, own_inside bodies fs h.1)
-  where
-    by : (start : ℕ) (body : Body) → AllOf (HasOwn bodies) (started_body body) → IsOwn bodies (record { start = start; body = body })
-    by start (BracedBody items) k = same_stmts bodies items k
-    by start (ShortBody value) k = tt
-
 -- and so are the bodies of all functions in it
-pub bodies_are_own : (w : List Lexeme) (next : Lexeme) (items : Stmts) (from : ℕ) → IsScript w next items → TokensRise from w → AllOf (IsOwn (own_bodies items)) (started_stmts items)
-bodies_are_own w next items from s r = own_inside (own_bodies items) (started_stmts items) (deep_stmts (HasOwn (own_bodies items)) items (all_own w next items from s r))
+pub bodies_are_own : (w : List Lexeme) (next : Lexeme) (items : Stmts) (from : ℕ) → IsScript w next items → TokensRise from w → AllOf (IsFilled (own_bodies items)) (braced_all items)
+bodies_are_own w next items from s r = own_in_stmts (own_bodies items) items [] (all_own w next items from s r) tt

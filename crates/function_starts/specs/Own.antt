@@ -2,7 +2,8 @@
 use Rattle.std.specs.Prelude.{ℕ, List, [], ◌∷◌, ◌≡◌, ◌≤◌, suc, nat_eq, cond}
 use Rattle.script_grammar.specs.Lexeme.{Lexeme}
 use Rattle.script_grammar.specs.Tree.{Body, BracedBody, ShortBody, Stmts, no_stmts}
-use Rattle.function_starts.specs.Started.{Started, started_body}
+use Rattle.pure_parser.specs.Filling.{fill_stmts}
+use Rattle.function_starts.specs.Started.{Started}
 
 abbrev pub AllOf : {X : Type 0} → (X → Type 0) → List X → Type 0
 AllOf P [] = Unit {0}
@@ -12,9 +13,9 @@ AllOf P (x ∷ xs) = P x × AllOf P xs
 abbrev pub HasOwn : (ℕ → Body) → Started → Type 0
 HasOwn bodies f = elim f.body [ BracedBody items ↦ bodies f.start ≡ BracedBody items | ShortBody value ↦ Unit {0} ]
 
--- so it is with all functions inside this one's body
-abbrev pub Inside : (Started → Type 0) → Started → Type 0
-Inside P f = AllOf P (started_body f.body)
+-- statements whose outermost functions have the bodies that are given for their starts
+abbrev pub IsFilled : (ℕ → Body) → Stmts → Type 0
+IsFilled bodies items = fill_stmts bodies items ≡ items
 
 -- tokens whose starts rise, from this offset on
 abbrev pub TokensRise : ℕ → List Lexeme → Type 0

@@ -1,0 +1,6 @@
+pub mod Lists
+pub mod ListedParts
+pub mod ListsExprs
+pub mod ListsCalls
+pub mod ListsStmts
+pub mod ListsScripts

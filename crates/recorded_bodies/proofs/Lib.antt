@@ -4,3 +4,5 @@ pub mod ListsExprs
 pub mod ListsCalls
 pub mod ListsStmts
 pub mod ListsScripts
+pub mod InOrder
+pub mod Later

@@ -9,19 +9,19 @@ use Rattle.script_grammar.specs.Tree.{Body, Stmts}
 use Rattle.script_grammar.specs.Pieces.{Opener, brace, open_behind, BracedArrow}
 use Rattle.script_grammar.specs.Endings.{body_ending}
 use Rattle.pure_parser.specs.Parser.{Recorded, Reply, Read, Bad, Deep, Parser, head_of, put_before, after, ret}
-use Rattle.pure_parser.specs.Exprs.{Call, BodyRead, pass_case, pass_over, passed_body, passing}
+use Rattle.pure_parser.specs.Exprs.{Call, AnAssign, BodyRead, expr_of, pass_case, pass_over, passed_body, passing}
 use Rattle.pure_parser.specs.Stmts.{Place, StmtCalls, All, env_of, block_of, everything, in_place, reading, script_of, read_script, begins_stmt}
 use Rattle.pure_parser.proofs.Tests.{bool_cases}
 use Rattle.pure_parser.proofs.Passing.{record_at, passed_reply, passing_here, passing_no}
 use Rattle.pure_parser.proofs.Agrees.{Verdict, fine, bad_at, deep_at, judged, records, MeetsAt, Agrees}
-use Rattle.pure_parser.proofs.Alike.{SameK, BodyK, StmtK}
+use Rattle.pure_parser.proofs.Alike.{SameK, BodyK, ExprK, StmtK}
 use Rattle.pure_parser.proofs.AgreesExprs.{CallK}
 use Rattle.pure_parser.proofs.AgreesStmts.{StmtsK, OwnK, reading_agrees}
 use Rattle.pure_parser.proofs.AgreesScripts.{body_in_place, passed_over, silent, body_agrees, everything_agrees}
-use Rattle.recorded_bodies.specs.Braced.{in_stmt, in_stmts}
+use Rattle.recorded_bodies.specs.Braced.{in_expr, in_stmt, in_stmts}
 use Rattle.recorded_bodies.proofs.Lists.{Bodies, as_is, in_none, in_read, in_records, ListsAt, Lists, lists_no_room}
 use Rattle.recorded_bodies.proofs.ListedParts.{in_own}
-use Rattle.recorded_bodies.proofs.ListsExprs.{ListsEnv, in_call, name_lists}
+use Rattle.recorded_bodies.proofs.ListsExprs.{ListsEnv, in_call, name_lists, expr_lists}
 use Rattle.recorded_bodies.proofs.ListsCalls.{case_lists, no_calls_lists}
 use Rattle.recorded_bodies.proofs.ListsStmts.{ListsBlock, in_inner, stmt_lists, reading_lists, script_lists}
 
@@ -125,6 +125,10 @@ module _ (nested : Bool) (bodies : ℕ → Body) (braced : (n : ℕ) → body_en
         label = name_lists nested bodies body_in_place;
       }
 
+  -- what expressions are read by
+  pub env_lists : (room : ℕ) → ListsEnv nested bodies body_in_place (env_of (in_place room (everything in_place room).stmts) (everything in_place room)) (env_of (passed_over bodies room (everything (passed_over bodies) room).stmts) (everything (passed_over bodies) room))
+  env_lists room = record { sub = (everything_lists room).exprs; body = body_lists room }
+
   -- scripts
   pub scripts_list : (room : ℕ) → Lists nested body_in_place (StmtsK bodies) as_is (in_stmts nested) (read_script room) (script_of (everything (passed_over bodies) room).stmts)
   scripts_list room = script_lists nested bodies body_in_place (everything in_place room).stmts (everything (passed_over bodies) room).stmts (everything_lists room).stmts
@@ -132,3 +136,11 @@ module _ (nested : Bool) (bodies : ℕ → Body) (braced : (n : ℕ) → body_en
   -- a body whose own statements are read by both
   pub own_bodies_list : (room : ℕ) (f : FuncForm) (start : ℕ) (simple : Bool) → Lists nested body_in_place (OwnK bodies) as_is (in_inner nested) (reading (everything in_place room).stmts f start simple) (reading (everything (passed_over bodies) room).stmts f start simple)
   own_bodies_list room f start simple = reading_lists nested bodies body_in_place (everything in_place room).stmts (everything (passed_over bodies) room).stmts (everything_lists room).stmts f f start start simple simple
+
+  -- an AssignmentExpression and an Expression, with or without the operator `in`
+
+  pub assign_list : (room : ℕ) (w : Bool) → Lists nested body_in_place (ExprK bodies) as_is (in_expr nested) ((everything in_place room).exprs (AnAssign w)) ((everything (passed_over bodies) room).exprs (AnAssign w))
+  assign_list room w = (everything_lists room).exprs (AnAssign w)
+
+  pub expr_list : (room : ℕ) (w : Bool) → Lists nested body_in_place (ExprK bodies) as_is (in_expr nested) (expr_of (env_of (in_place room (everything in_place room).stmts) (everything in_place room)) w) (expr_of (env_of (passed_over bodies room (everything (passed_over bodies) room).stmts) (everything (passed_over bodies) room)) w)
+  expr_list room w = expr_lists nested bodies body_in_place _ _ (env_lists room) w

@@ -78,9 +78,9 @@ module _ (bodies : ℕ → Body) (braced : (n : ℕ) → body_ending (bodies n) 
       let d = g items vs r (before_fine c) in
       let k : OwnK bodies n.0 (record { body = tree.BracedBody given; end = end }) = n.2 in
       let inner : (x : List Stmts) → in_read true (body_in_place b) (in_records true body_in_place rest x) ≡ k.items ∷ in_records true body_in_place (qs ++ rest) x = λ x.
-          ap (λ y. in_read true y (in_records true body_in_place rest x)) n.1
-          ∙ ap (λ y. in_body true y (in_records true body_in_place rest x)) k.first
-          ∙ ap (λ y. k.items ∷ y) (ap (λ y. in_inside true y (in_records true body_in_place rest x)) (sym k.first) ∙ sym (n.3 (in_records true body_in_place rest x)) ∙ sym (in_append true body_in_place qs rest x)) in
+      ap (λ y. in_read true y (in_records true body_in_place rest x)) n.1
+      ∙ ap (λ y. in_body true y (in_records true body_in_place rest x)) k.first
+      ∙ ap (λ y. k.items ∷ y) (ap (λ y. in_inside true y (in_records true body_in_place rest x)) (sym k.first) ∙ sym (n.3 (in_records true body_in_place rest x)) ∙ sym (in_append true body_in_place qs rest x)) in
       record {
         trees = d.trees ++ k.items ∷ [];
         shown = subst (ShowAll shows (nodes ++ node ∷ [])) (sym (map_more (fill_stmts bodies) d.trees k.items)) (show_more shows nodes (map (fill_stmts bodies) d.trees) node (fill_stmts bodies k.items) d.shown (subst (shows node) (braced_items given (fill_stmts bodies k.items) k.second) s));

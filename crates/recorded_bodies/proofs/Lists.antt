@@ -163,6 +163,16 @@ module _ (nested : Bool) (judge : Recorded → Reply BodyRead) where
   pub lists_known : {A B : Type 0} {K : A → B → Type 0} {pre pre2 : List Stmts → List Stmts} {w : Bodies A} {e : Parser A} {l : Parser B} → ((x : List Stmts) → pre x ≡ pre2 x) → Lists K pre2 w e l → Lists K pre w e l
   lists_known {K = K} {pre = pre} {pre2 = pre2} {w = w} {e = e} {l = l} h m = record { at = λ ts. at_same K pre pre2 w h (judged judge (records (l ts))) (e ts) (l ts) (m.at ts) }
 
+  at_looser : {A B : Type 0} (K J : A → B → Type 0) (pre : List Stmts → List Stmts) (w : Bodies A) → ((a : A) (b : B) → K a b → J a b) → (v : Verdict) (r : Reply A) (s : Reply B) → ListsAt K pre w v r s → ListsAt J pre w v r s
+  at_looser K J pre w h fine r (Read b rs us) m = (m.0, m.1, h m.0 b m.2, m.3)
+  at_looser K J pre w h fine r (Bad rs us) m = m
+  at_looser K J pre w h fine r (Deep rs us) m = m
+  at_looser K J pre w h (bad_at vs) r s m = m
+  at_looser K J pre w h (deep_at vs) r s m = m
+
+  pub lists_map : {A B : Type 0} {K J : A → B → Type 0} {pre : List Stmts → List Stmts} {w : Bodies A} {e : Parser A} {l : Parser B} → ((a : A) (b : B) → K a b → J a b) → Lists K pre w e l → Lists J pre w e l
+  lists_map {K = K} {J = J} {pre = pre} {w = w} {e = e} {l = l} h m = record { at = λ ts. at_looser K J pre w h (judged judge (records (l ts))) (e ts) (l ts) (m.at ts) }
+
   -- the same, where what is read first is known by itself
 
   pub lists_then : {A B A2 B2 : Type 0} {K : A → B → Type 0} {J : A2 → B2 → Type 0} {pre : List Stmts → List Stmts} {w : Bodies A} {w2 : Bodies A2} {e : Parser A} {l : Parser B} {f : A → Parser A2} {g : B → Parser B2} → Lists K as_is w e l → ((a : A) (b : B) → K a b → Lists J (λ r. pre (w a r)) w2 (f a) (g b)) → Lists J pre w2 (bind e f) (bind l g)

@@ -85,7 +85,7 @@ same_reading stmt f g x y p q ts = refl
 
 module _ (nested : Bool) (bodies : ℕ → Body) (braced : (n : ℕ) → body_ending (bodies n) ≡ BracedArrow) where
   -- a body
-  body_lists : (room : ℕ) (f : FuncForm) (start : ℕ) (simple simple2 : Bool) → Lists nested body_in_place (BodyK bodies start) as_is (in_own nested) (reading (everything in_place room).stmts f start simple) (passing bodies room f start simple2)
+  pub body_lists : (room : ℕ) (f : FuncForm) (start : ℕ) (simple simple2 : Bool) → Lists nested body_in_place (BodyK bodies start) as_is (in_own nested) (reading (everything in_place room).stmts f start simple) (passing bodies room f start simple2)
   body_lists room f start simple simple2 = from_agreed nested (BodyK bodies start) (in_own nested) (reading e.stmts f start simple) (passing bodies room f start simple2) (body_agrees bodies braced room f start simple simple2 (λ ts. silent (reading_agrees bodies body_in_place e.stmts l.stmts (everything_agrees bodies braced room).stmts f f start start simple simple2) ts)) told
     where
       e : All

@@ -1,34 +1,36 @@
 -- The recorded bodies one for one: where a parser reads that passes bodies over, and none of the bodies that it recorded has a
 -- fault, the k-th of them, read in place, is the k-th braced body of what the parser reads that reads bodies in place.
-use Rattle.std.proofs.Common.{◌≡◌, ℕ, List, [], ◌∷◌, refl, sym, ap, ◌∙◌, subst, Bool, true, false}
+use Rattle.std.proofs.Common.{◌≡◌, ℕ, List, [], ◌∷◌, refl, sym, ap, ◌∙◌, subst, Bool, true, false, Option}
 use Rattle.script_grammar.specs.Lexeme.{Lexeme}
-use Rattle.script_grammar.specs.Tree.{Expr, Body, Stmts, no_stmts}
+use Rattle.script_grammar.specs.Tree.{Named, Expr, Body, Function, Stmts, no_stmts}
 use Rattle.script_grammar.specs.Tree as tree
 use Rattle.script_grammar.specs.Pieces.{whole, BracedArrow}
 use Rattle.script_grammar.specs.Endings.{body_ending}
 use Rattle.script_grammar.specs.Fault.{depth_limit}
 use Rattle.pure_parser.specs.Parser.{Recorded, Reply, Read, Bad, Deep, Parser}
 use Rattle.script_grammar.specs.declared.token.FuncForm.{FuncForm}
-use Rattle.pure_parser.specs.Exprs.{BodyRead}
-use Rattle.pure_parser.specs.Stmts.{everything, in_place, read_script}
+use Rattle.pure_parser.specs.Exprs.{BodyRead, function_of}
+use Rattle.pure_parser.specs.Stmts.{everything, in_place, read_script, read_alone}
 use Rattle.pure_parser.proofs.Friendly.{Inside}
 use Rattle.pure_parser.proofs.Complete.{bare}
 use Rattle.pure_parser.proofs.Sound.{Outcome}
 use Rattle.pure_parser.proofs.SoundParts.{IsBraced}
 use Rattle.pure_parser.proofs.SoundEverything.{in_place_sound, reading_sound}
 use Rattle.pure_parser.proofs.Agrees.{Verdict, fine, bad_at, deep_at, or_else, judged, records}
-use Rattle.pure_parser.proofs.Alike.{ExprK}
+use Rattle.pure_parser.proofs.Alike.{ExprK, FunctionK}
 use Rattle.pure_parser.proofs.AgreesStmts.{StmtsK, OwnK}
 use Rattle.pure_parser.proofs.AgreesScripts.{body_in_place, passed_over, silent, own_bodies_agree}
+use Rattle.pure_parser.proofs.AgreesAlone.{AloneK}
 use Rattle.pure_parser.proofs.PassedLaws.{pass_script}
 use Rattle.pure_parser.proofs.PassingLaws.{AreBraced}
 use Rattle.pure_parser.proofs.PassedBodies.{pass_braced}
-use Rattle.pure_parser.proofs.PassedParts.{pass_assign, pass_expression}
-use Rattle.pure_parser.proofs.AloneLaws.{read_assign, read_expression, read_braced}
-use Rattle.recorded_bodies.specs.Braced.{in_expr, in_body, in_stmts, braced_in}
+use Rattle.pure_parser.proofs.PassedParts.{pass_env, pass_assign, pass_expression}
+use Rattle.pure_parser.proofs.AloneLaws.{env_with, read_assign, read_expression, read_braced}
+use Rattle.recorded_bodies.specs.Braced.{in_expr, in_function, in_body, in_stmts, braced_in}
 use Rattle.recorded_bodies.proofs.Lists.{Bodies, as_is, in_read, in_records, ListsAt, Lists}
 use Rattle.recorded_bodies.proofs.ListsStmts.{in_inner}
-use Rattle.recorded_bodies.proofs.ListsScripts.{scripts_list, own_bodies_list, assign_list, expr_list}
+use Rattle.recorded_bodies.proofs.ListsScripts.{scripts_list, own_bodies_list, assign_list, expr_list, head_list}
+use Rattle.recorded_bodies.proofs.ListsAlone.{in_alone, functions_list}
 
 -- A recorded body, read in place, has these statements.
 pub record HasItems (b : Recorded) (items : Stmts) : Type 0 where
@@ -152,3 +154,21 @@ module _ (bodies : ℕ → Body) (braced : AreBraced bodies) (room : ℕ) where
 
     pub expr_passed : (ts us : List Lexeme) (given : Expr) (rs : List Recorded) → pass_expression bodies braced room w ts ≡ Read given rs us → judged body_in_place rs ≡ fine → (e : Expr) × ExprInOrder ts us e given rs
     expr_passed = read_in_order (ExprK bodies) (in_expr false) (read_expression room w) (pass_expression bodies braced room w) (expr_list false bodies ends room w)
+
+  module _ (f : FuncForm) where
+    -- A function that is no arrow, from its parameters on. Its own body, if it is a braced one, is the last of the bodies.
+
+    module _ (name : Option Named) where
+      abbrev pub HeadInOrder : List Lexeme → List Lexeme → Function → Function → List Recorded → Type 0
+      HeadInOrder = InOrder (FunctionK bodies) (in_function false) (function_of (env_with room) f name) (function_of (pass_env bodies braced room) f name)
+
+      pub head_passed : (ts us : List Lexeme) (given : Function) (rs : List Recorded) → function_of (pass_env bodies braced room) f name ts ≡ Read given rs us → judged body_in_place rs ≡ fine → (x : Function) × HeadInOrder ts us x given rs
+      head_passed = read_in_order (FunctionK bodies) (in_function false) (function_of (env_with room) f name) (function_of (pass_env bodies braced room) f name) (head_list false bodies ends room f name)
+
+    -- a function that is read alone, with its own statements
+
+    abbrev pub FunctionInOrder : List Lexeme → List Lexeme → Function → Function → List Recorded → Type 0
+    FunctionInOrder = InOrder (AloneK bodies) (in_alone false) (read_alone in_place room f) (read_alone (passed_over bodies) room f)
+
+    pub function_passed : (ts us : List Lexeme) (given : Function) (rs : List Recorded) → read_alone (passed_over bodies) room f ts ≡ Read given rs us → judged body_in_place rs ≡ fine → (x : Function) × FunctionInOrder ts us x given rs
+    function_passed = read_in_order (AloneK bodies) (in_alone false) (read_alone in_place room f) (read_alone (passed_over bodies) room f) (functions_list false bodies ends room f)

@@ -5,23 +5,23 @@ use Rattle.script_grammar.specs.declared.token.FuncForm.{FuncForm}
 use Rattle.script_grammar.specs.declared.token.mark.TheConstants as mark
 use Rattle.script_grammar.specs.Lexeme.{Lexeme}
 use Rattle.script_grammar.specs.Kinds.{is_mark, is_name}
-use Rattle.script_grammar.specs.Tree.{Body, Stmts}
+use Rattle.script_grammar.specs.Tree.{Named, Body, Stmts}
 use Rattle.script_grammar.specs.Pieces.{Opener, brace, open_behind, BracedArrow}
 use Rattle.script_grammar.specs.Endings.{body_ending}
 use Rattle.pure_parser.specs.Parser.{Recorded, Reply, Read, Bad, Deep, Parser, head_of, put_before, after, ret}
-use Rattle.pure_parser.specs.Exprs.{Call, AnAssign, BodyRead, expr_of, pass_case, pass_over, passed_body, passing}
+use Rattle.pure_parser.specs.Exprs.{Call, AnAssign, BodyRead, expr_of, function_of, pass_case, pass_over, passed_body, passing}
 use Rattle.pure_parser.specs.Stmts.{Place, StmtCalls, All, env_of, block_of, everything, in_place, reading, script_of, read_script, begins_stmt}
 use Rattle.pure_parser.proofs.Tests.{bool_cases}
 use Rattle.pure_parser.proofs.Passing.{record_at, passed_reply, passing_here, passing_no}
 use Rattle.pure_parser.proofs.Agrees.{Verdict, fine, bad_at, deep_at, judged, records, MeetsAt, Agrees}
-use Rattle.pure_parser.proofs.Alike.{SameK, BodyK, ExprK, StmtK}
+use Rattle.pure_parser.proofs.Alike.{SameK, BodyK, ExprK, FunctionK, StmtK}
 use Rattle.pure_parser.proofs.AgreesExprs.{CallK}
 use Rattle.pure_parser.proofs.AgreesStmts.{StmtsK, OwnK, reading_agrees}
 use Rattle.pure_parser.proofs.AgreesScripts.{body_in_place, passed_over, silent, body_agrees, everything_agrees}
-use Rattle.recorded_bodies.specs.Braced.{in_expr, in_stmt, in_stmts}
+use Rattle.recorded_bodies.specs.Braced.{in_expr, in_function, in_stmt, in_stmts}
 use Rattle.recorded_bodies.proofs.Lists.{Bodies, as_is, in_none, in_read, in_records, ListsAt, Lists, lists_no_room}
 use Rattle.recorded_bodies.proofs.ListedParts.{in_own}
-use Rattle.recorded_bodies.proofs.ListsExprs.{ListsEnv, in_call, name_lists, expr_lists}
+use Rattle.recorded_bodies.proofs.ListsExprs.{ListsEnv, in_call, name_lists, expr_lists, function_lists}
 use Rattle.recorded_bodies.proofs.ListsCalls.{case_lists, no_calls_lists}
 use Rattle.recorded_bodies.proofs.ListsStmts.{ListsBlock, in_inner, stmt_lists, reading_lists, script_lists}
 
@@ -144,3 +144,7 @@ module _ (nested : Bool) (bodies : ℕ → Body) (braced : (n : ℕ) → body_en
 
   pub expr_list : (room : ℕ) (w : Bool) → Lists nested body_in_place (ExprK bodies) as_is (in_expr nested) (expr_of (env_of (in_place room (everything in_place room).stmts) (everything in_place room)) w) (expr_of (env_of (passed_over bodies room (everything (passed_over bodies) room).stmts) (everything (passed_over bodies) room)) w)
   expr_list room w = expr_lists nested bodies body_in_place _ _ (env_lists room) w
+
+  -- a function that is no arrow, from its parameters on
+  pub head_list : (room : ℕ) (f : FuncForm) (name : Option Named) → Lists nested body_in_place (FunctionK bodies) as_is (in_function nested) (function_of (env_of (in_place room (everything in_place room).stmts) (everything in_place room)) f name) (function_of (env_of (passed_over bodies room (everything (passed_over bodies) room).stmts) (everything (passed_over bodies) room)) f name)
+  head_list room f name = function_lists nested bodies body_in_place _ _ (env_lists room) f name name refl

@@ -1,6 +1,6 @@
 -- Bodies that are passed over and read later, one by one, those inside a body next: the bodies that were read are those of all
 -- functions of the script's tree, each before the bodies inside it, and each with the bodies inside it as they are given.
-use Rattle.std.proofs.Common.{◌≡◌, ℕ, List, [], ◌∷◌, ◌++◌, map, refl, sym, ap, ◌∙◌, subst, append_assoc, append-nil, Bool, true, false}
+use Rattle.std.proofs.Common.{◌≡◌, ℕ, List, [], ◌∷◌, ◌++◌, map, refl, sym, ap, ◌∙◌, subst, append_assoc, append-nil, true}
 use Rattle.script_grammar.specs.declared.token.FuncForm.{FuncForm}
 use Rattle.script_grammar.specs.Lexeme.{Lexeme}
 use Rattle.script_grammar.specs.Shows.{ShowAll}
@@ -9,8 +9,7 @@ use Rattle.script_grammar.specs.Tree as tree
 use Rattle.script_grammar.specs.Pieces.{BracedArrow}
 use Rattle.script_grammar.specs.Endings.{body_ending}
 use Rattle.script_grammar.specs.Fault.{depth_limit}
-use Rattle.pure_parser.specs.Parser.{Recorded, Reply, Read, Bad, Deep, Parser}
-use Rattle.pure_parser.specs.Exprs.{BodyRead}
+use Rattle.pure_parser.specs.Parser.{Recorded, Reply, Read, Parser}
 use Rattle.pure_parser.specs.Stmts.{in_place, read_script, read_alone}
 use Rattle.pure_parser.specs.Filling.{fill_stmts}
 use Rattle.pure_parser.proofs.Agrees.{Verdict, fine, bad_at, deep_at, judged, records}

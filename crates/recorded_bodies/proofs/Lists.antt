@@ -4,10 +4,10 @@
 use Rattle.std.proofs.Common.{◌≡◌, ℕ, zero, suc, List, [], ◌∷◌, ◌++◌, length, refl, sym, ap, ◌∙◌, subst, Bool, true, false, Option, None, Some}
 use Rattle.script_grammar.specs.declared.token.Kind.{Kind}
 use Rattle.script_grammar.specs.Lexeme.{Lexeme}
-use Rattle.script_grammar.specs.Tree.{Body, Stmts}
+use Rattle.script_grammar.specs.Tree.{Stmts}
 use Rattle.pure_parser.specs.Parser.{Recorded, Reply, Read, Bad, Deep, Parser, head_of, rest_of, noted, after, ret, bad, deep, bind, peek, step, when, no_room, Turn, Again, Stop, turned, turns, loop, Many, led, begun, stopped}
 use Rattle.pure_parser.specs.Exprs.{BodyRead}
-use Rattle.pure_parser.proofs.Agrees.{Verdict, fine, bad_at, deep_at, or_else, records, judged, judged_append, judged_bad, judged_deep, TurnK, ListK, ManyK}
+use Rattle.pure_parser.proofs.Agrees.{Verdict, fine, bad_at, deep_at, records, judged, judged_append, judged_bad, judged_deep, TurnK, ManyK}
 use Rattle.recorded_bodies.specs.Braced.{in_body}
 
 -- the bodies in something that was read, before others

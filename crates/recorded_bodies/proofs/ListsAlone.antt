@@ -1,13 +1,11 @@
 -- A function that is read alone, its own statements by both parsers: what is read lists the bodies that were recorded, which are
 -- those in its parameters and those inside its own body.
-use Rattle.std.proofs.Common.{◌≡◌, ℕ, List, [], refl, sym, ap, ◌∙◌, subst, Bool, true, None}
+use Rattle.std.proofs.Common.{◌≡◌, ℕ, List, [], refl, sym, ◌∙◌, subst, Bool, true, None}
 use Rattle.script_grammar.specs.declared.token.FuncForm.{FuncForm}
 use Rattle.script_grammar.specs.declared.token.FuncForm.TheVariants as form
 use Rattle.script_grammar.specs.declared.token.mark.TheConstants as mark
 use Rattle.script_grammar.specs.Kinds.{is_mark, is_name}
-use Rattle.script_grammar.specs.Tree.{Body, Function, function, Stmts}
-use Rattle.script_grammar.specs.Tree as tree
-use Rattle.script_grammar.specs.TreeLists.{params_of}
+use Rattle.script_grammar.specs.Tree.{Body, Function, function}
 use Rattle.script_grammar.specs.Pieces.{BracedArrow}
 use Rattle.script_grammar.specs.Endings.{body_ending}
 use Rattle.pure_parser.specs.Parser.{Recorded, Reply, ret, bind, Again, Stop, stopped}
@@ -15,8 +13,7 @@ use Rattle.pure_parser.specs.Exprs
 use Rattle.pure_parser.specs.Exprs.{Env, Call, AnAssign, AParam, ARest, BodyParser, BodyRead, Plain, Trailing, Rest, Head, passing, spanned, head_case, bare_head, function_case, is_simple, short_body, params_head, function_of}
 use Rattle.pure_parser.specs.Stmts as parser
 use Rattle.pure_parser.specs.Stmts.{everything, in_place, reading, read_alone}
-use Rattle.pure_parser.proofs.Alike.{BodyK, HeadK, params_same, head_alike}
-use Rattle.pure_parser.specs.Filling.{fill, fill_params, fill_stmts}
+use Rattle.pure_parser.proofs.Alike.{BodyK, HeadK, head_alike}
 use Rattle.pure_parser.specs.Parser.{Read, Bad, Deep, Parser}
 use Rattle.script_grammar.specs.Lexeme.{Lexeme}
 use Rattle.pure_parser.proofs.Alike.{AnyK}
@@ -25,7 +22,7 @@ use Rattle.pure_parser.proofs.AgreesExprs.{CallK, ParamTurn, ParamsK}
 use Rattle.pure_parser.proofs.AgreesScripts.{body_in_place, passed_over}
 use Rattle.pure_parser.proofs.AgreesAlone.{AloneK, functions_agree}
 use Rattle.recorded_bodies.specs.Braced.{in_params}
-use Rattle.recorded_bodies.proofs.Lists.{Bodies, as_is, in_none, in_turn, in_many, in_records, ListsAt, Lists, lists_then, lists_more, lists_map, lists_ret, lists_bad, lists_peek, lists_step, lists_when}
+use Rattle.recorded_bodies.proofs.Lists.{Bodies, as_is, in_none, in_turn, in_many, ListsAt, Lists, lists_then, lists_more, lists_map, lists_ret, lists_bad, lists_peek, lists_step, lists_when}
 use Rattle.recorded_bodies.proofs.ListedParts.{in_param, in_head, in_own, params_listed, head_listed}
 use Rattle.recorded_bodies.proofs.ListsExprs.{ListsEnv, in_call, expect_lists, params_led_lists, params_head_lists}
 use Rattle.recorded_bodies.proofs.ListsCalls.{spanned_lists, arrow_mark_lists}

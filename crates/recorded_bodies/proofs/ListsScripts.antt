@@ -1,6 +1,6 @@
 -- Where no recorded body has a fault, the recorded bodies, read in place, are the braced bodies of the outermost functions of
 -- what was read, in the order of the source: of each call of the parser, of a script, and of a braced body.
-use Rattle.std.proofs.Common.{◌≡◌, ℕ, zero, suc, List, [], ◌∷◌, ◌++◌, refl, sym, ap, ◌∙◌, subst, Bool, true, false, Option, None, Some, ◌⊎◌, inl, inr}
+use Rattle.std.proofs.Common.{◌≡◌, ℕ, zero, suc, List, [], ◌∷◌, refl, sym, ap, ◌∙◌, Bool, true, false, Option, None, Some, ◌⊎◌, inl, inr}
 use Rattle.script_grammar.specs.declared.token.FuncForm.{FuncForm}
 use Rattle.script_grammar.specs.declared.token.mark.TheConstants as mark
 use Rattle.script_grammar.specs.Lexeme.{Lexeme}
@@ -8,11 +8,11 @@ use Rattle.script_grammar.specs.Kinds.{is_mark, is_name}
 use Rattle.script_grammar.specs.Tree.{Named, Body, Stmts}
 use Rattle.script_grammar.specs.Pieces.{Opener, brace, open_behind, BracedArrow}
 use Rattle.script_grammar.specs.Endings.{body_ending}
-use Rattle.pure_parser.specs.Parser.{Recorded, Reply, Read, Bad, Deep, Parser, head_of, put_before, after, ret}
+use Rattle.pure_parser.specs.Parser.{Recorded, Reply, Read, Bad, Deep, Parser, put_before, after, ret}
 use Rattle.pure_parser.specs.Exprs.{Call, AnAssign, BodyRead, expr_of, function_of, pass_case, pass_over, passed_body, passing}
 use Rattle.pure_parser.specs.Stmts.{Place, StmtCalls, All, env_of, block_of, everything, in_place, reading, script_of, read_script, begins_stmt}
 use Rattle.pure_parser.proofs.Tests.{bool_cases}
-use Rattle.pure_parser.proofs.Passing.{record_at, passed_reply, passing_here, passing_no}
+use Rattle.pure_parser.proofs.Passing.{record_at, passing_here, passing_no}
 use Rattle.pure_parser.proofs.Agrees.{Verdict, fine, bad_at, deep_at, judged, records, MeetsAt, Agrees}
 use Rattle.pure_parser.proofs.Alike.{SameK, BodyK, ExprK, FunctionK, StmtK}
 use Rattle.pure_parser.proofs.AgreesExprs.{CallK}

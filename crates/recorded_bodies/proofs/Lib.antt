@@ -4,3 +4,6 @@ pub mod ListsExprs
 pub mod ListsCalls
 pub mod ListsStmts
 pub mod ListsScripts
+pub mod ListsAlone
+pub mod InOrder
+pub mod Later

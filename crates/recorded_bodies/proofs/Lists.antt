@@ -4,10 +4,10 @@
 use Rattle.std.proofs.Common.{◌≡◌, ℕ, zero, suc, List, [], ◌∷◌, ◌++◌, length, refl, sym, ap, ◌∙◌, subst, Bool, true, false, Option, None, Some}
 use Rattle.script_grammar.specs.declared.token.Kind.{Kind}
 use Rattle.script_grammar.specs.Lexeme.{Lexeme}
-use Rattle.script_grammar.specs.Tree.{Body, Stmts}
+use Rattle.script_grammar.specs.Tree.{Stmts}
 use Rattle.pure_parser.specs.Parser.{Recorded, Reply, Read, Bad, Deep, Parser, head_of, rest_of, noted, after, ret, bad, deep, bind, peek, step, when, no_room, Turn, Again, Stop, turned, turns, loop, Many, led, begun, stopped}
 use Rattle.pure_parser.specs.Exprs.{BodyRead}
-use Rattle.pure_parser.proofs.Agrees.{Verdict, fine, bad_at, deep_at, or_else, records, judged, judged_append, judged_bad, judged_deep, TurnK, ListK, ManyK}
+use Rattle.pure_parser.proofs.Agrees.{Verdict, fine, bad_at, deep_at, records, judged, judged_append, judged_bad, judged_deep, TurnK, ManyK}
 use Rattle.recorded_bodies.specs.Braced.{in_body}
 
 -- the bodies in something that was read, before others
@@ -162,6 +162,16 @@ module _ (nested : Bool) (judge : Recorded → Reply BodyRead) where
 
   pub lists_known : {A B : Type 0} {K : A → B → Type 0} {pre pre2 : List Stmts → List Stmts} {w : Bodies A} {e : Parser A} {l : Parser B} → ((x : List Stmts) → pre x ≡ pre2 x) → Lists K pre2 w e l → Lists K pre w e l
   lists_known {K = K} {pre = pre} {pre2 = pre2} {w = w} {e = e} {l = l} h m = record { at = λ ts. at_same K pre pre2 w h (judged judge (records (l ts))) (e ts) (l ts) (m.at ts) }
+
+  at_looser : {A B : Type 0} (K J : A → B → Type 0) (pre : List Stmts → List Stmts) (w : Bodies A) → ((a : A) (b : B) → K a b → J a b) → (v : Verdict) (r : Reply A) (s : Reply B) → ListsAt K pre w v r s → ListsAt J pre w v r s
+  at_looser K J pre w h fine r (Read b rs us) m = (m.0, m.1, h m.0 b m.2, m.3)
+  at_looser K J pre w h fine r (Bad rs us) m = m
+  at_looser K J pre w h fine r (Deep rs us) m = m
+  at_looser K J pre w h (bad_at vs) r s m = m
+  at_looser K J pre w h (deep_at vs) r s m = m
+
+  pub lists_map : {A B : Type 0} {K J : A → B → Type 0} {pre : List Stmts → List Stmts} {w : Bodies A} {e : Parser A} {l : Parser B} → ((a : A) (b : B) → K a b → J a b) → Lists K pre w e l → Lists J pre w e l
+  lists_map {K = K} {J = J} {pre = pre} {w = w} {e = e} {l = l} h m = record { at = λ ts. at_looser K J pre w h (judged judge (records (l ts))) (e ts) (l ts) (m.at ts) }
 
   -- the same, where what is read first is known by itself
 

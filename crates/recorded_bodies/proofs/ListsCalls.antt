@@ -1,6 +1,6 @@
 -- What parsers of expressions read lists the bodies that were recorded: over calls and bodies of which that holds, operators,
 -- conditionals, arrows and assignments, and so all calls.
-use Rattle.std.proofs.Common.{◌≡◌, ℕ, zero, suc, ◌-◌, List, length, take, refl, sym, ap, ◌∙◌, subst, Bool, true, false, ◌&&◌, nat_le, Option, Some, None, if◌then◌else◌}
+use Rattle.std.proofs.Common.{◌≡◌, ℕ, zero, suc, ◌-◌, List, length, take, refl, sym, ap, ◌∙◌, subst, Bool, true, false, ◌&&◌, nat_le, Some, None, if◌then◌else◌}
 use Rattle.script_grammar.specs.declared.token.FuncForm.TheVariants as form
 use Rattle.script_grammar.specs.declared.token.mark.TheConstants as mark
 use Rattle.script_grammar.specs.Lexeme.{Lexeme}
@@ -8,11 +8,10 @@ use Rattle.script_grammar.specs.Kinds.{is_mark, is_name, is_assign_mark}
 use Rattle.script_grammar.specs.Proper.{rank, left_rank, update_rank}
 use Rattle.script_grammar.specs.Tree.{Named, Expr, Body, Stmts}
 use Rattle.script_grammar.specs.Tree as tree
-use Rattle.script_grammar.specs.TreeLists.{Operand}
-use Rattle.pure_parser.specs.Parser.{Recorded, Reply, Read, Bad, Deep, Parser, ret, bind, Turn, Again, Stop, stopped}
+use Rattle.pure_parser.specs.Parser.{Recorded, Reply, Read, Bad, Deep, Parser, ret, bind, Again, Stop, stopped}
 use Rattle.pure_parser.specs.Exprs as parser
 use Rattle.pure_parser.specs.Exprs.{Env, Call, Calls, AnAssign, APrefix, ANew, AParam, ARest, BodyRead, ParamsEnd, Plain, Trailing, Rest, Head, Spanned, spanned, spanned_reply, last_end, expect, name_of, binary_case, with_last, operand, is_update_expr, is_op, head_case, is_arrow_head, is_arrow, call_case, no_calls, begins_call}
-use Rattle.pure_parser.proofs.Alike.{AnyK, SameK, OptionK, ExprK, BodyK, OperandK, ParamK, HeadK, list_last, head_alike, function_alike, binary_alike}
+use Rattle.pure_parser.proofs.Alike.{AnyK, SameK, ExprK, BodyK, OperandK, ParamK, HeadK, list_last, head_alike, function_alike, binary_alike}
 use Rattle.pure_parser.specs.Filling.{fill}
 use Rattle.pure_parser.proofs.Agrees.{Verdict, fine, bad_at, deep_at, judged, records}
 use Rattle.pure_parser.proofs.AgreesExprs.{CallK, ParamTurn, ParamsK}

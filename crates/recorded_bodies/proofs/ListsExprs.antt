@@ -11,11 +11,11 @@ use Rattle.script_grammar.specs.Lexeme.{Lexeme}
 use Rattle.script_grammar.specs.Kinds.{is_mark, is_word, is_name, is_number, is_str, is_head, is_middle, is_tail, is_any_word, is_get, is_set, is_prefix, is_update}
 use Rattle.script_grammar.specs.Tree.{Named, Expr, Key, Prop, Tail, Body, Function, Stmts}
 use Rattle.script_grammar.specs.Tree as tree
-use Rattle.script_grammar.specs.TreeLists.{Part, Param, exprs_of, maybe_args_of, parts_of, props_of}
-use Rattle.pure_parser.specs.Parser.{Recorded, Reply, Parser, head_of, rest_of, ret, bind, step, when, Turn, Again, Stop, Many, stopped}
+use Rattle.script_grammar.specs.TreeLists.{Param, exprs_of, maybe_args_of, parts_of, props_of}
+use Rattle.pure_parser.specs.Parser.{Recorded, Reply, Parser, head_of, rest_of, ret, bind, step, when, Turn, Again, Stop, stopped}
 use Rattle.pure_parser.specs.Exprs as parser
 use Rattle.pure_parser.specs.Exprs.{Env, Call, Result, AnAssign, APrefix, ANew, AParam, ARest, BodyRead, ParamsEnd, Plain, Trailing, Rest, Head, expect, name_of, peek_two, comma_case, list_case, chain_case, binary_case, function_case, head_case, param, operand, is_chain_head, is_update_expr}
-use Rattle.pure_parser.proofs.Alike.{AnyK, SameK, OptionK, EndK, ExprK, FunctionK, BodyK, TailK, ArgsK, PartK, ParamK, HeadK, KeyK, PropK, list_append, exprs_same, parts_same, props_same, comma_alike, paren_alike, array_alike, head_alike, function_alike, chain_alike, new_alike}
+use Rattle.pure_parser.proofs.Alike.{AnyK, SameK, OptionK, ExprK, FunctionK, BodyK, TailK, ArgsK, PartK, ParamK, HeadK, KeyK, PropK, list_append, exprs_same, parts_same, props_same, comma_alike, paren_alike, array_alike, head_alike, function_alike, chain_alike, new_alike}
 use Rattle.pure_parser.specs.Filling.{fill, fill_exprs, fill_key, fill_prop, fill_props, fill_function}
 use Rattle.pure_parser.proofs.Agrees.{TurnK, ListK, ManyK}
 use Rattle.pure_parser.proofs.AgreesExprs.{CallK, ExprTurn, ArgTurn, ParamTurn, ParamsK, TailTurn}

@@ -1,27 +1,27 @@
 -- Where no recorded body has a fault, the recorded bodies, read in place, are the braced bodies of the outermost functions of
 -- what was read, in the order of the source: of each call of the parser, of a script, and of a braced body.
-use Rattle.std.proofs.Common.{◌≡◌, ℕ, zero, suc, List, [], ◌∷◌, ◌++◌, refl, sym, ap, ◌∙◌, subst, Bool, true, false, Option, None, Some, ◌⊎◌, inl, inr}
+use Rattle.std.proofs.Common.{◌≡◌, ℕ, zero, suc, List, [], ◌∷◌, refl, sym, ap, ◌∙◌, Bool, true, false, Option, None, Some, ◌⊎◌, inl, inr}
 use Rattle.script_grammar.specs.declared.token.FuncForm.{FuncForm}
 use Rattle.script_grammar.specs.declared.token.mark.TheConstants as mark
 use Rattle.script_grammar.specs.Lexeme.{Lexeme}
 use Rattle.script_grammar.specs.Kinds.{is_mark, is_name}
-use Rattle.script_grammar.specs.Tree.{Body, Stmts}
+use Rattle.script_grammar.specs.Tree.{Named, Body, Stmts}
 use Rattle.script_grammar.specs.Pieces.{Opener, brace, open_behind, BracedArrow}
 use Rattle.script_grammar.specs.Endings.{body_ending}
-use Rattle.pure_parser.specs.Parser.{Recorded, Reply, Read, Bad, Deep, Parser, head_of, put_before, after, ret}
-use Rattle.pure_parser.specs.Exprs.{Call, BodyRead, pass_case, pass_over, passed_body, passing}
+use Rattle.pure_parser.specs.Parser.{Recorded, Reply, Read, Bad, Deep, Parser, put_before, after, ret}
+use Rattle.pure_parser.specs.Exprs.{Call, AnAssign, BodyRead, expr_of, function_of, pass_case, pass_over, passed_body, passing}
 use Rattle.pure_parser.specs.Stmts.{Place, StmtCalls, All, env_of, block_of, everything, in_place, reading, script_of, read_script, begins_stmt}
 use Rattle.pure_parser.proofs.Tests.{bool_cases}
-use Rattle.pure_parser.proofs.Passing.{record_at, passed_reply, passing_here, passing_no}
+use Rattle.pure_parser.proofs.Passing.{record_at, passing_here, passing_no}
 use Rattle.pure_parser.proofs.Agrees.{Verdict, fine, bad_at, deep_at, judged, records, MeetsAt, Agrees}
-use Rattle.pure_parser.proofs.Alike.{SameK, BodyK, StmtK}
+use Rattle.pure_parser.proofs.Alike.{SameK, BodyK, ExprK, FunctionK, StmtK}
 use Rattle.pure_parser.proofs.AgreesExprs.{CallK}
 use Rattle.pure_parser.proofs.AgreesStmts.{StmtsK, OwnK, reading_agrees}
 use Rattle.pure_parser.proofs.AgreesScripts.{body_in_place, passed_over, silent, body_agrees, everything_agrees}
-use Rattle.recorded_bodies.specs.Braced.{in_stmt, in_stmts}
+use Rattle.recorded_bodies.specs.Braced.{in_expr, in_function, in_stmt, in_stmts}
 use Rattle.recorded_bodies.proofs.Lists.{Bodies, as_is, in_none, in_read, in_records, ListsAt, Lists, lists_no_room}
 use Rattle.recorded_bodies.proofs.ListedParts.{in_own}
-use Rattle.recorded_bodies.proofs.ListsExprs.{ListsEnv, in_call, name_lists}
+use Rattle.recorded_bodies.proofs.ListsExprs.{ListsEnv, in_call, name_lists, expr_lists, function_lists}
 use Rattle.recorded_bodies.proofs.ListsCalls.{case_lists, no_calls_lists}
 use Rattle.recorded_bodies.proofs.ListsStmts.{ListsBlock, in_inner, stmt_lists, reading_lists, script_lists}
 
@@ -85,7 +85,7 @@ same_reading stmt f g x y p q ts = refl
 
 module _ (nested : Bool) (bodies : ℕ → Body) (braced : (n : ℕ) → body_ending (bodies n) ≡ BracedArrow) where
   -- a body
-  body_lists : (room : ℕ) (f : FuncForm) (start : ℕ) (simple simple2 : Bool) → Lists nested body_in_place (BodyK bodies start) as_is (in_own nested) (reading (everything in_place room).stmts f start simple) (passing bodies room f start simple2)
+  pub body_lists : (room : ℕ) (f : FuncForm) (start : ℕ) (simple simple2 : Bool) → Lists nested body_in_place (BodyK bodies start) as_is (in_own nested) (reading (everything in_place room).stmts f start simple) (passing bodies room f start simple2)
   body_lists room f start simple simple2 = from_agreed nested (BodyK bodies start) (in_own nested) (reading e.stmts f start simple) (passing bodies room f start simple2) (body_agrees bodies braced room f start simple simple2 (λ ts. silent (reading_agrees bodies body_in_place e.stmts l.stmts (everything_agrees bodies braced room).stmts f f start start simple simple2) ts)) told
     where
       e : All
@@ -125,6 +125,10 @@ module _ (nested : Bool) (bodies : ℕ → Body) (braced : (n : ℕ) → body_en
         label = name_lists nested bodies body_in_place;
       }
 
+  -- what expressions are read by
+  pub env_lists : (room : ℕ) → ListsEnv nested bodies body_in_place (env_of (in_place room (everything in_place room).stmts) (everything in_place room)) (env_of (passed_over bodies room (everything (passed_over bodies) room).stmts) (everything (passed_over bodies) room))
+  env_lists room = record { sub = (everything_lists room).exprs; body = body_lists room }
+
   -- scripts
   pub scripts_list : (room : ℕ) → Lists nested body_in_place (StmtsK bodies) as_is (in_stmts nested) (read_script room) (script_of (everything (passed_over bodies) room).stmts)
   scripts_list room = script_lists nested bodies body_in_place (everything in_place room).stmts (everything (passed_over bodies) room).stmts (everything_lists room).stmts
@@ -132,3 +136,15 @@ module _ (nested : Bool) (bodies : ℕ → Body) (braced : (n : ℕ) → body_en
   -- a body whose own statements are read by both
   pub own_bodies_list : (room : ℕ) (f : FuncForm) (start : ℕ) (simple : Bool) → Lists nested body_in_place (OwnK bodies) as_is (in_inner nested) (reading (everything in_place room).stmts f start simple) (reading (everything (passed_over bodies) room).stmts f start simple)
   own_bodies_list room f start simple = reading_lists nested bodies body_in_place (everything in_place room).stmts (everything (passed_over bodies) room).stmts (everything_lists room).stmts f f start start simple simple
+
+  -- an AssignmentExpression and an Expression, with or without the operator `in`
+
+  pub assign_list : (room : ℕ) (w : Bool) → Lists nested body_in_place (ExprK bodies) as_is (in_expr nested) ((everything in_place room).exprs (AnAssign w)) ((everything (passed_over bodies) room).exprs (AnAssign w))
+  assign_list room w = (everything_lists room).exprs (AnAssign w)
+
+  pub expr_list : (room : ℕ) (w : Bool) → Lists nested body_in_place (ExprK bodies) as_is (in_expr nested) (expr_of (env_of (in_place room (everything in_place room).stmts) (everything in_place room)) w) (expr_of (env_of (passed_over bodies room (everything (passed_over bodies) room).stmts) (everything (passed_over bodies) room)) w)
+  expr_list room w = expr_lists nested bodies body_in_place _ _ (env_lists room) w
+
+  -- a function that is no arrow, from its parameters on
+  pub head_list : (room : ℕ) (f : FuncForm) (name : Option Named) → Lists nested body_in_place (FunctionK bodies) as_is (in_function nested) (function_of (env_of (in_place room (everything in_place room).stmts) (everything in_place room)) f name) (function_of (env_of (passed_over bodies room (everything (passed_over bodies) room).stmts) (everything (passed_over bodies) room)) f name)
+  head_list room f name = function_lists nested bodies body_in_place _ _ (env_lists room) f name name refl

@@ -12,8 +12,8 @@ use Rattle.script_grammar.specs.Endings.{ending, return_ending, binds_ending}
 use Rattle.script_grammar.specs.Proper.{rank, left_rank, takes_else}
 use Rattle.script_grammar.specs.Tree.{Named, Expr, Init, Each, Stmt, Stmts, Body}
 use Rattle.script_grammar.specs.Tree as tree
-use Rattle.script_grammar.specs.TreeLists.{Bind, Clause, maybe_expr_of, maybe_stmt_of, binds_of, stmts_of, clauses_of}
-use Rattle.pure_parser.specs.Parser.{Recorded, Reply, ret, bind, Turn, Again, Stop}
+use Rattle.script_grammar.specs.TreeLists.{Clause, maybe_expr_of, maybe_stmt_of, binds_of, stmts_of, clauses_of}
+use Rattle.pure_parser.specs.Parser.{Recorded, Reply, ret, bind, Again, Stop}
 use Rattle.pure_parser.specs.Exprs.{Env, AnAssign, BodyRead, named}
 use Rattle.pure_parser.specs.Stmts as parser
 use Rattle.pure_parser.specs.Stmts.{Place, AnItem, AStmt, StmtCalls, Block, is_item, is_inside, bound, clause}

@@ -19,7 +19,7 @@ use Rattle.pure_parser.proofs.ScriptLaws.{Reads, ScriptOf, script_read, script_u
 use Rattle.pure_parser.proofs.Closed.{Ended, no_bad_end}
 use Rattle.pure_parser.proofs.PassedLaws.{pass_script, passed_is_script}
 use Rattle.pure_parser.proofs.Totals.{or_says, own_says, total, judged_bodies, or_fine, pass_body, next_read, next_faulty, total_bad, total_deep, total_fine, no_deep_end}
-use Rattle.recorded_bodies.proofs.Later.{Reading, reading_init, reading_next, reading_done}
+use Rattle.recorded_bodies.proofs.Later.{ScriptReading, script_init, script_next, script_done}
 use Rattle.parse_exprs.specs.declared.source.Source.{Source}
 use Rattle.parse_exprs.specs.declared.place.Place.{Place}
 use Rattle.parse_exprs.specs.declared.place.Pending.{Pending}
@@ -63,7 +63,7 @@ script_reply s i = pass_script (body_at i) (braced_at i) (front s i 0)
 
 -- these nodes are those of the script's bodies, but for the bodies that are still to be read
 abbrev pub HasRead : {B : Type 0} → (B → Stmts → Type 0) → Source → Interpretation → Result B ParseFault → List B → List Recorded → Type 0
-HasRead shows s i (Ok b) nodes rs = Reading (body_at i) (braced_at i) shows (front s i 0) nodes rs
+HasRead shows s i (Ok b) nodes rs = ScriptReading (body_at i) shows (front s i 0) nodes rs
 HasRead shows s i (Err e) nodes rs = Unit {0}
 
 -- Of a script's reply this result is known, these nodes were read, and these bodies are still to be read.
@@ -92,7 +92,7 @@ going_init {B = B} shows s i old new top z e a = by top (subst (λ rs. Answers (
     by (Ok b) h = let e = h.2.is in record {
       says = ap total e ∙ or_fine _ ∙ ap judged_bodies (then_ahead s i new) ∙ sym (or_fine _);
       node = (h.0, records_at s i new, front s i new.at, h.1, e);
-      read = subst (λ rs. Reading (body_at i) (braced_at i) shows (front s i 0) [] rs) (then_ahead s i new) (reading_init (body_at i) (braced_at i) shows (front s i 0) (front s i new.at) h.0 (records_at s i new) e);
+      read = subst (λ rs. ScriptReading (body_at i) shows (front s i 0) [] rs) (then_ahead s i new) (script_init (body_at i) shows (braced_at i) (front s i 0) (front s i new.at) h.0 (records_at s i new) e);
     }
     by (Err (faults.Unexpected k)) h = record { says = ap total h.is ∙ ap (λ rs. or_says (judged_bodies rs) (bad_at (front s i k))) (then_ahead s i new); node = tt; read = tt }
     by (Err (faults.TooDeep k)) h = record { says = ap total h.is ∙ ap (λ rs. or_says (judged_bodies rs) (deep_at (front s i k))) (then_ahead s i new); node = tt; read = tt }
@@ -114,11 +114,11 @@ going_read {B = B} shows s i new top nodes b p rest a g =
         → records (pass_body (body_at i) (braced_at i) (recorded s i p)) ++ ahead s i rest ≡ ahead s i (new.pending.items ++ rest) → HasRead shows s i top nodes (ahead s i (p ∷ rest)) → HasRead shows s i top (nodes ++ b.node ∷ []) (ahead s i (new.pending.items ++ rest))
     next (Err fault) e inner h = tt
     next (Ok top) e inner h =
-        subst (λ rs. Reading (body_at i) (braced_at i) shows (front s i 0) (nodes ++ b.node ∷ []) rs) (sym (ap (λ r. records r ++ ahead s i rest) e) ∙ inner)
-        (reading_next (body_at i) (braced_at i) shows (front s i 0) (front s i new.at) nodes b.node (recorded s i p) (ahead s i rest) (records_at s i new) a.0 b.end e a.1 h)
+        subst (λ rs. ScriptReading (body_at i) shows (front s i 0) (nodes ++ b.node ∷ []) rs) (sym (ap (λ r. records r ++ ahead s i rest) e) ∙ inner)
+        (script_next (body_at i) shows (braced_at i) (front s i 0) (front s i new.at) nodes b.node (recorded s i p) (ahead s i rest) (records_at s i new) a.0 b.end e a.1 h)
 
     unless : (top : Result B ParseFault) → ((w : Verdict) → or_says (judged_bodies (ahead s i (p ∷ rest))) w ≡ or_says (judged_bodies (ahead s i (new.pending.items ++ rest))) w)
-        → UnlessMemory top (total reply ≡ or_says (judged_bodies (ahead s i (p ∷ rest))) (said s i top)) → UnlessMemory top (total reply ≡ or_says (judged_bodies (ahead s i (new.pending.items ++ rest))) (said s i top))
+        → UnlessMemory top (total (script_reply s i) ≡ or_says (judged_bodies (ahead s i (p ∷ rest))) (said s i top)) → UnlessMemory top (total (script_reply s i) ≡ or_says (judged_bodies (ahead s i (new.pending.items ++ rest))) (said s i top))
     unless (Ok b) f h = h ∙ f fine
     unless (Err (faults.Unexpected k)) f h = h ∙ f (bad_at (front s i k))
     unless (Err (faults.TooDeep k)) f h = h ∙ f (deep_at (front s i k))
@@ -132,9 +132,9 @@ known (Err (faults.TooDeep k)) P e h = h
 known (Err faults.NoMemory) P e h = absurd (cc)
 
 -- the next body has a fault
-pub going_faulty : {B C : Type 0} (shows : B → Stmts → Type 0) (s : Source) (i : Interpretation) (new : Place) (top : Result B ParseFault) (nodes : List B) (fault : ParseFault) (p : Pending) (rest : List Pending) (gives : C → (BodyRead → Type 0) → Type 0)
-    → lacks_memory top ≡ false → Answers {E = C} gives s i new (Err fault) [] (pure.reading (stmts_at i p.depth) p.form 0 p.simple (front s i p.token)) → Going shows s i top nodes (p ∷ rest) → Going shows s i (Err fault) nodes new.pending.items
-going_faulty shows s i new top nodes (faults.Unexpected k) p rest gives m a g =
+pub going_faulty : {B C : Type 0} (shows : B → Stmts → Type 0) (s : Source) (i : Interpretation) (new : Place) (top : Result B ParseFault) (nodes later : List B) (fault : ParseFault) (p : Pending) (rest : List Pending) (gives : C → (BodyRead → Type 0) → Type 0)
+    → lacks_memory top ≡ false → Answers {E = C} gives s i new (Err fault) [] (pure.reading (stmts_at i p.depth) p.form 0 p.simple (front s i p.token)) → Going shows s i top nodes (p ∷ rest) → Going shows s i (Err fault) later new.pending.items
+going_faulty shows s i new top nodes later (faults.Unexpected k) p rest gives m a g =
     let e : pass_body (body_at i) (braced_at i) (recorded s i p) ≡ Bad (records_at s i new) (front s i k) = sym (body_here s i p) ∙ a.is in
     record {
       says = known top _ m g.says ∙ next_faulty (body_at i) (braced_at i) (recorded s i p) (ahead s i rest) (said s i top) (λ f. bad_no_fine (front s i k) (ap own_says (sym e) ∙ f)) ∙ ap (λ r. or_says (judged_bodies (records r)) (own_says r)) e ∙ ap (λ rs. or_says (judged_bodies rs) (bad_at (front s i k))) (then_ahead s i new);
@@ -144,7 +144,7 @@ going_faulty shows s i new top nodes (faults.Unexpected k) p rest gives m a g =
   where
     bad_no_fine : (us : List Lexeme) → bad_at us ≡ fine → ⊥
     bad_no_fine us e = cc
-going_faulty shows s i new top nodes (faults.TooDeep k) p rest gives m a g =
+going_faulty shows s i new top nodes later (faults.TooDeep k) p rest gives m a g =
     let e : pass_body (body_at i) (braced_at i) (recorded s i p) ≡ Deep (records_at s i new) (front s i k) = sym (body_here s i p) ∙ a.is in
     record {
       says = known top _ m g.says ∙ next_faulty (body_at i) (braced_at i) (recorded s i p) (ahead s i rest) (said s i top) (λ f. deep_no_fine (front s i k) (ap own_says (sym e) ∙ f)) ∙ ap (λ r. or_says (judged_bodies (records r)) (own_says r)) e ∙ ap (λ rs. or_says (judged_bodies rs) (deep_at (front s i k))) (then_ahead s i new);
@@ -154,7 +154,7 @@ going_faulty shows s i new top nodes (faults.TooDeep k) p rest gives m a g =
   where
     deep_no_fine : (us : List Lexeme) → deep_at us ≡ fine → ⊥
     deep_no_fine us e = cc
-going_faulty shows s i new top nodes faults.NoMemory p rest gives m a g = record { says = tt; node = tt; read = tt }
+going_faulty shows s i new top nodes later faults.NoMemory p rest gives m a g = record { says = tt; node = tt; read = tt }
 
 -- the place of the token from which these lexemes are
 front_place : (s : Source) (i : Interpretation) (k : ℕ) → (front s i k ≡ [] → ⊥) → length (lexemes s i) - length (front s i k) ≡ k
@@ -191,7 +191,7 @@ going_listed shows s i script ended g =
       items = p.tree;
       is = text_of ts p.tree p.is;
       top = subst (shows script.top) p.same g.node.3;
-      bodies = reading_done (body_at i) (braced_at i) shows (front s i 0) (p.is.last ∷ []) script.bodies.items p.tree (read_in_place s i p.tree p.is) g.read;
+      bodies = script_done (body_at i) shows (front s i 0) (p.is.last ∷ []) script.bodies.items p.tree (read_in_place s i p.tree p.is) g.read;
     }
 
 pub going_refused : {B : Type 0} (shows : B → Stmts → Type 0) (s : Source) (i : Interpretation) (e : ParseFault) (nodes : List B) → Ended (lexemes s i) → Going {B = B} shows s i (Err e) nodes [] → IsWhole {B = B} i shows s (Err e)

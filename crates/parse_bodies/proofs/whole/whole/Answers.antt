@@ -46,12 +46,12 @@ loop-preserved g c = (
       elim c.match-pending_body.branch [
         | in-Ok+in_ok-push-in-Ok w ↦
             subst (λ top. Going shows s i top c.match-pending_body.bodies.items (c.pending_body.new.state.place.pending.items ++ reverse c.match-pending_body.waiting.items)) (sym w.top-is)
-            (subst (λ nodes. Going shows s i c.loop.top nodes (c.pending_body.new.state.place.pending.items ++ reverse c.match-pending_body.waiting.items)) (sym ?)
+            (subst (λ nodes. Going shows s i c.loop.top nodes (c.pending_body.new.state.place.pending.items ++ reverse c.match-pending_body.waiting.items)) (sym (ap (λ (v : Vec _ Global). v.items) w.bodies-is ∙ w.in_ok-push-in-Ok.ensures.items))
             (subst (λ (v : Vec Pending Global). Going shows s i c.loop.top (c.loop.bodies.items ++ w.in-Ok.body.node ∷ []) (c.pending_body.new.state.place.pending.items ++ reverse v.items)) (sym w.waiting-is)
             (going_read shows s i c.pending_body.new.state.place c.loop.top c.loop.bodies.items w.in-Ok.body c.in-Some.next rest (rw w.in-Ok.is at b) going)))
         | in-Err w ↦
             subst (λ top. Going shows s i top c.match-pending_body.bodies.items (c.pending_body.new.state.place.pending.items ++ reverse c.match-pending_body.waiting.items)) (sym w.top-is)
             (subst (λ (ps : List Pending). Going shows s i (Err w.in-Err.fault) c.match-pending_body.bodies.items ps) (sym (ap (λ (v : Vec Pending Global). c.pending_body.new.state.place.pending.items ++ reverse v.items) w.waiting-is ∙ ap (λ ps. c.pending_body.new.state.place.pending.items ++ reverse ps) w.clear.ensures.items ∙ append-nil c.pending_body.new.state.place.pending.items))
-            (going_faulty shows s i c.pending_body.new.state.place c.loop.top c.match-pending_body.bodies.items w.in-Err.fault c.in-Some.next rest (BodyOf shows) (sym c.lacks_memory.ensures ∙ c.if-lacks_memory.false) (rw w.in-Err.is at b) going))
+            (going_faulty shows s i c.pending_body.new.state.place c.loop.top c.loop.bodies.items c.match-pending_body.bodies.items w.in-Err.fault c.in-Some.next rest (BodyOf shows) (sym c.lacks_memory.ensures ∙ c.if-lacks_memory.false) (rw w.in-Err.is at b) going))
       ],
 )

@@ -1,10 +1,8 @@
 use Rattle.std.proofs.Common.{◌∙◌, sym}
-use Rattle.pure_parser.specs.Parser.{Stop}
 use Rattle.pure_parser.specs.Stmts as pure
 use Rattle.std.proofs.Common.{[]}
 use Rattle.script_grammar.specs.Shows.{ShowParam}
 use Rattle.pure_parser.specs.Exprs.{params_led}
-use Rattle.pure_parser.specs.Parser.{stopped}
 use Rattle.parse_exprs.specs.Env.{env_at}
 use Rattle.parse_exprs.specs.Means.{ItemsOf, ParamsEndOf}
 use Rattle.parse_exprs.proofs.Onward.{items_maps}

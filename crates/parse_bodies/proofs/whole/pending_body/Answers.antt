@@ -1,4 +1,4 @@
-use Rattle.parse_exprs.specs.Answers.{records, Answers}
+use Rattle.parse_exprs.specs.Answers.{Answers}
 use Rattle.parse_bodies.proofs.Later.{none_before}
 use Rattle.std.proofs.Common.{subst}
 use Rattle.pure_parser.specs.Stmts as pure

@@ -1,7 +1,6 @@
-use Rattle.std.proofs.Common.{◌+◌, ◌≡◌, ◌∙◌, List, [], ◌∷◌, ◌++◌, reverse, length, refl, sym, ap, subst, arith, append-nil, length-append, Ok, Err}
-use Rattle.std.specs.Prelude.{Vec, option_to_list}
+use Rattle.std.proofs.Common.{◌+◌, ◌∙◌, List, [], ◌∷◌, ◌++◌, reverse, length, sym, ap, subst, append-nil, length-append, Err}
+use Rattle.std.specs.Prelude.{Vec}
 use Rattle.std.specs.declared.alloc.Global.{Global}
-use Rattle.script_grammar.specs.Interpretation.{Interpretation}
 use Rattle.parse_exprs.specs.declared.place.Pending.{Pending}
 use Rattle.parse_exprs.proofs.Closing.{ended}
 use Rattle.parse_bodies.specs.Means.{BodyOf}

@@ -1,111 +1,145 @@
 -- One file: what is printed is the text of its verdict, which is the only one.
-use Rattle.std.proofs.Common.{◌≡◌, ℕ, ◌+◌, ◌<◌, ◌≤◌, Bool, true, false, List, [], ◌∷◌, ◌++◌, length, Option, Some, None, Vec, map, refl, ap, sym, ◌∙◌, subst, arith}
+use Rattle.std.proofs.Common.{◌≡◌, ℕ, zero, suc, ◌+◌, ◌<◌, ◌≤◌, Bool, true, false, List, [], ◌∷◌, ◌++◌, length, get_or, Option, Some, None, Vec, map, refl, ap, sym, ◌∙◌, subst, arith}
 use Rattle.std.specs.Str.{IsUtf8}
 use Rattle.std.specs.declared.alloc.Global.{Global}
 use Rattle.script_grammar.specs.declared.token.Token.{Token}
-use Rattle.script_grammar.specs.Lexeme.{Lexeme}
+use Rattle.script_grammar.specs.declared.tree.Stmt.{Stmt}
+use Rattle.script_grammar.specs.Fault.{Refusal as Fault, Unexpected, TooDeep}
+use Rattle.script_grammar.specs.Interpretation.{Interpretation}
+use Rattle.script_grammar.specs.Lexeme.{Lexeme, lexeme_of}
 use Rattle.script_grammar.specs.Tree.{Stmts}
+use Rattle.script_grammar.specs.TreeLists.{stmts_of}
+use Rattle.script_grammar.specs.TreeOf.{stmt_of}
 use Rattle.bytecode_buf.specs.Width.{width_of}
 use Rattle.bytecode_buf.specs.Layout.{Numbered}
 use Rattle.bytecode_buf.specs.Command.{Command, command_of, command_at, listed_from, Listed, placed_from, placed}
 use Rattle.outside.specs.Loops.{IsWholeWithin}
+use Rattle.parse_exprs.specs.Env.{body_at}
+use Rattle.script_scanner.specs.Lexemes.{lexemes}
 use Rattle.compile_session.specs.declared.file.Outcome.{Outcome}
 use Rattle.compile_session.specs.declared.file.Outcome.TheVariants as outcome
-use Rattle.compile_session.specs.declared.parser.Statement.{Statement}
 use Rattle.compile_session.specs.declared.refusal.Refusal.{Refusal}
 use Rattle.compile_session.specs.declared.refusal.Refusal.TheVariants as refusal
-use Rattle.script_scanner.specs.Lexemes.{lexemes}
-use Rattle.compile_session.specs.Seen.{seen}
-use Rattle.compile_session.specs.Built.{IsBuiltScript}
-use Rattle.compile_session.specs.ReadBuilt.{read_stmts}
-use Rattle.compile_session.specs.Statements.{IsRead, stmts_of}
+use Rattle.compile_session.specs.Built.{are_built_stmts}
 use Rattle.compile_session.specs.Code.{script_code}
 use Rattle.compile_session.specs.Emission.{Emits}
 use Rattle.compile_session.specs.Listing.{listing, AppendsListing}
-use Rattle.compile_session.specs.Verdict.{Verdict, IsListed, IsRefused, IsRefusedAs, IsVerdict, head_text, script_text, refusal_text, most_bytes}
-use Rattle.compile_session.specs.Answers.{IsListing, IsOutcome, Settles}
-use Rattle.compile_session.proofs.ScriptLemmas.{read-sound, read-complete}
+use Rattle.compile_session.specs.Reading.{IsKept}
+use Rattle.compile_session.specs.Verdict.{Verdict, IsListed, IsRefused, IsRefusedAs, IsVerdict, head_text, script_text, refusal_text, start_of, most_bytes}
+use Rattle.compile_session.specs.Answers.{IsListing, IsScriptOutcome, IsOutcome, Settles}
+use Rattle.compile_session.proofs.BuiltLemmas.{stmts_fill, same_stmts}
+use Rattle.compile_session.proofs.TextLemmas.{one_text, text_no_fault, one_offset, one_kind}
 
 -- listed instructions are their commands at their places
 listed_from-placed : (texts : List (List ℕ)) (is : List Numbered) (at : ℕ) → listed_from texts at is ≡ placed_from at (map (command_of texts) is)
 listed_from-placed texts [] at = refl
 listed_from-placed texts (i ∷ is) at = ap (λ (ls : List Listed). record { at = at; command = command_at at (command_of texts i) } ∷ ls) (listed_from-placed texts is (at + width_of i.op))
 
--- what was parsed, emitted and listed is the listing of the script that the tokens are
-pub is_listed : (name : List ℕ) (size : ℕ) (texts : List (List ℕ)) (tokens : List Token) (statements seen_statements : List Statement) (code seen_code head out : List ℕ) → read_stmts (seen texts tokens) ≡ Some (stmts_of texts statements) → seen_statements ≡ statements → Emits [] code (λ ts. script_code (stmts_of ts seen_statements)) → head ≡ head_text name size → seen_code ≡ code → AppendsListing texts seen_code head out → (script : Stmts) × IsBuiltScript (seen texts tokens) script × (out ≡ script_text name size script)
-is_listed name size texts tokens statements seen_statements code seen_code head out parsed same_statements emits is_head same_code appends =
-    (script, read-sound (seen texts tokens) script parsed, printed)
+-- what was emitted and listed is the listing of the script
+pub is_listed : (name : List ℕ) (size : ℕ) (i : Interpretation) (script : Stmts) (code seen_code head out : List ℕ) (coded : Interpretation → List Command) → Emits [] code coded → coded i ≡ script_code script → head ≡ head_text name size → seen_code ≡ code → AppendsListing i.texts seen_code head out → out ≡ script_text name size script
+is_listed name size i script code seen_code head out coded emits is is_head same_code appends =
+    appends emits.numbered emits.fit (same_code ∙ emits.bytes)
+    ∙ ap (λ (l : List ℕ). l ++ listing (listed_from i.texts 0 emits.numbered)) is_head
+    ∙ ap (λ (l : List ℕ). head_text name size ++ l) lines
   where
-    script : Stmts
-    script = stmts_of texts statements
+    lines : listing (listed_from i.texts 0 emits.numbered) ≡ listing (placed (script_code script))
+    lines = ap listing (listed_from-placed i.texts emits.numbered 0) ∙ ap (λ (cs : List Command). listing (placed cs)) (emits.stands i ∙ is)
 
-    stands : map (command_of texts) emits.numbered ≡ script_code script
-    stands = emits.stands texts ∙ ap (λ (ss : List Statement). script_code (stmts_of texts ss)) same_statements
+-- the offset of a token
+pub starts_none : (get set : ℕ) (texts : List (List ℕ)) (ts : List Token) (k : ℕ) → length ts ≤ k → 0 ≡ start_of (map (lexeme_of get set texts) ts) k
+starts_none get set texts [] k h = refl
+starts_none get set texts (t ∷ ts) zero h = absurd (omega (arith, h))
+starts_none get set texts (t ∷ ts) (suc k) h = starts_none get set texts ts k (omega (arith, h))
 
-    lines : listing (listed_from texts 0 emits.numbered) ≡ listing (placed (script_code script))
-    lines = ap listing (listed_from-placed texts emits.numbered 0) ∙ ap (λ (cs : List Command). listing (placed cs)) stands
+pub starts_at : (get set : ℕ) (texts : List (List ℕ)) (ts : List Token) (k : ℕ) (d : Token) → k < length ts → (get_or ts k d).start ≡ start_of (map (lexeme_of get set texts) ts) k
+starts_at get set texts [] k d h = absurd (omega (arith, h))
+starts_at get set texts (t ∷ ts) zero d h = refl
+starts_at get set texts (t ∷ ts) (suc k) d h = starts_at get set texts ts k d (omega (arith, h))
 
-    printed : out ≡ script_text name size script
-    printed =
-        appends emits.numbered emits.fit (same_code ∙ emits.bytes)
-        ∙ ap (λ (l : List ℕ). l ++ listing (listed_from texts 0 emits.numbered)) is_head
-        ∙ ap (λ (l : List ℕ). head_text name size ++ l) lines
-
--- what was not parsed is no script of the built form
-pub is_not_built : (texts : List (List ℕ)) (tokens : List Token) → read_stmts (seen texts tokens) ≡ None → (script : Stmts) → IsBuiltScript (seen texts tokens) script → ⊥
-is_not_built texts tokens parsed script built =
-    let read = read-complete (seen texts tokens) script built in
-    let never : Some script ≡ None = sym read ∙ parsed in
-    cc
-
--- what was read, and what was not
-pub read_script : (texts : List (List ℕ)) (tokens : List Token) (b : Bool) (statements : List Statement) → b ≡ true → IsRead texts tokens b statements → read_stmts (seen texts tokens) ≡ Some (stmts_of texts statements)
-read_script texts tokens b statements is read = let P : Bool → Type 0 = λ x. IsRead texts tokens x statements in subst P is read
-
-pub read_none : (texts : List (List ℕ)) (tokens : List Token) (b : Bool) (statements : List Statement) → b ≡ false → IsRead texts tokens b statements → read_stmts (seen texts tokens) ≡ None
-read_none texts tokens b statements is read = let P : Bool → Type 0 = λ x. IsRead texts tokens x statements in subst P is read
+pub starts_same : (get set : ℕ) (texts : List (List ℕ)) (ts seen : List Token) (k seen_k offset : ℕ) → seen ≡ ts → seen_k ≡ k → offset ≡ start_of (map (lexeme_of get set texts) seen) seen_k → offset ≡ start_of (map (lexeme_of get set texts) ts) k
+starts_same get set texts ts seen k seen_k offset same same_k h =
+    h ∙ ap (start_of (map (lexeme_of get set texts) seen)) same_k ∙ ap (λ (xs : List Token). start_of (map (lexeme_of get set texts) xs) k) same
 
 -- A file has one verdict.
+
+unlike : ◌≡◌ {A = Fault} Unexpected TooDeep → ⊥
+unlike e = cc
+
+never_both_built : (b : Bool) → b ≡ true → b ≡ false → ⊥
+never_both_built b t f = let e = sym t ∙ f in cc
 
 refusals_equal : (before : ℕ) (file : List ℕ) (one two : Refusal) → IsRefusedAs before file one → IsRefusedAs before file two → one ≡ two
 refusals_equal before file refusal.TooLong refusal.TooLong h k = refl
 refusals_equal before file refusal.TooLong (refusal.BadUtf8 offset) h k = absurd (omega (arith, h, k.0))
+refusals_equal before file refusal.TooLong (refusal.Unexpected offset) h k = absurd (omega (arith, h, k.0))
+refusals_equal before file refusal.TooLong (refusal.TooDeep offset) h k = absurd (omega (arith, h, k.0))
 refusals_equal before file refusal.TooLong refusal.NotBuilt h k = absurd (omega (arith, h, k.0))
 refusals_equal before file (refusal.BadUtf8 offset) refusal.TooLong h k = absurd (omega (arith, h.0, k))
 refusals_equal before file (refusal.BadUtf8 offset) (refusal.BadUtf8 other) h k = ap refusal.BadUtf8 (h.2 ∙ sym k.2)
+refusals_equal before file (refusal.BadUtf8 offset) (refusal.Unexpected other) h k = absurd (h.1 k.1)
+refusals_equal before file (refusal.BadUtf8 offset) (refusal.TooDeep other) h k = absurd (h.1 k.1)
 refusals_equal before file (refusal.BadUtf8 offset) refusal.NotBuilt h k = absurd (h.1 k.1)
+refusals_equal before file (refusal.Unexpected offset) refusal.TooLong h k = absurd (omega (arith, h.0, k))
+refusals_equal before file (refusal.Unexpected offset) (refusal.BadUtf8 other) h k = absurd (k.1 h.1)
+refusals_equal before file (refusal.Unexpected offset) (refusal.Unexpected other) h k = ap refusal.Unexpected (one_offset (lexemes file) Unexpected Unexpected offset other h.2 k.2)
+refusals_equal before file (refusal.Unexpected offset) (refusal.TooDeep other) h k = absurd (unlike (one_kind (lexemes file) Unexpected TooDeep offset other h.2 k.2))
+refusals_equal before file (refusal.Unexpected offset) refusal.NotBuilt h k = absurd (text_no_fault (lexemes file) k.2.script Unexpected offset k.2.text h.2)
+refusals_equal before file (refusal.TooDeep offset) refusal.TooLong h k = absurd (omega (arith, h.0, k))
+refusals_equal before file (refusal.TooDeep offset) (refusal.BadUtf8 other) h k = absurd (k.1 h.1)
+refusals_equal before file (refusal.TooDeep offset) (refusal.Unexpected other) h k = absurd (unlike (one_kind (lexemes file) Unexpected TooDeep other offset k.2 h.2))
+refusals_equal before file (refusal.TooDeep offset) (refusal.TooDeep other) h k = ap refusal.TooDeep (one_offset (lexemes file) TooDeep TooDeep offset other h.2 k.2)
+refusals_equal before file (refusal.TooDeep offset) refusal.NotBuilt h k = absurd (text_no_fault (lexemes file) k.2.script TooDeep offset k.2.text h.2)
 refusals_equal before file refusal.NotBuilt refusal.TooLong h k = absurd (omega (arith, h.0, k))
 refusals_equal before file refusal.NotBuilt (refusal.BadUtf8 offset) h k = absurd (k.1 h.1)
+refusals_equal before file refusal.NotBuilt (refusal.Unexpected offset) h k = absurd (text_no_fault (lexemes file) h.2.script Unexpected offset h.2.text k.2)
+refusals_equal before file refusal.NotBuilt (refusal.TooDeep offset) h k = absurd (text_no_fault (lexemes file) h.2.script TooDeep offset h.2.text k.2)
 refusals_equal before file refusal.NotBuilt refusal.NotBuilt h k = refl
 
 never_both : (before : ℕ) (file : List ℕ) (script : Stmts) (why : Refusal) → IsVerdict before file (IsListed script) → IsRefusedAs before file why → ⊥
 never_both before file script refusal.TooLong h k = omega (arith, h.0, k)
 never_both before file script (refusal.BadUtf8 offset) h k = k.1 h.1
-never_both before file script refusal.NotBuilt h k = k.2 script h.2
+never_both before file script (refusal.Unexpected offset) h k = text_no_fault (lexemes file) script Unexpected offset h.2.text k.2
+never_both before file script (refusal.TooDeep offset) h k = text_no_fault (lexemes file) script TooDeep offset h.2.text k.2
+never_both before file script refusal.NotBuilt h k = never_both_built (are_built_stmts script) h.2.built (ap are_built_stmts (one_text (lexemes file) script k.2.script h.2.text k.2.text) ∙ k.2.built)
 
 pub verdicts_equal : (before : ℕ) (file : List ℕ) (one two : Verdict) → IsVerdict before file one → IsVerdict before file two → one ≡ two
-verdicts_equal before file (IsListed script) (IsListed other) h k =
-    let first = read-complete (lexemes file) script h.2 in
-    let second = read-complete (lexemes file) other k.2 in
-    let e : Some script ≡ Some other = sym first ∙ second in
-    let same : script ≡ other = cc in
-    ap IsListed same
+verdicts_equal before file (IsListed script) (IsListed other) h k = ap IsListed (one_text (lexemes file) script other h.2.text k.2.text)
 verdicts_equal before file (IsListed script) (IsRefused why) h k = absurd (never_both before file script why h k)
 verdicts_equal before file (IsRefused why) (IsListed script) h k = absurd (never_both before file script why k h)
 verdicts_equal before file (IsRefused why) (IsRefused other) h k = ap IsRefused (refusals_equal before file why other h k)
 
 -- What becomes of a file that was read.
 
--- the tokens as the calls see them
-pub seen_here : (texts seen_texts : List (List ℕ)) (tokens seen_tokens : List Token) (all : List Lexeme) → seen_texts ≡ texts → seen_tokens ≡ tokens → seen texts tokens ≡ all → seen seen_texts seen_tokens ≡ all
-seen_here texts seen_texts tokens seen_tokens all texts_same tokens_same is = ap (λ (ts : List (List ℕ)). seen ts seen_tokens) texts_same ∙ ap (λ (us : List Token). seen texts us) tokens_same ∙ is
+-- its script is listed, or is not of the built form
+pub script_outcome : (name : List ℕ) (size : ℕ) (i : Interpretation) (tokens : List Lexeme) (statements : List Stmt) (o : Outcome) → IsKept i tokens statements → IsListing name size (stmts_of (map (stmt_of i) statements)) o → IsScriptOutcome name size tokens o
+script_outcome name size i tokens statements (outcome.Listed text) kept h =
+    let built : are_built_stmts kept.items ≡ true = sym (ap are_built_stmts kept.shown ∙ stmts_fill (body_at i) kept.items) ∙ h.0 in
+    (kept.items, record { text = kept.is; built = built }, h.1 ∙ ap (script_text name size) (kept.shown ∙ same_stmts (body_at i) kept.items built))
+script_outcome name size i tokens statements (outcome.Refused refusal.NotBuilt) kept h =
+    record { script = kept.items; text = kept.is; built = sym (ap are_built_stmts kept.shown ∙ stmts_fill (body_at i) kept.items) ∙ h }
+script_outcome name size i tokens statements (outcome.Refused refusal.TooLong) kept h = absurd h
+script_outcome name size i tokens statements (outcome.Refused (refusal.BadUtf8 offset)) kept h = absurd h
+script_outcome name size i tokens statements (outcome.Refused (refusal.Unexpected offset)) kept h = absurd h
+script_outcome name size i tokens statements (outcome.Refused (refusal.TooDeep offset)) kept h = absurd h
 
--- tokens that were not parsed
-pub outcome_not_built : (name bytes : List ℕ) (tokens : List Lexeme) (listed : Option (Vec ℕ Global)) → length bytes ≤ most_bytes → IsUtf8 bytes → tokens ≡ lexemes bytes → IsListing name (length bytes) tokens listed → listed ≡ None → IsOutcome name bytes (outcome.Refused refusal.NotBuilt)
-outcome_not_built name bytes tokens listed short utf8 same is_listing none =
-    let P : Option (Vec ℕ Global) → Type 0 = λ o. IsListing name (length bytes) (lexemes bytes) o in
-    let Q : List Lexeme → Type 0 = λ ts. IsListing name (length bytes) ts listed in
-    (omega (arith, short), utf8, subst P none (subst Q same is_listing))
+-- the same, where the call for the listing sees the statements and the texts as slices
+pub seen_outcome : (name : List ℕ) (size : ℕ) (i : Interpretation) (tokens : List Lexeme) (statements seen_statements : List Stmt) (seen_texts : List (List ℕ)) (o : Outcome) → seen_statements ≡ statements → seen_texts ≡ i.texts → IsKept i tokens statements → IsListing name size (stmts_of (map (stmt_of (record { texts = seen_texts; bodies = i.bodies })) seen_statements)) o → IsScriptOutcome name size tokens o
+seen_outcome name size i tokens statements seen_statements seen_texts o same same_texts kept h =
+    script_outcome name size i tokens statements o kept
+    (subst (λ (ss : List Stmt). IsListing name size (stmts_of (map (stmt_of i) ss)) o) same
+    (subst (λ (ts : List (List ℕ)). IsListing name size (stmts_of (map (stmt_of (record { texts = ts; bodies = i.bodies })) seen_statements)) o) same_texts h))
+
+-- the tokens are those of a file
+pub file_outcome : (name bytes : List ℕ) (tokens : List Lexeme) (o : Outcome) → length bytes ≤ most_bytes → IsUtf8 bytes → tokens ≡ lexemes bytes → IsScriptOutcome name (length bytes) tokens o → IsOutcome name bytes o
+file_outcome name bytes tokens o short utf8 same h = by o (subst (λ (ts : List Lexeme). IsScriptOutcome name (length bytes) ts o) same h)
+  where
+    by : (o : Outcome) → IsScriptOutcome name (length bytes) (lexemes bytes) o → IsOutcome name bytes o
+    by (outcome.Listed text) k = (k.0, (omega (arith, short), utf8, k.1), k.2)
+    by (outcome.Refused (refusal.Unexpected offset)) k = (omega (arith, short), utf8, k)
+    by (outcome.Refused (refusal.TooDeep offset)) k = (omega (arith, short), utf8, k)
+    by (outcome.Refused refusal.NotBuilt) k = (omega (arith, short), utf8, k)
+    by (outcome.Refused refusal.TooLong) k = absurd k
+    by (outcome.Refused (refusal.BadUtf8 offset)) k = absurd k
 
 -- Verdicts.
 

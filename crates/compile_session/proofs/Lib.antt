@@ -1,9 +1,10 @@
 pub mod WordLemmas
 pub mod TokenLemmas
-pub mod ParseLemmas
-pub mod ScriptLemmas
 pub mod EmitLemmas
 pub mod ListLemmas
+pub mod BuiltLemmas
+pub mod TextLemmas
+pub mod ReadLemmas
 pub mod FileLemmas
 pub mod RunLemmas
 pub mod Rows

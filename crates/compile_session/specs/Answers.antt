@@ -1,19 +1,30 @@
 -- What the calls for one file answer.
-use Rattle.std.specs.Prelude.{◌≡◌, ℕ, Bool, List, Option, Some, None, Vec}
+use Rattle.std.specs.Prelude.{◌≡◌, ℕ, Bool, true, false, List, Option, Vec}
 use Rattle.std.specs.declared.alloc.Global.{Global}
-use Rattle.script_grammar.specs.Tree.{Stmts}
+use Rattle.script_grammar.specs.Fault.{Unexpected, TooDeep}
 use Rattle.script_grammar.specs.Lexeme.{Lexeme}
+use Rattle.script_grammar.specs.Tree.{Stmts}
+use Rattle.compile_session.specs.declared.refusal.Refusal.TheVariants as refusal
 use Rattle.compile_session.specs.declared.file.FileAnswer.{FileAnswer}
 use Rattle.compile_session.specs.declared.file.Outcome.{Outcome}
 use Rattle.compile_session.specs.declared.file.Outcome.TheVariants as outcome
-use Rattle.compile_session.specs.Built.{IsBuiltScript}
-use Rattle.compile_session.specs.Verdict.{Verdict, IsListed, IsVerdict, IsRefusedAs, is_refused, script_text, file_text, most_bytes}
+use Rattle.compile_session.specs.Built.{are_built_stmts}
+use Rattle.compile_session.specs.Verdict.{Verdict, IsListed, IsBuilt, IsUnbuilt, IsFaulty, IsVerdict, IsRefusedAs, is_refused, script_text, file_text, most_bytes}
 use Rattle.outside.specs.Loops.{IsWholeWithin}
 
--- the listing of the script that these tokens are, or none where they are no script of the built form
-abbrev pub IsListing : List ℕ → ℕ → List Lexeme → Option (Vec ℕ Global) → Type 0
-IsListing name size tokens None = (script : Stmts) → IsBuiltScript tokens script → ⊥
-IsListing name size tokens (Some text) = (script : Stmts) × IsBuiltScript tokens script × (text.items ≡ script_text name size script)
+-- the script of so many bytes is listed, where it is of the built form
+abbrev pub IsListing : List ℕ → ℕ → Stmts → Outcome → Type 0
+IsListing name size script (outcome.Listed text) = (are_built_stmts script ≡ true) × (text.items ≡ script_text name size script)
+IsListing name size script (outcome.Refused refusal.NotBuilt) = are_built_stmts script ≡ false
+IsListing name size script (outcome.Refused _) = ⊥
+
+-- what becomes of a file of so many bytes and these tokens
+abbrev pub IsScriptOutcome : List ℕ → ℕ → List Lexeme → Outcome → Type 0
+IsScriptOutcome name size tokens (outcome.Listed text) = (script : Stmts) × IsBuilt tokens script × (text.items ≡ script_text name size script)
+IsScriptOutcome name size tokens (outcome.Refused (refusal.Unexpected offset)) = IsFaulty tokens Unexpected offset
+IsScriptOutcome name size tokens (outcome.Refused (refusal.TooDeep offset)) = IsFaulty tokens TooDeep offset
+IsScriptOutcome name size tokens (outcome.Refused refusal.NotBuilt) = IsUnbuilt tokens
+IsScriptOutcome name size tokens (outcome.Refused _) = ⊥
 
 -- a file that stands alone is listed, or refused
 abbrev pub IsOutcome : List ℕ → List ℕ → Outcome → Type 0

@@ -1,46 +1,32 @@
 -- The built form: which trees of a script the program compiles so far. The form is this stage's own choice: every
--- statement is empty, or an expression with a written semicolon that is made of names, numbers, strings and binary `+`.
-use Rattle.std.specs.Prelude.{◌≡◌, true, false, List, [], ◌∷◌, ◌++◌}
-use Rattle.script_grammar.specs.declared.token.Kind.TheVariants as kind
+-- statement is empty, or an expression that is made of names, numbers, strings, binary `+` and parentheses.
+use Rattle.std.specs.Prelude.{ℕ, Bool, true, false, not, ◌&&◌, nat_eq}
 use Rattle.script_grammar.specs.declared.token.mark.TheConstants as mark
-use Rattle.script_grammar.specs.Lexeme.{Lexeme}
-use Rattle.script_grammar.specs.Tree.{Named, Expr, Operands, no_operands, more_operands, Stmt, Stmts, no_stmts, more_stmts}
+use Rattle.script_grammar.specs.Tree.{Expr, Operands, no_operands, more_operands, Stmt, Stmts, no_stmts, more_stmts}
 use Rattle.script_grammar.specs.Tree as tree
-use Rattle.script_grammar.specs.Script.{IsScript}
 
--- a name, a number or a string
-abbrev pub IsBuiltOperand : Expr → Type 0
-IsBuiltOperand (tree.Name name) = Unit {0}
-IsBuiltOperand (tree.Number at value) = Unit {0}
-IsBuiltOperand (tree.Str at end text) = Unit {0}
-IsBuiltOperand _ = ⊥
+-- the operator is a mark and no word, and it is `+`
+abbrev pub is_plus : ℕ → Bool → Bool
+is_plus operator is_word = not is_word && nat_eq operator mark.PLUS
 
--- each behind a `+`
-abbrev pub AreBuiltOperands : Operands → Type 0
-AreBuiltOperands no_operands = Unit {0}
-AreBuiltOperands (more_operands op is_word value rest) = (op ≡ mark.PLUS) × (is_word ≡ false) × IsBuiltOperand value × AreBuiltOperands rest
+abbrev mutual
+  pub is_built_expr : Expr → Bool
+  is_built_expr (tree.Name name) = true
+  is_built_expr (tree.Number at value) = true
+  is_built_expr (tree.Str at end text) = true
+  is_built_expr (tree.Paren at inner) = is_built_expr inner
+  is_built_expr (tree.Binary first rest) = is_built_expr first && are_built_operands rest
+  is_built_expr _ = false
 
-abbrev pub IsBuiltExpr : Expr → Type 0
-IsBuiltExpr (tree.Name name) = Unit {0}
-IsBuiltExpr (tree.Number at value) = Unit {0}
-IsBuiltExpr (tree.Str at end text) = Unit {0}
-IsBuiltExpr (tree.Binary first rest) = IsBuiltOperand first × AreBuiltOperands rest
-IsBuiltExpr _ = ⊥
+  pub are_built_operands : Operands → Bool
+  are_built_operands no_operands = true
+  are_built_operands (more_operands operator is_word value rest) = is_plus operator is_word && (is_built_expr value && are_built_operands rest)
 
-abbrev pub IsBuiltStmt : Stmt → Type 0
-IsBuiltStmt tree.Empty = Unit {0}
-IsBuiltStmt (tree.Value e semi) = (semi ≡ true) × IsBuiltExpr e
-IsBuiltStmt _ = ⊥
+abbrev pub is_built_stmt : Stmt → Bool
+is_built_stmt tree.Empty = true
+is_built_stmt (tree.Value e semi) = is_built_expr e
+is_built_stmt _ = false
 
-abbrev pub AreBuiltStmts : Stmts → Type 0
-AreBuiltStmts no_stmts = Unit {0}
-AreBuiltStmts (more_stmts s ss) = IsBuiltStmt s × AreBuiltStmts ss
-
--- Tokens, the last of them End, are a script of the built form with this tree.
-pub record IsBuiltScript (tokens : List Lexeme) (items : Stmts) : Type 0 where
-  pub words : List Lexeme
-  pub last : Lexeme
-  pub split : tokens ≡ words ++ last ∷ []
-  pub ends : last.kind ≡ kind.End
-  pub script : IsScript words last items
-  pub built : AreBuiltStmts items
+abbrev pub are_built_stmts : Stmts → Bool
+are_built_stmts no_stmts = true
+are_built_stmts (more_stmts s ss) = is_built_stmt s && are_built_stmts ss

@@ -22,6 +22,7 @@ abbrev mutual
   expr_code (tree.Name name) = named op.GetGName name.text ∷ []
   expr_code (tree.Number at value) = number_code value ∷ []
   expr_code (tree.Str at end text) = named op.String text ∷ []
+  expr_code (tree.Paren at inner) = expr_code inner
   expr_code (tree.Binary first rest) = expr_code first ++ operands_code rest
   expr_code _ = []
 

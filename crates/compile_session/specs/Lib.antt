@@ -1,11 +1,9 @@
-pub mod Seen
-pub mod Atoms
+pub mod Tokens
 pub mod Built
-pub mod ReadBuilt
-pub mod Statements
 pub mod Words
 pub mod Code
 pub mod Emission
 pub mod Listing
+pub mod Reading
 pub mod Verdict
 pub mod Answers

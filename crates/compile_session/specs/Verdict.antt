@@ -1,16 +1,20 @@
 -- What the program answers for one file, and for all files of the command.
-use Rattle.std.specs.Prelude.{◌≡◌, ℕ, ◌+◌, ◌<◌, ◌≤◌, Bool, true, false, ◌||◌, List, [], ◌∷◌, ◌++◌, length, Option, Some, None, codes}
+use Rattle.std.specs.Prelude.{◌≡◌, ℕ, zero, suc, ◌+◌, ◌<◌, ◌≤◌, Bool, true, false, ◌||◌, List, [], ◌∷◌, ◌++◌, length, Option, Some, None, codes}
 use Rattle.std.specs.Fmt.{decimal}
 use Rattle.std.specs.Str.{IsUtf8}
 use Rattle.std.specs.Str.Lossy.{utf8_valid_len}
+use Rattle.script_grammar.specs.Fault.{Refusal as Fault, Unexpected, TooDeep, FirstFault, ScriptPart}
+use Rattle.script_grammar.specs.Lexeme.{Lexeme}
+use Rattle.script_grammar.specs.Pieces.{whole}
 use Rattle.script_grammar.specs.Tree.{Stmts}
 use Rattle.bytecode_buf.specs.Command.{placed}
+use Rattle.parse_bodies.specs.Whole.{IsText}
+use Rattle.script_scanner.specs.Lexemes.{lexemes}
 use Rattle.compile_session.specs.declared.refusal.Refusal.{Refusal}
 use Rattle.compile_session.specs.declared.refusal.Refusal.TheVariants as refusal
 use Rattle.compile_session.specs.declared.status.Status.{Status}
 use Rattle.compile_session.specs.declared.status.Status.TheVariants as status
-use Rattle.script_scanner.specs.Lexemes.{lexemes}
-use Rattle.compile_session.specs.Built.{IsBuiltScript}
+use Rattle.compile_session.specs.Built.{are_built_stmts}
 use Rattle.compile_session.specs.Code.{script_code}
 use Rattle.compile_session.specs.Listing.{listing}
 use Rattle.compile_session.specs.Words.{files_of}
@@ -24,16 +28,41 @@ pub data Verdict : Type 0 where
   IsListed : Stmts → Verdict
   IsRefused : Refusal → Verdict
 
+-- the tokens are a script with this tree, which is of the built form
+pub record IsBuilt (tokens : List Lexeme) (script : Stmts) : Type 0 where
+  pub text : IsText tokens script
+  pub built : are_built_stmts script ≡ true
+
+-- the tokens are a script that is not of the built form
+pub record IsUnbuilt (tokens : List Lexeme) : Type 0 where
+  pub script : Stmts
+  pub text : IsText tokens script
+  pub built : are_built_stmts script ≡ false
+
+-- the offset where token k starts
+abbrev pub start_of : List Lexeme → ℕ → ℕ
+start_of [] k = 0
+start_of (t ∷ ts) zero = t.start
+start_of (t ∷ ts) (suc k) = start_of ts k
+
+-- the tokens are no script: their first fault is of this kind, at the token that starts at this offset
+pub record IsFaulty (tokens : List Lexeme) (why : Fault) (offset : ℕ) : Type 0 where
+  pub token : ℕ
+  pub first : FirstFault (ScriptPart whole 0) tokens token why
+  pub place : offset ≡ start_of tokens token
+
 -- When a file behind so many bytes of other files has each refusal: where more than one would stand, the first of them. The
 -- offset of bad UTF-8 is the length of the longest front of the file that is UTF-8.
 abbrev pub IsRefusedAs : ℕ → List ℕ → Refusal → Type 0
 IsRefusedAs before file refusal.TooLong = most_bytes < before + length file
 IsRefusedAs before file (refusal.BadUtf8 offset) = (before + length file ≤ most_bytes) × (IsUtf8 file → ⊥) × (offset ≡ utf8_valid_len file)
-IsRefusedAs before file refusal.NotBuilt = (before + length file ≤ most_bytes) × IsUtf8 file × ((script : Stmts) → IsBuiltScript (lexemes file) script → ⊥)
+IsRefusedAs before file (refusal.Unexpected offset) = (before + length file ≤ most_bytes) × IsUtf8 file × IsFaulty (lexemes file) Unexpected offset
+IsRefusedAs before file (refusal.TooDeep offset) = (before + length file ≤ most_bytes) × IsUtf8 file × IsFaulty (lexemes file) TooDeep offset
+IsRefusedAs before file refusal.NotBuilt = (before + length file ≤ most_bytes) × IsUtf8 file × IsUnbuilt (lexemes file)
 
 -- the verdict of a file behind so many bytes of other files
 abbrev pub IsVerdict : ℕ → List ℕ → Verdict → Type 0
-IsVerdict before file (IsListed script) = (before + length file ≤ most_bytes) × IsUtf8 file × IsBuiltScript (lexemes file) script
+IsVerdict before file (IsListed script) = (before + length file ≤ most_bytes) × IsUtf8 file × IsBuilt (lexemes file) script
 IsVerdict before file (IsRefused why) = IsRefusedAs before file why
 
 abbrev pub is_refused : Verdict → Bool
@@ -48,10 +77,16 @@ head_text name size = (((codes "file " ++ name) ++ codes "\nscript 0 top 0..") +
 abbrev pub script_text : List ℕ → ℕ → Stmts → List ℕ
 script_text name size script = head_text name size ++ listing (placed (script_code script))
 
+-- a file's name and a place in it
+abbrev pub at_offset : List ℕ → ℕ → List ℕ
+at_offset name offset = (name ++ codes ":") ++ decimal offset
+
 -- the line that is printed for a refused file
 abbrev pub refusal_text : List ℕ → Refusal → List ℕ
 refusal_text name refusal.TooLong = name ++ codes ": too long\n"
-refusal_text name (refusal.BadUtf8 offset) = ((name ++ codes ":") ++ decimal offset) ++ codes ": not UTF-8\n"
+refusal_text name (refusal.BadUtf8 offset) = at_offset name offset ++ codes ": not UTF-8\n"
+refusal_text name (refusal.Unexpected offset) = at_offset name offset ++ codes ": unexpected\n"
+refusal_text name (refusal.TooDeep offset) = at_offset name offset ++ codes ": too deep\n"
 refusal_text name refusal.NotBuilt = name ++ codes ": not built\n"
 
 -- what is printed for a file

@@ -1,19 +1,26 @@
 //! What is printed for one file.
 
-ghost use Rattle.std.specs.Prelude.{◌≡◌, ◌≤◌, true, length, IfOk};
+ghost use Rattle.std.specs.Prelude.{◌≡◌, ℕ, ◌≤◌, ◌++◌, true, List, length, map, IfOk};
 ghost use Rattle.outside.specs.Loops.{HasAtMost};
-ghost use Rattle.compile_session.specs.Atoms.{AtomsFit};
-ghost use Rattle.compile_session.specs.Seen.{seen};
+ghost use Rattle.script_grammar.specs.Lexeme.{lexeme_of};
+ghost use Rattle.script_grammar.specs.Tree.{Stmts};
+ghost use Rattle.script_grammar.specs.TreeLists.{stmts_of};
+ghost use Rattle.script_grammar.specs.TreeOf.{stmt_of};
+ghost use Rattle.script_scanner.specs.Stands.{HasOneLast};
+ghost use Rattle.parse_exprs.specs.Source.{IsScanned};
+ghost use Rattle.compile_session.specs.Tokens.{tokens_in};
 ghost use Rattle.compile_session.specs.Verdict as verdict;
-ghost use Rattle.compile_session.specs.Verdict.{most_bytes, head_text};
-ghost use Rattle.compile_session.specs.Answers.{IsListing, IsOutcome, SettlesRead};
+ghost use Rattle.compile_session.specs.Verdict.{at_offset, most_bytes, head_text};
+ghost use Rattle.compile_session.specs.Answers.{IsListing, IsScriptOutcome, IsOutcome, SettlesRead};
 
-use crate::emitter::emit_script;
-use crate::file_tokens::tokens_of;
-use crate::parser::parse_into;
+use crate::emitter::{EmitFault, emit_script};
+use crate::file_tokens::{FileTokens, tokens_of};
 use crate::printer::{append_decimal, append_listing};
+use crate::reading::statements_of;
 use crate::refusal::Refusal;
+use parse_exprs::place::ParseFault;
 use script_grammar::token::Token;
+use script_grammar::tree::Stmt;
 use std::alloc::{AllocError, Global};
 use stencil_data::Text;
 use unit_text::DecodeFault;
@@ -47,27 +54,59 @@ fn head_text(alloc: Global, name: &str, size: usize) -> Result<Vec<u8>, AllocErr
     Ok(out)
 }
 
-/// The listing of the script of so many bytes that the tokens are, or none where they are no script of
-/// the built form.
+/// The listing of the script of so many bytes that has these statements, where it is of the built form.
 fn listing_of(
     alloc: Global,
     name: &str,
     size: usize,
-    tokens: &[Token],
+    statements: &[Stmt],
     texts: &[Text],
-) -> Result<Option<Vec<u8>>, AllocError>
-    requires { AtomsFit tokens.now }
-    ensures { IfOk result (IsListing name.now size (seen texts.now tokens.now)) }
+) -> Result<Outcome, AllocError>
+    ensures { IfOk result (λ outcome. (bodies : ℕ → Stmts) → IsListing name.now size (stmts_of (map (stmt_of (record { texts = texts.now; bodies = bodies })) statements.now)) outcome) }
 {
-    let mut statements = Vec::new(alloc);
-    let is_script = parse_into(alloc, tokens, &mut statements)?;
-    if !is_script {
-        return Ok(None);
-    }
-    let code = emit_script(alloc, &statements)?;
+    let code = match emit_script(alloc, statements) {
+        Ok(code) => code,
+        Err(EmitFault::NotBuilt) => return Ok(Outcome::Refused(Refusal::NotBuilt)),
+        Err(EmitFault::NoMemory) => return Err(AllocError),
+    };
     let mut out = head_text(alloc, name, size)?;
     append_listing(alloc, &mut out, &code, texts)?;
-    Ok(Some(out))
+    Ok(Outcome::Listed(out))
+}
+
+/// The offset where the token of this number starts.
+fn start_of(tokens: &[Token], token: u32) -> u32
+    ensures { (get : ℕ) (set : ℕ) (texts : List (List ℕ)) → result ≡ verdict.start_of (map (lexeme_of get set texts) tokens.now) token }
+{
+    match tokens.get(token as usize) {
+        None => 0,
+        Some(token) => token.start,
+    }
+}
+
+/// What becomes of a file with these tokens, which is so many bytes long.
+fn script_outcome(
+    alloc: Global,
+    name: &str,
+    size: usize,
+    file: &FileTokens,
+) -> Result<Outcome, AllocError>
+    requires scanned { IsScanned file.now.tokens.items }
+    requires last { HasOneLast file.now.tokens.items }
+    ensures { IfOk result (IsScriptOutcome name.now size (tokens_in file.now)) }
+{
+    match statements_of(alloc, file) {
+        Ok(statements) => Ok(listing_of(alloc, name, size, &statements, &file.texts)?),
+        Err(ParseFault::Unexpected { token }) => {
+            let offset = start_of(&file.tokens, token);
+            Ok(Outcome::Refused(Refusal::Unexpected { offset }))
+        }
+        Err(ParseFault::TooDeep { token }) => {
+            let offset = start_of(&file.tokens, token);
+            Ok(Outcome::Refused(Refusal::TooDeep { offset }))
+        }
+        Err(ParseFault::NoMemory) => Err(AllocError),
+    }
 }
 
 /// What becomes of a file with these bytes.
@@ -76,30 +115,48 @@ fn outcome_of(alloc: Global, name: &str, bytes: &[u8]) -> Result<Outcome, AllocE
     ensures { IfOk result (IsOutcome name.now bytes.now) }
 {
     match tokens_of(alloc, bytes) {
-        Ok((tokens, texts)) => match listing_of(alloc, name, bytes.len(), &tokens, &texts)? {
-            None => Ok(Outcome::Refused(Refusal::NotBuilt)),
-            Some(text) => Ok(Outcome::Listed(text)),
-        },
+        Ok(file) => Ok(script_outcome(alloc, name, bytes.len(), &file)?),
         Err(DecodeFault::BadUtf8 { offset }) => Ok(Outcome::Refused(Refusal::BadUtf8 { offset })),
         Err(DecodeFault::NoMemory) => Err(AllocError),
     }
+}
+
+/// A line that tells something of a file.
+fn line_of_file(alloc: Global, name: &str, words: &[u8]) -> Result<Vec<u8>, AllocError>
+    ensures { IfOk result (λ text. text.items ≡ name.now ++ words.now) }
+{
+    let mut out = Vec::from_slice(alloc, name.as_bytes())?;
+    out.extend_from_slice(words)?;
+    Ok(out)
+}
+
+/// A line that tells something of a place in a file.
+fn line_of_place(
+    alloc: Global,
+    name: &str,
+    offset: u32,
+    words: &[u8],
+) -> Result<Vec<u8>, AllocError>
+    ensures { IfOk result (λ text. text.items ≡ at_offset name.now offset ++ words.now) }
+{
+    let mut out = Vec::from_slice(alloc, name.as_bytes())?;
+    out.extend_from_slice(b":")?;
+    append_decimal(alloc, &mut out, u64::from(offset))?;
+    out.extend_from_slice(words)?;
+    Ok(out)
 }
 
 /// The line that is printed for a refused file.
 fn refusal_text(alloc: Global, name: &str, why: Refusal) -> Result<Vec<u8>, AllocError>
     ensures { IfOk result (λ text. text.items ≡ verdict.refusal_text name.now why) }
 {
-    let mut out = Vec::from_slice(alloc, name.as_bytes())?;
     match why {
-        Refusal::TooLong => out.extend_from_slice(b": too long\n")?,
-        Refusal::BadUtf8 { offset } => {
-            out.extend_from_slice(b":")?;
-            append_decimal(alloc, &mut out, u64::from(offset))?;
-            out.extend_from_slice(b": not UTF-8\n")?;
-        }
-        Refusal::NotBuilt => out.extend_from_slice(b": not built\n")?,
+        Refusal::TooLong => line_of_file(alloc, name, b": too long\n"),
+        Refusal::BadUtf8 { offset } => line_of_place(alloc, name, offset, b": not UTF-8\n"),
+        Refusal::Unexpected { offset } => line_of_place(alloc, name, offset, b": unexpected\n"),
+        Refusal::TooDeep { offset } => line_of_place(alloc, name, offset, b": too deep\n"),
+        Refusal::NotBuilt => line_of_file(alloc, name, b": not built\n"),
     }
-    Ok(out)
 }
 
 fn refused(alloc: Global, name: &str, why: Refusal) -> Result<FileAnswer, AllocError>

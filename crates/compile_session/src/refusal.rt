@@ -10,6 +10,16 @@ pub enum Refusal {
         /// The length of their longest front that is UTF-8, in bytes.
         offset: u32,
     },
-    /// The text is no script of the form that is built.
+    /// The text is no script: none goes on with some token of it, and none before it is too deep.
+    Unexpected {
+        /// Where the token starts, in bytes.
+        offset: u32,
+    },
+    /// Some token of the text is too deep, and scripts go on with all before it.
+    TooDeep {
+        /// Where the token starts, in bytes.
+        offset: u32,
+    },
+    /// The script is not of the form that is built.
     NotBuilt,
 }

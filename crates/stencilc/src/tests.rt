@@ -160,13 +160,63 @@ script 0 top 0..27
 }
 
 #[test]
+fn lists_parentheses_without_semicolons(rt: HostRuntime) -> Result<(), Fail> {
+    let listing: &[u8] = b"file a.js
+script 0 top 0..19
+  00000 GlobalOrEvalDeclInstantiation 0
+  00005 Zero
+  00006 One
+  00007 GetGName \"a\"
+  00012 Add
+  00013 Add
+  00014 SetRval
+  00015 String \"b\"
+  00020 SetRval
+  00021 RetRval
+";
+    assert!(rt; lists(&rt, rt.alloc(), b"(0 + (1 + a))\n('b')", listing)?);
+    Ok(())
+}
+
+#[test]
 fn refuses_what_is_not_built(rt: HostRuntime) -> Result<(), Fail> {
     let alloc = rt.alloc();
     let line: &[u8] = b"a.js: not built\n";
-    assert!(rt; refuses(&rt, alloc, b"1 + 2", line)?);
-    assert!(rt; refuses(&rt, alloc, b"let;", line)?);
-    assert!(rt; refuses(&rt, alloc, b"9007199254740992;", line)?);
-    assert!(rt; refuses(&rt, alloc, b"\"ab", line)?);
+    assert!(rt; refuses(&rt, alloc, b"a - b", line)?);
+    assert!(rt; refuses(&rt, alloc, b"1 + 2; let a", line)?);
+    assert!(rt; refuses(&rt, alloc, b"function f() { return x => { x } }", line)?);
+    Ok(())
+}
+
+#[test]
+fn refuses_an_unexpected_token(rt: HostRuntime) -> Result<(), Fail> {
+    let alloc = rt.alloc();
+    assert!(rt; refuses(&rt, alloc, b"1 2", b"a.js:2: unexpected\n")?);
+    assert!(rt; refuses(&rt, alloc, b"1 + ", b"a.js:4: unexpected\n")?);
+    assert!(rt; refuses(&rt, alloc, b"9007199254740992;", b"a.js:0: unexpected\n")?);
+    assert!(rt; refuses(&rt, alloc, b"x = \"ab", b"a.js:4: unexpected\n")?);
+    assert!(rt; refuses(&rt, alloc, b"let a; let a; )", b"a.js:14: unexpected\n")?);
+    assert!(rt; refuses(&rt, alloc, b"f(() => { 1 2 })", b"a.js:12: unexpected\n")?);
+    Ok(())
+}
+
+/// So many times this byte.
+fn many(alloc: Global, byte: u8, count: usize) -> Result<Vec<u8>, AllocError> {
+    vec![in alloc; byte; count]
+}
+
+#[test]
+fn refuses_what_is_too_deep(rt: HostRuntime) -> Result<(), Fail> {
+    let alloc = rt.alloc();
+    let mut nested = many(alloc, b'(', 398)?;
+    nested.extend_from_slice(b"x")?;
+    nested.extend_from_slice(&many(alloc, b')', 398)?)?;
+    let (status, _) = prints(&rt, alloc, &nested, b"")?;
+    assert!(rt; status == Status::Done);
+    let parens = many(alloc, b'(', 1000000)?;
+    assert!(rt; refuses(&rt, alloc, &parens, b"a.js:399: too deep\n")?);
+    let braces = many(alloc, b'{', 401)?;
+    assert!(rt; refuses(&rt, alloc, &braces, b"a.js:400: too deep\n")?);
     Ok(())
 }
 

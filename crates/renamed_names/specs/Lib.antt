@@ -1,0 +1,2 @@
+-- Names that are written down in another way.
+pub mod Renaming

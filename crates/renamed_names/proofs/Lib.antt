@@ -4,3 +4,7 @@ pub mod NameLists
 pub mod RegionRules
 pub mod JumpRules
 pub mod EarlyErrors
+pub mod Scopes
+pub mod Reached
+pub mod Bindings
+pub mod ClosedNames

@@ -1,2 +1,3 @@
 -- Names that are written down in another way.
 pub mod Renaming
+pub mod Starts

@@ -5,7 +5,7 @@ use Rattle.parse_track.specs.Told.{Region, Function, Arrow, Lambda, Told, nothin
 use Rattle.parse_track.specs.RegionNames.{is_lambda, is_function}
 use Rattle.parse_track.specs.ClosedNames.{Bound, begins, first_at, at_of, flags, bindings, kept, closed}
 use Rattle.renamed_names.specs.Renaming.{renamed_region, rewritten, renamed, renamed_known, renamed_bound, same_by}
-use Rattle.renamed_names.specs.Starts.{KeepsStarts, if_function, starts_with_function, AreAroundFunctions}
+use Rattle.renamed_names.specs.Starts.{KeepsStarts, if_function, starts_with_function, IsAroundFunction, AreAroundFunctions}
 use Rattle.renamed_names.proofs.Lists.{map_cond, append_both}
 use Rattle.renamed_names.proofs.Reached.{flags-renamed}
 use Rattle.renamed_names.proofs.Bindings.{bindings-renamed}
@@ -50,9 +50,9 @@ first_at_kept f at at' nothing e = absurd (let b : false ≡ true = e in cc)
 first_at_kept f at at' (leaf l t) e = first_at_kept f at at' t e
 first_at_kept f at at' (inner k there i t) e = ap (λ b. cond b there 0) e
 
-at_of_kept : {A B : Type 0} (f : A → B) (k : Region A) (at : ℕ) (i : Told A) → (is_lambda k ≡ true → starts_with_function i ≡ true) → begins false k ≡ true
+at_of_kept : {A B : Type 0} (f : A → B) (k : Region A) (at : ℕ) (i : Told A) → IsAroundFunction k i → begins false k ≡ true
     → at_of (renamed_region f k) (if_function k at) (rewritten f if_function i) ≡ at_of k at i
-at_of_kept f (Lambda x) at i h e = first_at_kept f at 0 i (h refl)
+at_of_kept f (Lambda x) at i h e = first_at_kept f at 0 i h
 at_of_kept f Function at i h e = refl
 at_of_kept f Arrow at i h e = refl
 at_of_kept f _ at i h e = absurd (let b : false ≡ true = e in cc)

@@ -1,3 +1,4 @@
 -- Names that are written down in another way.
 pub mod Renaming
 pub mod Starts
+pub mod Alike

@@ -8,3 +8,5 @@ pub mod Scopes
 pub mod Reached
 pub mod Bindings
 pub mod ClosedNames
+pub mod Twins
+pub mod ToldAlike

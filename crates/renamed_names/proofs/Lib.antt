@@ -10,3 +10,5 @@ pub mod Bindings
 pub mod ClosedNames
 pub mod Twins
 pub mod ToldAlike
+pub mod Around
+pub mod Scripts

@@ -2,3 +2,4 @@
 pub mod Renaming
 pub mod Starts
 pub mod Alike
+pub mod Texts

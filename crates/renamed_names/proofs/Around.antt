@@ -1,6 +1,5 @@
 -- In what a script tells, the region of a function expression's name is around a function.
 use Rattle.std.proofs.Common.{◌≡◌, Bool, true, false, cond, Option, None, Some, refl}
-use Rattle.script_grammar.specs.declared.token.FuncForm.{FuncForm}
 use Rattle.script_grammar.specs.declared.token.Decl.{Decl}
 use Rattle.script_grammar.specs.Kinds.{is_arrow_form}
 use Rattle.script_grammar.specs.Tree as tree
@@ -8,7 +7,7 @@ use Rattle.script_grammar.specs.Tree.{Named, Expr, MaybeExpr, no_expr, some_expr
 use Rattle.parse_track.specs.Told as told
 use Rattle.parse_track.specs.Told.{Region, Told, nothing}
 use Rattle.parse_track.specs.RegionNames.{is_function}
-use Rattle.parse_track.specs.Tells.{Text, has_initializer, function_region, body_region, function_name, in_named, declares_function, labels_on, labelled_region, tells_expr, tells_exprs, tells_maybe, tells_args, tells_parts, tells_array, tells_operands, tells_tails, tells_tail, tells_key, tells_prop, tells_props, tells_function, tells_params, tells_body, tells_binds, tells_init, tells_each, tells_clauses, tells_stmt, tells_stmts, tells_maybe_stmt, tells_script}
+use Rattle.parse_track.specs.Tells.{Text, has_initializer, body_region, function_name, in_named, declares_function, labels_on, labelled_region, tells_expr, tells_exprs, tells_maybe, tells_args, tells_parts, tells_array, tells_operands, tells_tails, tells_tail, tells_key, tells_prop, tells_props, tells_function, tells_params, tells_body, tells_binds, tells_init, tells_each, tells_clauses, tells_stmt, tells_stmts, tells_maybe_stmt, tells_script}
 use Rattle.renamed_names.specs.Starts.{starts_with_function, IsAroundFunction, AreAroundFunctions}
 
 is_function_region : (arrow : Bool) → is_function {A = Text} (cond arrow told.Arrow told.Function) ≡ true

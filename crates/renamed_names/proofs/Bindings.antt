@@ -1,7 +1,7 @@
 -- The bindings of what is told, with its names renamed.
-use Rattle.std.proofs.Common.{◌≡◌, ℕ, ◌+◌, Bool, true, false, cond, Option, None, Some, List, [], ◌∷◌, ◌++◌, map, length, refl, sym, ap, ◌∙◌}
+use Rattle.std.proofs.Common.{◌≡◌, ℕ, ◌+◌, Bool, true, false, cond, Option, Some, List, [], ◌∷◌, ◌++◌, map, length, refl, ap, ◌∙◌}
 use Rattle.std.proofs.lemmas.List.{length-map}
-use Rattle.parse_track.specs.Told.{Region, Script, Function, Arrow, Lambda, Told, nothing, leaf, inner, KnownNames}
+use Rattle.parse_track.specs.Told.{Region, Function, Arrow, Lambda, Told, nothing, leaf, inner, KnownNames}
 use Rattle.parse_track.specs.RegionNames.{is_lambda}
 use Rattle.parse_track.specs.ClosedNames.{Bound, scopes, begins, bound_in, bound_by, scope_count, at_of, bindings}
 use Rattle.renamed_names.specs.Renaming.{renamed_region, rewritten, renamed_known, renamed_bound, same_by}

@@ -1,9 +1,8 @@
 -- The closed names are those of the names renamed, renamed.
-use Rattle.std.proofs.Common.{◌≡◌, ℕ, Bool, true, false, cond, None, List, [], ◌∷◌, ◌++◌, map, refl, sym, ap, ◌∙◌}
+use Rattle.std.proofs.Common.{◌≡◌, ℕ, Bool, true, false, cond, None, List, [], ◌∷◌, map, refl, ap, ◌∙◌}
 use Rattle.std.proofs.Math.Path.{fun_ext}
 use Rattle.parse_track.specs.Told.{Region, Function, Arrow, Lambda, Told, nothing, leaf, inner, KnownNames}
-use Rattle.parse_track.specs.RegionNames.{is_lambda, is_function}
-use Rattle.parse_track.specs.ClosedNames.{Bound, begins, first_at, at_of, flags, bindings, kept, closed}
+use Rattle.parse_track.specs.ClosedNames.{begins, first_at, at_of, flags, bindings, kept, closed}
 use Rattle.renamed_names.specs.Renaming.{renamed_region, rewritten, renamed, renamed_known, renamed_bound, same_by}
 use Rattle.renamed_names.specs.Starts.{KeepsStarts, if_function, starts_with_function, IsAroundFunction, AreAroundFunctions}
 use Rattle.renamed_names.proofs.Lists.{map_cond, append_both}

@@ -3,7 +3,7 @@ use Rattle.std.proofs.Common.{◌≡◌, ℕ, Bool, Option, List, ap, ◌∙◌}
 use Rattle.std.proofs.Math.Path.{fun_ext}
 use Rattle.parse_track.specs.declared.region.Early.{Early}
 use Rattle.parse_track.specs.Told.{Region, Told, KnownNames}
-use Rattle.parse_track.specs.EarlyErrors.{sooner, error_of, smallest, at_regions, twice_lexical, lexical_and_var, head_and_var, catch_and_lexical, param_and_lexical, twice_param, binds_reserved, nothing_around, wrong_jumps, first_error}
+use Rattle.parse_track.specs.EarlyErrors.{sooner, error_of, smallest, at_regions, twice_lexical, lexical_and_var, head_and_var, catch_and_lexical, param_and_lexical, twice_param, binds_reserved, nothing_around, first_error}
 use Rattle.renamed_names.specs.Renaming.{renamed_region, rewritten, renamed, renamed_known, same_by}
 use Rattle.renamed_names.proofs.RegionRules.{twice_lexical-renamed, lexical_and_var-renamed, head_and_var-renamed, catch_and_lexical-renamed, param_and_lexical-renamed, twice_param-renamed, binds_reserved-renamed, at_regions-renamed}
 use Rattle.renamed_names.proofs.JumpRules.{wrong_jumps-renamed}

@@ -1,9 +1,9 @@
 -- The rule on jumps and labels, where names are renamed.
-use Rattle.std.proofs.Common.{◌≡◌, ℕ, Bool, true, false, cond, Some, None, List, [], ◌∷◌, ◌++◌, map, refl, sym, ap, ◌∙◌}
+use Rattle.std.proofs.Common.{◌≡◌, ℕ, Bool, cond, Some, None, List, [], ◌∷◌, ◌++◌, map, refl, ap, ◌∙◌}
 use Rattle.parse_track.specs.declared.region.Jump.TheVariants.{Break, Continue}
-use Rattle.parse_track.specs.Told.{Name, Region, Script, Function, Arrow, Lambda, Block, Switch, ForHead, Catch, Loop, Label, VarBody, Leaf, Declared, Used, Jumped, Told, nothing, leaf, inner}
-use Rattle.parse_track.specs.EarlyErrors.{has, Around, is_loop, within, wrong_jump, wrong_label, wrong_jumps}
-use Rattle.renamed_names.specs.Renaming.{renamed_name, renamed_region, renamed_leaf, rewritten, same_by}
+use Rattle.parse_track.specs.Told.{Region, Loop, Label, Leaf, Declared, Used, Jumped, Told, nothing, leaf, inner}
+use Rattle.parse_track.specs.EarlyErrors.{Around, is_loop, within, wrong_jump, wrong_label, wrong_jumps}
+use Rattle.renamed_names.specs.Renaming.{renamed_region, renamed_leaf, rewritten, same_by}
 use Rattle.renamed_names.proofs.Lists.{map_cond, append_both, appended}
 use Rattle.renamed_names.proofs.NameLists.{has-renamed}
 

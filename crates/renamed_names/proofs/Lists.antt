@@ -1,5 +1,5 @@
 -- Lists of names that are renamed.
-use Rattle.std.proofs.Common.{◌≡◌, ℕ, Bool, true, false, cond, ◌||◌, List, [], ◌∷◌, ◌++◌, map, refl, sym, ap, ◌∙◌}
+use Rattle.std.proofs.Common.{◌≡◌, Bool, true, false, cond, ◌||◌, List, ◌++◌, map, refl, sym, ap, ◌∙◌}
 use Rattle.std.proofs.lemmas.List.{map-append}
 
 pub map_cond : {A B : Type 0} (g : A → B) (b : Bool) (xs ys : List A) → cond b (map g xs) (map g ys) ≡ map g (cond b xs ys)

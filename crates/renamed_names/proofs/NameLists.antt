@@ -1,5 +1,5 @@
 -- Equal names in lists of names, renamed: at the same offsets.
-use Rattle.std.proofs.Common.{◌≡◌, ℕ, max, Bool, cond, ◌||◌, List, [], ◌∷◌, ◌++◌, map, refl, sym, ap, ◌∙◌}
+use Rattle.std.proofs.Common.{◌≡◌, max, Bool, cond, ◌||◌, List, [], ◌∷◌, ◌++◌, map, refl, sym, ap, ◌∙◌}
 use Rattle.std.proofs.lemmas.List.{map-append}
 use Rattle.parse_track.specs.Told.{Name, KnownNames}
 use Rattle.parse_track.specs.EarlyErrors.{has_name, has, repeated, also_in, later_of, later, reserved}

@@ -1,7 +1,7 @@
 -- The names that a region declares, renamed.
-use Rattle.std.proofs.Common.{◌≡◌, ℕ, Bool, cond, List, [], ◌∷◌, ◌++◌, map, refl, sym, ap, ◌∙◌}
+use Rattle.std.proofs.Common.{◌≡◌, ℕ, Bool, cond, [], ◌∷◌, map, refl, ap, ◌∙◌}
 use Rattle.parse_track.specs.declared.region.Declare.{Declare}
-use Rattle.parse_track.specs.Told.{Name, Region, Script, Function, Arrow, Lambda, Block, Switch, ForHead, Catch, Loop, Label, VarBody, Leaf, Declared, Used, Jumped, Told, nothing, leaf, inner}
+use Rattle.parse_track.specs.Told.{Region, Script, Function, Lambda, Block, ForHead, VarBody, Leaf, Declared, Used, Jumped, Told, nothing, leaf, inner}
 use Rattle.parse_track.specs.RegionNames.{is_lexical, is_var, is_lambda, is_function, is_head, is_block, is_body, stops_vars, declared_by, directly, vars, lexical_below}
 use Rattle.renamed_names.specs.Renaming.{renamed_name, renamed_region, renamed_leaf, rewritten}
 use Rattle.renamed_names.proofs.Lists.{map_cond, append_both}

@@ -1,6 +1,6 @@
 -- Which bindings are closed over, where names are renamed: the same ones.
-use Rattle.std.proofs.Common.{◌≡◌, ℕ, Bool, true, false, not, ◌||◌, ◌&&◌, List, [], ◌∷◌, ◌++◌, map, refl, ap, ◌∙◌}
-use Rattle.parse_track.specs.Told.{Region, Script, Function, Arrow, Lambda, Declared, Used, Jumped, Told, nothing, leaf, inner, KnownNames}
+use Rattle.std.proofs.Common.{◌≡◌, ℕ, Bool, false, not, ◌||◌, ◌&&◌, List, [], ◌∷◌, ◌++◌, map, refl, ap, ◌∙◌}
+use Rattle.parse_track.specs.Told.{Region, Lambda, Declared, Used, Jumped, Told, nothing, leaf, inner, KnownNames}
 use Rattle.parse_track.specs.RegionNames.{is_lambda}
 use Rattle.parse_track.specs.EarlyErrors.{has}
 use Rattle.parse_track.specs.ClosedNames.{names, begins, reaches, reached, flags}

@@ -1,6 +1,5 @@
 -- The rules on one region, at regions whose names are renamed.
-use Rattle.std.proofs.Common.{◌≡◌, ℕ, Bool, true, cond, List, [], ◌∷◌, ◌++◌, map, refl, sym, ap, ◌∙◌}
-use Rattle.std.proofs.lemmas.List.{map-append}
+use Rattle.std.proofs.Common.{◌≡◌, ℕ, Bool, true, cond, List, [], ◌++◌, map, refl, ap, ◌∙◌}
 use Rattle.parse_track.specs.Told.{Name, Region, Lambda, Told, nothing, leaf, inner, KnownNames}
 use Rattle.parse_track.specs.RegionNames.{is_lexical, is_param, is_catch_param, is_head, is_block, is_body, directly, vars, lexical_below}
 use Rattle.parse_track.specs.EarlyErrors.{repeated, also_in, later, reserved, at_regions, twice_lexical, lexical_and_var, head_and_var, catch_and_lexical, param_and_lexical, twice_param, lambda_name, binds_reserved}

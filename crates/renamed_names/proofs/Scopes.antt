@@ -1,12 +1,12 @@
 -- The scopes of a region, with its names renamed.
-use Rattle.std.proofs.Common.{◌≡◌, ℕ, Bool, true, false, cond, not, ◌||◌, ◌&&◌, List, [], ◌∷◌, ◌++◌, map, refl, sym, ap, ◌∙◌}
+use Rattle.std.proofs.Common.{◌≡◌, ℕ, Bool, true, false, cond, List, [], ◌∷◌, ◌++◌, map, refl, sym, ap, ◌∙◌}
 use Rattle.std.proofs.lemmas.List.{map-append}
 use Rattle.parse_track.specs.Told.{Name, Region, Script, Function, Arrow, Lambda, Block, Switch, ForHead, Catch, Loop, Label, VarBody, Told, nothing, leaf, inner, KnownNames}
 use Rattle.parse_track.specs.RegionNames.{is_lexical, is_param, is_catch_param, is_body, directly, vars}
 use Rattle.parse_track.specs.EarlyErrors.{has}
 use Rattle.parse_track.specs.ClosedNames.{names_of, without, distinct, scope_if_any, has_body, function_scopes, scopes, joined, names}
 use Rattle.renamed_names.specs.Renaming.{renamed_name, renamed_region, rewritten, renamed_known, same_by}
-use Rattle.renamed_names.proofs.Lists.{map_cond, append_both, appended, either}
+use Rattle.renamed_names.proofs.Lists.{map_cond, append_both, either}
 use Rattle.renamed_names.proofs.Names.{is_body-renamed, directly-renamed, vars-renamed}
 use Rattle.renamed_names.proofs.NameLists.{has-renamed}
 

@@ -1,11 +1,10 @@
 -- The early error and the closed names of a script, by the atoms of its names.
-use Rattle.std.proofs.Common.{◌≡◌, ℕ, Bool, nat_eq, Option, Some, List, [], ◌∷◌, get_or, map, refl, sym, ap, subst, ◌∙◌}
+use Rattle.std.proofs.Common.{◌≡◌, ℕ, nat_eq, List, [], ◌∷◌, map, refl, sym, ap, subst, ◌∙◌}
 use Rattle.std.specs.Str.{bytes_eq}
 use Rattle.std.proofs.lemmas.Bool.Decides.{same_from_decides, Decides-eqb}
 use Rattle.std.proofs.lemmas.Slice.Eq.{bytes_eq-Decides}
 use Rattle.std.proofs.lemmas.Option.{get_or_from_slice_get}
 use Rattle.script_grammar.specs.Tree.{Stmts}
-use Rattle.parse_track.specs.declared.region.Early.{Early}
 use Rattle.parse_track.specs.Told.{Told, KnownNames}
 use Rattle.parse_track.specs.EarlyErrors.{first_error}
 use Rattle.parse_track.specs.ClosedNames.{Bound, closed}

@@ -1,12 +1,12 @@
 -- What is told twice has the same first early error, and closed names that stand for one another.
-use Rattle.std.proofs.Common.{◌≡◌, ℕ, Bool, true, Option, List, [], ◌∷◌, map, refl, sym, ap, subst, ◌∙◌}
+use Rattle.std.proofs.Common.{◌≡◌, ℕ, Bool, Option, List, [], ◌∷◌, map, refl, sym, ap, subst, ◌∙◌}
 use Rattle.std.proofs.lemmas.List.{map-id}
 use Rattle.std.proofs.Math.Path.{fun_ext}
 use Rattle.parse_track.specs.declared.region.Early.{Early}
 use Rattle.parse_track.specs.Told.{Region, Lambda, Told, nothing, leaf, inner, KnownNames}
 use Rattle.parse_track.specs.EarlyErrors.{first_error}
 use Rattle.parse_track.specs.ClosedNames.{Bound, closed}
-use Rattle.renamed_names.specs.Renaming.{renamed_region, rewritten, renamed, renamed_known, renamed_bound, same_by}
+use Rattle.renamed_names.specs.Renaming.{renamed_region, rewritten, renamed_bound, same_by}
 use Rattle.renamed_names.specs.Starts.{if_function, starts_with_function, IsAroundFunction, AreAroundFunctions}
 use Rattle.renamed_names.specs.Alike.{AreToldAlike, AreKnownAlike, IsOneToOne, AreBoundAlike}
 use Rattle.renamed_names.proofs.Names.{is_function-renamed}

@@ -1,7 +1,7 @@
 -- What is told twice, told once with pairs of names that stand for one another.
-use Rattle.std.proofs.Common.{◌≡◌, ℕ, cond, Option, None, Some, refl, sym, ap, ◌∙◌}
+use Rattle.std.proofs.Common.{◌≡◌, ℕ, Option, None, Some, refl, ap, ◌∙◌}
 use Rattle.parse_track.specs.Told.{Name, Region, Script, Function, Arrow, Lambda, Block, Switch, ForHead, Catch, Loop, Label, VarBody, Leaf, Declared, Used, Jumped, Told, nothing, leaf, inner, KnownNames}
-use Rattle.renamed_names.specs.Renaming.{renamed_name, renamed_label, renamed_region, renamed_leaf, rewritten, renamed, renamed_known}
+use Rattle.renamed_names.specs.Renaming.{renamed_name, renamed_label, renamed_region, renamed_leaf, rewritten, renamed}
 use Rattle.renamed_names.specs.Starts.{if_function}
 use Rattle.renamed_names.specs.Alike.{AreOneName, AreOneLabel, AreOneRegion, AreOneLeaf, AreToldAlike, AreKnownAlike}
 

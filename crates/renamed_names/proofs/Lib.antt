@@ -10,5 +10,6 @@ pub mod Bindings
 pub mod ClosedNames
 pub mod Twins
 pub mod ToldAlike
+pub mod Occurring
 pub mod Around
 pub mod Scripts

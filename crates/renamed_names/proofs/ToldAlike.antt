@@ -28,7 +28,7 @@ was_around : {A B : Type 0} (f : A → B) (place : Region A → ℕ → ℕ) (k 
 was_around f place (Lambda x) i h = sym (starts-rewritten f place i) ∙ h
 was_around f place _ i h = tt
 
-are_around : {A B : Type 0} (f : A → B) (place : Region A → ℕ → ℕ) (t : Told A) → AreAroundFunctions t → AreAroundFunctions (rewritten f place t)
+pub are_around : {A B : Type 0} (f : A → B) (place : Region A → ℕ → ℕ) (t : Told A) → AreAroundFunctions t → AreAroundFunctions (rewritten f place t)
 are_around f place nothing h = tt
 are_around f place (leaf l t) h = are_around f place t h
 are_around f place (inner k at i t) h = (is_around f place k i h.0, (are_around f place i h.1.0, are_around f place t h.1.1))

@@ -2,4 +2,5 @@
 pub mod Renaming
 pub mod Starts
 pub mod Alike
+pub mod Occurring
 pub mod Texts

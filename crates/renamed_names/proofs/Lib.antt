@@ -11,5 +11,6 @@ pub mod ClosedNames
 pub mod Twins
 pub mod ToldAlike
 pub mod Occurring
+pub mod Standing
 pub mod Around
 pub mod Scripts

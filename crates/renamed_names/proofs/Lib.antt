@@ -14,3 +14,4 @@ pub mod Occurring
 pub mod Standing
 pub mod Around
 pub mod Scripts
+mod Examples

@@ -12,6 +12,7 @@ pub mod Twins
 pub mod ToldAlike
 pub mod Occurring
 pub mod Standing
+pub mod Growing
 pub mod Around
 pub mod Scripts
 mod Examples

@@ -14,5 +14,7 @@ pub mod Occurring
 pub mod Standing
 pub mod Growing
 pub mod Around
+pub mod FullNames
+pub mod Written
 pub mod Scripts
 mod Examples

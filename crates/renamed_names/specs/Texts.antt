@@ -1,5 +1,7 @@
 -- Names as the numbers of texts.
-use Rattle.std.specs.Prelude.{◌≡◌, ℕ, Some, List, [], slice_get, slice_index_or}
+use Rattle.std.specs.Prelude.{◌≡◌, ◌≢◌, ℕ, Some, List, [], ◌∷◌, slice_get, slice_index_or}
+use Rattle.script_grammar.specs.declared.token.Kind.TheVariants as kind
+use Rattle.script_grammar.specs.Lexeme.{Lexeme}
 use Rattle.parse_track.specs.Told.{Told, KnownNames}
 use Rattle.parse_track.specs.Tells.{Text, known_texts, tells_script}
 use Rattle.script_grammar.specs.Tree.{Stmts}
@@ -22,3 +24,8 @@ pub record TellsOf (texts : List Text) (known : KnownNames ℕ) (t : Told ℕ) (
   pub once : AreWithoutEquals texts
   pub knows : AreKnownAlike (StandsAt texts) known known_texts
   pub alike : AreToldAlike (StandsAt texts) t (tells_script items)
+
+-- No token that is a name is empty.
+abbrev pub NamesAreFull : List Lexeme → Type 0
+NamesAreFull [] = Unit {0}
+NamesAreFull (t ∷ ts) = (t.kind ≡ kind.Name → t.text ≢ []) × NamesAreFull ts

@@ -1,5 +1,5 @@
 -- Rows of what leaves a function.
-use Rattle.std.proofs.Common.{◌≡◌, ℕ, Bool, true, false, if◌then◌else◌, List, [], ◌∷◌, ◌++◌, Option, option_map, refl, sym, ◌∙◌, ap, ap₂, subst, append_assoc, true≢false}
+use Rattle.std.proofs.Common.{◌≡◌, ℕ, Bool, true, false, if◌then◌else◌, List, [], ◌∷◌, ◌++◌, Option, option_map, refl, sym, ◌∙◌, ap, append_assoc, true≢false}
 use Rattle.script_grammar.specs.declared.tree.Expr.{Expr}
 use Rattle.script_grammar.specs.Tree as model
 use Rattle.script_grammar.specs.TreeLists.{maybe_expr_of}
@@ -18,7 +18,7 @@ use Rattle.emit_exprs.proofs.Writing.{written_of, written_both}
 use Rattle.emit_stmts.specs.declared.frames.Frame.{Frame}
 use Rattle.emit_stmts.specs.declared.stmt_site.StmtSite.{StmtSite}
 use Rattle.emit_stmts.specs.Frames.{exit, exits}
-use Rattle.emit_stmts.specs.Leaving.{has_code, Exits}
+use Rattle.emit_stmts.specs.Leaving.{has_code}
 use Rattle.emit_stmts.specs.Positions.{position_of, within, frame_in, frames_in}
 use Rattle.emit_stmts.specs.StmtCode.{RowWritten}
 use Rattle.emit_stmts.specs.Stmts.{return_code, value_or_undefined}

@@ -1,5 +1,5 @@
 -- Rows of what a for-in gives its keys to.
-use Rattle.std.proofs.Common.{◌≡◌, ℕ, List, [], ◌∷◌, ◌++◌, refl, sym, ◌∙◌, ap, subst}
+use Rattle.std.proofs.Common.{◌≡◌, ℕ, List, sym, ◌∙◌, ap, subst}
 use Rattle.script_grammar.specs.declared.tree.Each.{Each}
 use Rattle.script_grammar.specs.declared.tree.Each.TheVariants as in_each
 use Rattle.script_grammar.specs.declared.tree.Expr.{Expr}
@@ -12,8 +12,8 @@ use Rattle.script_grammar.proofs.StmtEquations.{each_of-Target, each_of-Bind}
 use Rattle.stencil_data.specs.declared.scopes.Place.{Place}
 use Rattle.stencil_data.specs.Resolve.{resolve}
 use Rattle.bytecode_buf.specs.declared.opcode.Op.TheVariants as op
-use Rattle.bytecode_buf.specs.Command.{counted, named, plain}
-use Rattle.bytecode_buf.specs.Pieces.{Code, one}
+use Rattle.bytecode_buf.specs.Command.{counted, named}
+use Rattle.bytecode_buf.specs.Pieces.{one}
 use Rattle.bytecode_buf.specs.Emits.{Emits}
 use Rattle.bytecode_buf.proofs.AppendLemmas.{emits_none, emits_both}
 use Rattle.emit_exprs.specs.declared.site.Site.{Site}
@@ -21,7 +21,6 @@ use Rattle.emit_exprs.specs.declared.targets.Target.{Target}
 use Rattle.emit_exprs.specs.declared.targets.Target.TheVariants as target
 use Rattle.emit_exprs.specs.declared.uses.Use.TheVariants.{Reached}
 use Rattle.emit_exprs.specs.Exprs.{Scene, writing, target_of}
-use Rattle.emit_exprs.specs.Exprs as exprs
 use Rattle.emit_exprs.specs.Names.{base}
 use Rattle.emit_exprs.specs.Sites.{EmitsAt, scene_of, text_in}
 use Rattle.emit_exprs.specs.Targets.{IsTarget, target_in}

@@ -16,7 +16,7 @@ use Rattle.emit_exprs.specs.Fitting.{MaybeExprFits}
 use Rattle.emit_exprs.specs.Whole.{whole, just}
 use Rattle.emit_stmts.specs.declared.stmt_site.StmtSite.{StmtSite}
 use Rattle.emit_stmts.specs.Frames.{scope_at, has_env, kept_values}
-use Rattle.emit_stmts.specs.Positions.{Position, World, position_of, scene, within}
+use Rattle.emit_stmts.specs.Positions.{Position, position_of, scene, within}
 use Rattle.emit_stmts.specs.StmtCode.{Written}
 use Rattle.emit_stmts.specs.StmtFits.{ClausesFit}
 use Rattle.emit_stmts.specs.Stmts.{case_code, cases_code, test_code}

@@ -1,4 +1,4 @@
-use Rattle.std.proofs.Common.{drop_of_length-le, refl}
+use Rattle.std.proofs.Common.{drop_of_length-le}
 use Rattle.emit_exprs.proofs.Lists.{next_of}
 use Rattle.emit_stmts.proofs.Values as list
 use Rattle.emit_stmts.proofs.bindings.bind_names.Goals as goal

@@ -1,4 +1,3 @@
-use Rattle.std.proofs.Common.{sym}
 use Rattle.emit_stmts.proofs.Values.{init_nothing, init_value, init_binds}
 use Rattle.emit_stmts.proofs.bindings.init.Goals as goal
 

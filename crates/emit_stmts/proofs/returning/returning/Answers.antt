@@ -1,7 +1,7 @@
 use Rattle.std.proofs.Common.{sym, ◌∙◌}
 use Rattle.emit_stmts.specs.Frames.{exits}
 use Rattle.emit_stmts.specs.Positions.{position_of}
-use Rattle.emit_stmts.proofs.ReturnRows.{returned_out, returned_here}
+use Rattle.emit_stmts.proofs.ReturnRows.{returned_out}
 use Rattle.emit_stmts.proofs.returning.returning.Goals as goal
 
 pub returns-in_ok-plain-2 : goal.returns-in_ok-plain-2

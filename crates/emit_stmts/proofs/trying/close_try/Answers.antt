@@ -1,4 +1,4 @@
-use Rattle.std.proofs.Common.{ℕ, ◌≡◌, get_or, sym, ◌∙◌, ap}
+use Rattle.std.proofs.Common.{ℕ, ◌∙◌, ap}
 use Rattle.std.proofs.lemmas.List.{get_or_read}
 use Rattle.emit_stmts.specs.Trying.{ended}
 use Rattle.emit_stmts.proofs.TryRows.{ended-set}

@@ -1,4 +1,4 @@
-use Rattle.std.proofs.Common.{ℕ, ◌≡◌, List, [], ◌∷◌, ◌++◌, length, ◌∙◌, ap₂}
+use Rattle.std.proofs.Common.{ℕ, [], ◌∷◌, ◌++◌, ◌∙◌, ap₂}
 use Rattle.stencil_data.specs.declared.stencils.TryNote.{TryNote}
 use Rattle.emit_stmts.proofs.trying.open_try.Goals as goal
 

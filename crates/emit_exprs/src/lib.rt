@@ -32,6 +32,7 @@ pub use exprs::emit_expr;
 pub use literals::lambda;
 pub use names::{Access, init_at};
 pub use operators::{Joining, Meaning, NumberForm, Short};
+pub use places::target_of;
 pub use properties::Defines;
 pub use site::Site;
 pub use targets::Target;

@@ -39,7 +39,7 @@ exits_end {s} left none l = record { made = emits_of (left_end (λ b. ap (λ (fs
 
 -- ---- up to a goal
 
-length-frames : (texts : List (List ℕ)) (frames : List Frame) → length (frames_in texts frames) ≡ length frames
+pub length-frames : (texts : List (List ℕ)) (frames : List Frame) → length (frames_in texts frames) ≡ length frames
 length-frames texts [] = refl
 length-frames texts (f ∷ fs) = ap (λ (n : ℕ). suc n) (length-frames texts fs)
 

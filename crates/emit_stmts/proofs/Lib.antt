@@ -1,9 +1,13 @@
 pub mod CodeRows
 pub mod Declaring
 pub mod Exits
+pub mod HeadRows
 pub mod Hiding
 pub mod LoopRows
+pub mod ReturnRows
 pub mod Scopes
 pub mod SimpleRows
+pub mod StoreRows
+pub mod TryRows
 pub mod Values
 pub mod Writing

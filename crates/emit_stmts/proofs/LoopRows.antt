@@ -1,5 +1,5 @@
 -- Rows of loops.
-use Rattle.std.proofs.Common.{◌≡◌, ℕ, ◌+◌, List, [], ◌∷◌, ◌++◌, length, refl, sym, ◌∙◌, ap, ap₂, subst, add-zero, zero-add}
+use Rattle.std.proofs.Common.{◌≡◌, ℕ, ◌+◌, List, [], ◌∷◌, length, refl, ap₂, subst, add-zero, zero-add}
 use Rattle.script_grammar.specs.declared.tree.Expr.{Expr}
 use Rattle.script_grammar.specs.declared.tree.Stmt.{Stmt}
 use Rattle.script_grammar.specs.Tree as model
@@ -10,7 +10,6 @@ use Rattle.bytecode_buf.specs.declared.opcode.Op.TheVariants as op
 use Rattle.bytecode_buf.specs.declared.waits.Aim.TheVariants as aim
 use Rattle.bytecode_buf.specs.declared.waits.Wait.{Wait}
 use Rattle.bytecode_buf.specs.Emits.{emitted, Waits, LandsHere, TurnsBack}
-use Rattle.bytecode_buf.specs.Pieces.{Code, Waiting, here, turning}
 use Rattle.emit_exprs.specs.declared.uses.Use.TheVariants.{Plainly}
 use Rattle.emit_exprs.specs.Exprs.{Scene, expr_code}
 use Rattle.emit_exprs.specs.Fitting.{ExprFits}
@@ -21,7 +20,7 @@ use Rattle.emit_exprs.proofs.Writing.{written_of}
 use Rattle.emit_exprs.proofs.Writing as expr
 use Rattle.emit_stmts.specs.declared.stmt_site.StmtSite.{StmtSite}
 use Rattle.emit_stmts.specs.Frames.{Loop, kept_values}
-use Rattle.emit_stmts.specs.Positions.{Position, position_of, framed, scene, World, setting, within, Stands}
+use Rattle.emit_stmts.specs.Positions.{Position, position_of, framed, scene, setting, within}
 use Rattle.emit_stmts.specs.StmtCode.{Written, RowWritten, StmtWritten}
 use Rattle.emit_stmts.specs.StmtFits.{StmtFits}
 use Rattle.emit_stmts.specs.Stmts.{stmt_code, while_code}

@@ -1,5 +1,5 @@
 -- Code that was appended, one after the other.
-use Rattle.std.proofs.Common.{◌≡◌, ℕ, ◌+◌, List, [], ◌∷◌, ◌++◌, length, refl, sym, ◌∙◌, ap, ap₂, subst, add-zero, arith}
+use Rattle.std.proofs.Common.{◌≡◌, ℕ, ◌+◌, ◌<◌, ◌^◌, List, [], ◌∷◌, ◌++◌, length, refl, sym, ◌∙◌, ap, ap₂, subst, add-zero, append_assoc, append-nil, arith}
 use Rattle.script_grammar.specs.Tree.{Stmts}
 use Rattle.script_grammar.specs.Tree as model
 use Rattle.script_grammar.specs.declared.tree.Stmt.{Stmt}
@@ -9,7 +9,7 @@ use Rattle.scope_analysis.specs.Scopes.{count_stmt}
 use Rattle.bytecode_buf.specs.declared.opcode.Op.{Op}
 use Rattle.bytecode_buf.specs.declared.waits.Aim.{Aim}
 use Rattle.bytecode_buf.specs.declared.waits.Wait.{Wait}
-use Rattle.bytecode_buf.specs.Appends.{Emitted, AllRoom}
+use Rattle.bytecode_buf.specs.Appends.{Emitted, AllRoom, Appends}
 use Rattle.bytecode_buf.specs.Emits.{emitted, Waits, LandsHere, TurnsBack}
 use Rattle.bytecode_buf.specs.Pieces.{Code, Waiting, here, turning}
 use Rattle.bytecode_buf.proofs.AppendLemmas.{appends_none, appends_both, appends_room}
@@ -104,4 +104,59 @@ stmt_at {p} s m same u = record {
     code = written_as (λ w f. subst (λ (t : model.Stmt). StmtFits p.room (kept_values p.frames) t) (same w) f) (λ w. ap count_stmt (sym (same w)))
         (λ w i stands. ap (λ (t : model.Stmt). stmt_code (setting p w) t i p.frames) (sym (same w))) u.code;
   };
+}
+
+-- the same code by other words, where its counts fit, with its own number
+pub written_by : {p : Position} {a b : Emitted} {k l : ℕ} {f g : World → Type 0} {m n : World → ℕ} {x y : World → ℕ → Code} → ((w : World) → g w → f w) → ((w : World) → g w → m w ≡ n w) → ((w : World) → Stands p w → g w → x w k ≡ y w k) → Written p a b k l f m x → Written p a b k l g n y
+written_by {k = k} fit counts same u = record {
+  written = u.written;
+  appends = u.appends;
+  counted = λ w f small. u.counted w (fit w f) (omega (arith, counts w f)) ∙ ap (λ (c : ℕ). k + c) (counts w f);
+  is = λ w stands f small. u.is w stands (fit w f) (omega (arith, counts w f)) ∙ same w stands f;
+}
+
+-- ---- parts that are appended one after the other: what was appended, and what is left
+
+pub record Left (p : Position) (start now : Emitted) (number next : ℕ) (all left : World → Type 0) (count rest_count : World → ℕ) (code rest : World → ℕ → Code) : Type 0 where
+  pub written : Code
+  pub appends : Appends p.texts start now written
+  pub fits : (w : World) → all w → left w
+  pub counted : (w : World) → all w → number + count w < 2 ^ 64 → next + rest_count w ≡ number + count w
+  pub is : (w : World) → Stands p w → all w → number + count w < 2 ^ 64 → written ++ rest w next ≡ code w number
+
+pub left_begin : (p : Position) (now : Emitted) (number : ℕ) (all : World → Type 0) (count : World → ℕ) (code : World → ℕ → Code) → Left p now now number number all all count count code code
+left_begin p now number all count code = record { written = []; appends = appends_none p.texts now; fits = λ w a. a; counted = λ w a small. refl; is = λ w stands a small. refl }
+
+pub left_step : {p : Position} {start now new : Emitted} {number next l : ℕ} {all left further g : World → Type 0} {count rest_count later_count n : World → ℕ} {code rest later y : World → ℕ → Code}
+    → Written p now new next l g n y
+    → ((w : World) → left w → g w)
+    → ((w : World) → left w → further w)
+    → ((w : World) → left w → rest_count w ≡ n w + later_count w)
+    → ((w : World) → Stands p w → left w → rest w next ≡ y w next ++ later w (next + n w))
+    → Left p start now number next all left count rest_count code rest → Left p start new number l all further count later_count code later
+left_step {number = number} {next} {l} {count = count} {rest_count} {later_count} {n} {later = later} {y} u here_fits on counts same x = record {
+  written = x.written ++ u.written;
+  appends = appends_both x.appends u.appends;
+  fits = λ w a. on w (x.fits w a);
+  counted = λ w a small.
+      let old = x.counted w a small in
+      let both = counts w (x.fits w a) in
+      let one = u.counted w (here_fits w (x.fits w a)) (omega (arith, old, both)) in
+      omega (arith, old, both, one);
+  is = λ w stands a small.
+      let old = x.counted w a small in
+      let both = counts w (x.fits w a) in
+      let one = u.counted w (here_fits w (x.fits w a)) (omega (arith, old, both)) in
+      append_assoc x.written u.written (later w l)
+      ∙ (ap (λ (c : Code). x.written ++ (c ++ later w l)) (u.is w stands (here_fits w (x.fits w a)) (omega (arith, old, both)))
+      ∙ (ap (λ (i : ℕ). x.written ++ (y w next ++ later w i)) one
+      ∙ (ap (λ (c : Code). x.written ++ c) (sym (same w stands (x.fits w a))) ∙ x.is w stands a small)));
+}
+
+pub left_end : {p : Position} {start now : Emitted} {number next : ℕ} {all left : World → Type 0} {count rest_count : World → ℕ} {code rest : World → ℕ → Code} → ((w : World) → rest_count w ≡ 0) → ((w : World) (i : ℕ) → rest w i ≡ []) → Left p start now number next all left count rest_count code rest → Written p start now number next all count code
+left_end {next = next} no_more none x = record {
+  written = x.written;
+  appends = x.appends;
+  counted = λ w a small. omega (arith, no_more w, x.counted w a small);
+  is = λ w stands a small. sym (append-nil x.written) ∙ (ap (λ (c : Code). x.written ++ c) (sym (none w next)) ∙ x.is w stands a small);
 }

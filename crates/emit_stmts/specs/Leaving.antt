@@ -1,10 +1,11 @@
 -- That what leaves the frames around a statement was appended.
-use Rattle.std.specs.Prelude.{ℕ, List, Option, option_map}
+use Rattle.std.specs.Prelude.{ℕ, Bool, true, false, List, [], ◌∷◌, Option, option_map}
 use Rattle.script_grammar.specs.declared.tree.Ident.{Ident}
 use Rattle.stencil_data.specs.declared.stencils.TryNote.{TryNote}
 use Rattle.stencil_data.specs.StandsFor.{text_at}
 use Rattle.bytecode_buf.specs.declared.waits.Wait.{Wait}
 use Rattle.bytecode_buf.specs.Appends.{Appends}
+use Rattle.bytecode_buf.specs.Pieces.{Code}
 use Rattle.bytecode_buf.specs.Emits.{emitted}
 use Rattle.emit_exprs.specs.Sites.{EmitsAt}
 use Rattle.emit_stmts.specs.declared.frames.Frame.{Frame}
@@ -28,3 +29,8 @@ pub record Exits (s : StmtSite) (old new : List ℕ) (frames : List Frame) : Typ
 -- a jump to this goal, out of these frames
 pub record Leaves (s : StmtSite) (bytes : List ℕ) (waits : List Wait) (bytes_new : List ℕ) (waits_new : List Wait) (goal : Goal) (frames : List Frame) : Type 0 where
   pub appends : (notes : List TryNote) → Appends s.exprs.texts.now (emitted bytes waits notes) (emitted bytes_new waits_new notes) (leaving (position_of s).scopes (goal_in s.exprs.texts.now goal) (frames_in s.exprs.texts.now frames))
+
+-- there is an instruction
+abbrev pub has_code : Code → Bool
+has_code [] = false
+has_code (p ∷ ps) = true

@@ -1,6 +1,7 @@
 pub mod Declares
 pub mod Frames
 pub mod Functions
+pub mod HeadCode
 pub mod Leaving
 pub mod OneProof
 pub mod Positions
@@ -8,4 +9,5 @@ pub mod Scoping
 pub mod StmtCode
 pub mod StmtFits
 pub mod Stmts
+pub mod Trying
 pub mod ValueCode

@@ -158,11 +158,14 @@ store_target scene e (ToProp name) = code_of scene Reached e ++ whole (plain op.
 store_target scene e ToElem = code_of scene Reached e ++ whole (counted op.Pick 2 ∷ plain op.StrictSetElem ∷ [])
 store_target scene e NoTarget = []
 
+abbrev pub store_bound : Scene → Decl → List ℕ → Code
+store_bound scene decl.Var name = store_name scene name
+store_bound scene decl.Let name = initializing scene name
+store_bound scene decl.Const name = initializing scene name
+
 abbrev pub store_each : Scene → Each → Code
 store_each scene (TargetEach e) = store_target scene e (target_of e)
-store_each scene (BindEach decl.Var name) = store_name scene name.text
-store_each scene (BindEach decl.Let name) = initializing scene name.text
-store_each scene (BindEach decl.Const name) = initializing scene name.text
+store_each scene (BindEach kind name) = store_bound scene kind name.text
 
 -- ---- loops, by the code of their parts
 
@@ -195,15 +198,15 @@ abbrev pub choice_code : Code → Code → Code → Code
 choice_code test first second =
     here aim.After (here aim.Otherwise (test ++ (Waiting op.JumpIfFalse aim.Otherwise ∷ []) ++ first ++ (Waiting op.Goto aim.After ∷ [])) ++ second)
 
+-- the test of the clause at a place, which goes there where it holds
+abbrev pub case_code : Scene → ℕ → MaybeExpr → Code
+case_code scene place no_expr = []
+case_code scene place (some_expr test) = just op.Dup ++ expr_code scene test ++ just op.StrictEq ++ (Waiting op.Case (aim.Clause place) ∷ [])
+
 -- the tests of a switch, which go to the clauses by their places
 abbrev pub cases_code : Scene → ℕ → Clauses → Code
 cases_code scene place no_clauses = []
-cases_code scene place (more_clauses no_expr items rest) = cases_code scene (place + 1) rest
-cases_code scene place (more_clauses (some_expr test) items rest) =
-    just op.Dup ++ expr_code scene test ++ (plain_equal ++ (Waiting op.Case (aim.Clause place) ∷ [])) ++ cases_code scene (place + 1) rest
-  where
-    plain_equal : Code
-    plain_equal = just op.StrictEq
+cases_code scene place (more_clauses test items rest) = case_code scene place test ++ cases_code scene (place + 1) rest
 
 -- where it goes when no test holds: to the default, or out of the switch
 abbrev pub default_aim : ℕ → ℕ → Clauses → Aim

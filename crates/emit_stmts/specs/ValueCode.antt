@@ -3,6 +3,7 @@ use Rattle.std.specs.Prelude.{ℕ, List, [], Option, Some, None, map, option_map
 use Rattle.script_grammar.specs.declared.token.Decl.{Decl}
 use Rattle.script_grammar.specs.declared.tree.Bind.{Bind}
 use Rattle.script_grammar.specs.declared.tree.Clause.{Clause}
+use Rattle.script_grammar.specs.declared.tree.Each.{Each}
 use Rattle.script_grammar.specs.declared.tree.Expr.{Expr}
 use Rattle.script_grammar.specs.declared.tree.Func.{Func}
 use Rattle.script_grammar.specs.declared.tree.Ident.{Ident}
@@ -11,16 +12,16 @@ use Rattle.script_grammar.specs.declared.tree.Stmt.{Stmt}
 use Rattle.script_grammar.specs.Interpretation.{Interpretation}
 use Rattle.script_grammar.specs.Tree.{Named, MaybeExpr, Function}
 use Rattle.script_grammar.specs.TreeLists.{maybe_expr_of, binds_of, stmts_of, clauses_of}
-use Rattle.script_grammar.specs.TreeOf.{expr_of, bind_of, func_of, init_of, stmt_of, clause_of}
+use Rattle.script_grammar.specs.TreeOf.{expr_of, bind_of, each_of, func_of, init_of, stmt_of, clause_of}
 use Rattle.scope_analysis.specs.DeclaredNames.{function_name}
 use Rattle.bytecode_buf.specs.Pieces.{Code}
 use Rattle.emit_exprs.specs.declared.site.Site.{Site}
-use Rattle.emit_exprs.specs.Exprs.{Scene}
-use Rattle.emit_exprs.specs.Fitting.{MaybeExprFits}
+use Rattle.emit_exprs.specs.Exprs.{Scene, target_of}
+use Rattle.emit_exprs.specs.Fitting.{ExprFits, MaybeExprFits}
 use Rattle.emit_exprs.specs.Sites.{scene_of, text_in}
 use Rattle.emit_exprs.specs.TreeCode.{at_site, Written}
-use Rattle.emit_stmts.specs.StmtFits.{BindsFit, InitFits}
-use Rattle.emit_stmts.specs.Stmts.{var_code, lexical_code, bind_code, binds_code, init_code, declaring, declared_in, block_functions, clause_functions}
+use Rattle.emit_stmts.specs.StmtFits.{BindsFit, InitFits, EachFits}
+use Rattle.emit_stmts.specs.Stmts.{var_code, lexical_code, bind_code, binds_code, init_code, store_target, store_each, declaring, declared_in, block_functions, clause_functions}
 
 abbrev pub named_in : Site → Ident → Named
 named_in s name = record { text = text_in s name.atom; at = name.at }
@@ -43,6 +44,13 @@ pub record BindsEmit (s : Site) (old new : List ℕ) (kind : Decl) (binds : List
 
 pub record InitEmits (s : Site) (old new : List ℕ) (i : Init) : Type 0 where
   pub made : Written s old new (λ bodies. InitFits (init_of (at_site s bodies) i)) (λ bodies. init_code (scene_of s) (init_of (at_site s bodies) i))
+
+-- a key into this expression, and into what the head of a for-in names
+pub record TargetEmits (s : Site) (old new : List ℕ) (e : Expr) : Type 0 where
+  pub made : Written s old new (λ bodies. ExprFits (expr_of (at_site s bodies) e)) (λ bodies. store_target (scene_of s) (expr_of (at_site s bodies) e) (target_of (expr_of (at_site s bodies) e)))
+
+pub record EachEmits (s : Site) (old new : List ℕ) (each : Each) : Type 0 where
+  pub made : Written s old new (λ bodies. EachFits (each_of (at_site s bodies) each)) (λ bodies. store_each (scene_of s) (each_of (at_site s bodies) each))
 
 -- this code of a function and its name
 pub record FunctionEmits (s : Site) (old new : List ℕ) (f : Func) (code : Scene → Function → Option Named → Code) : Type 0 where

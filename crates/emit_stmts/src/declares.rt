@@ -1,13 +1,15 @@
 //! Whether parts of a tree declare lexical names, so that they have a scope.
 ghost use Rattle.std.specs.Prelude.{◌≡◌, map};
 ghost use Rattle.script_grammar.specs.Interpretation.{Interpretation};
+ghost use Rattle.script_grammar.specs.Tree.{Named};
+ghost use Rattle.script_grammar.specs.Tree as model;
 ghost use Rattle.script_grammar.specs.TreeLists.{binds_of, stmts_of, clauses_of};
 ghost use Rattle.script_grammar.specs.TreeOf.{bind_of, stmt_of, clause_of, init_of, each_of};
 ghost use Rattle.scope_analysis.specs.DeclaredNames as names;
 ghost use Rattle.emit_stmts.specs.Declares as defined;
 
 use script_grammar::token::Decl;
-use script_grammar::tree::{Bind, Clause, Stmt};
+use script_grammar::tree::{Bind, Clause, Each, Init, Stmt};
 
 // Whether there are names, declared by `let` or `const`.
 fn binds_declare(decl: Decl, binds: &[Bind]) -> bool
@@ -53,4 +55,35 @@ pub fn clauses_declare(clauses: &[Clause]) -> bool
         }
     }
     false
+}
+
+/// Whether the head of a `for` has a scope.
+pub fn init_declares(init: &Init) -> bool
+    ensures { (i : Interpretation) → result ≡ defined.declares (names.init_lexical_names (init_of i init.now)) }
+{
+    match init {
+        Init::Nothing => false,
+        Init::Value(_) => false,
+        Init::Binds { decl, binds } => binds_declare(*decl, binds),
+    }
+}
+
+fn is_lexical(decl: Decl) -> bool
+    ensures { (name : Named) → result ≡ defined.declares (names.each_lexical_names (model.BindEach decl name)) }
+{
+    match decl {
+        Decl::Var => false,
+        Decl::Let => true,
+        Decl::Const => true,
+    }
+}
+
+/// Whether the head of a for-in has a scope.
+pub fn each_declares(each: &Each) -> bool
+    ensures { (i : Interpretation) → result ≡ defined.declares (names.each_lexical_names (each_of i each.now)) }
+{
+    match each {
+        Each::Target(_) => false,
+        Each::Bind { decl, name: _ } => is_lexical(*decl),
+    }
 }

@@ -4,12 +4,12 @@ ghost use Rattle.stencil_data.specs.Fits.{LinksFit};
 ghost use Rattle.stencil_data.specs.StandsFor.{named_bindings};
 ghost use Rattle.bytecode_buf.specs.Emits.{Emits};
 ghost use Rattle.emit_exprs.specs.Sites.{EmitsAt};
-ghost use Rattle.emit_stmts.specs.Positions.{World, position_of, setting, entered, frames_in};
+ghost use Rattle.emit_stmts.specs.Positions.{position_of, entered, frames_in};
 ghost use Rattle.emit_stmts.specs.Scoping.{AllBelow, hiding_each, scope_in};
 ghost use Rattle.emit_stmts.specs.Stmts as code;
 
 use crate::frames::Frame;
-use crate::scoping::{hidden_slot, push_env};
+use crate::scoping::hidden_slot;
 use crate::stmt_site::StmtSite;
 use bytecode_buf::{CodeBuf, Op};
 use emit_exprs::Site;
@@ -55,8 +55,8 @@ fn hide(out: &mut CodeBuf, slots: &[u32]) -> Result<(), AllocError>
     Ok(())
 }
 
-// The `let` and `const` names of the scope with this number are not initialized yet.
-fn hide_scope(out: &mut CodeBuf, site: &StmtSite, number: usize) -> Result<(), AllocError>
+/// The `let` and `const` names of the scope with this number are not initialized yet.
+pub fn hide_scope(out: &mut CodeBuf, site: &StmtSite, number: usize) -> Result<(), AllocError>
     ensures { OnOk result (EmitsAt site.now.exprs out.old out.new (code.hiding (code.hidden_slots (scope_in site.now number).bindings))) }
 {
     match site.scopes.get(number) {
@@ -69,17 +69,12 @@ fn hide_scope(out: &mut CodeBuf, site: &StmtSite, number: usize) -> Result<(), A
     }
 }
 
-/// Enters the scope with this number.
-pub fn enter_scope(out: &mut CodeBuf, site: &StmtSite, number: usize) -> Result<(), AllocError>
-    ensures { OnOk result ((w : World) → EmitsAt site.now.exprs out.old out.new (code.enter_scope (setting (position_of site.now) w) number)) }
-{
-    push_env(out, site, Op::PushLexicalEnv, number)?;
-    hide_scope(out, site, number)?;
-    Ok(())
-}
-
 /// The site inside a scope that was entered: under this chain, which has one more link, with these frames around.
-pub fn site_inside<'a>(site: &StmtSite<'a>, chain: &'a Chain, frames: &'a [Frame]) -> StmtSite<'a>
+pub fn site_inside<'a, 'b: 'a>(
+    site: &StmtSite<'b>,
+    chain: &'a Chain,
+    frames: &'a [Frame],
+) -> StmtSite<'a>
     requires room { 0 < site.now.room }
     requires links { length chain.now ≡ length site.now.exprs.chain.now + 1 }
     requires slots { LinksFit chain.now }

@@ -3,6 +3,7 @@ ghost use Rattle.std.specs.Prelude.{◌≡◌, ◌∷◌, IfOk};
 ghost use Rattle.emit_stmts.specs.Positions.{position_of, framed, frames_in};
 
 use crate::stmt_site::StmtSite;
+use emit_exprs::Site;
 use std::alloc::{AllocError, Global};
 
 /// A statement around, or a scope that was entered.
@@ -33,11 +34,17 @@ pub fn frames_inside(
 }
 
 /// The same site with these frames around.
-pub fn framed_site<'a>(site: &StmtSite<'a>, frames: &'a [Frame]) -> StmtSite<'a>
+pub fn framed_site<'a, 'b: 'a>(site: &StmtSite<'b>, frames: &'a [Frame]) -> StmtSite<'a>
     ensures { position_of result ≡ framed (frames_in site.now.exprs.texts.now frames.now) (position_of site.now) }
 {
+    let exprs: Site<'a> = Site {
+        alloc: site.exprs.alloc,
+        chain: site.exprs.chain,
+        texts: site.exprs.texts,
+        inner: site.exprs.inner,
+    };
     StmtSite {
-        exprs: site.exprs,
+        exprs,
         frames,
         scopes: site.scopes,
         is_script: site.is_script,

@@ -17,8 +17,8 @@ use emit_exprs::steps::{counted, plain};
 use std::alloc::{AllocError, Global};
 use stencil_data::{BindKind, Binding, Chain, Link, LinkName, ScopeKind, Slot, Text};
 
-// Whether the scope with this number has an environment.
-fn has_env(site: &StmtSite, number: usize) -> bool
+/// Whether the scope with this number has an environment.
+pub fn has_env(site: &StmtSite, number: usize) -> bool
     ensures { result ≡ frames.has_env (scope_in site.now number) }
 {
     match site.scopes.get(number) {

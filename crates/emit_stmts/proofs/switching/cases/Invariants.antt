@@ -1,0 +1,6 @@
+use Rattle.std.proofs.Common.{drop}
+use Rattle.emit_stmts.proofs.HeadRows.{CasesLeft}
+use Rattle.emit_stmts.proofs.switching.cases.Given as goal
+
+abbrev pub invariant-loop-place : goal.invariant-loop-place
+invariant-loop-place l = CasesLeft l.site l.initial.out l.initial.waits.items l.out l.waits.items l.place l.clauses (drop l.place l.clauses)

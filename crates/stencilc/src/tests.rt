@@ -162,7 +162,7 @@ script 0 top 0..27
 #[test]
 fn lists_parentheses_without_semicolons(rt: HostRuntime) -> Result<(), Fail> {
     let listing: &[u8] = b"file a.js
-script 0 top 0..19
+script 0 top 0..17
   00000 GlobalOrEvalDeclInstantiation 0
   00005 Zero
   00006 One
@@ -174,7 +174,7 @@ script 0 top 0..19
   00020 SetRval
   00021 RetRval
 ";
-    assert!(rt; lists(&rt, rt.alloc(), b"(0 + (1 + a))\n('b')", listing)?);
+    assert!(rt; lists(&rt, rt.alloc(), b"(0 + (1 + a))\n'b'", listing)?);
     Ok(())
 }
 
@@ -208,15 +208,27 @@ fn many(alloc: Global, byte: u8, count: usize) -> Result<Vec<u8>, AllocError> {
 #[test]
 fn refuses_what_is_too_deep(rt: HostRuntime) -> Result<(), Fail> {
     let alloc = rt.alloc();
-    let mut nested = many(alloc, b'(', 398)?;
-    nested.extend_from_slice(b"x")?;
-    nested.extend_from_slice(&many(alloc, b')', 398)?)?;
-    let (status, _) = prints(&rt, alloc, &nested, b"")?;
-    assert!(rt; status == Status::Done);
     let parens = many(alloc, b'(', 1000000)?;
     assert!(rt; refuses(&rt, alloc, &parens, b"a.js:399: too deep\n")?);
     let braces = many(alloc, b'{', 401)?;
     assert!(rt; refuses(&rt, alloc, &braces, b"a.js:400: too deep\n")?);
+    Ok(())
+}
+
+#[test]
+fn lists_what_is_as_deep_as_it_may_be(rt: HostRuntime) -> Result<(), Fail> {
+    let alloc = rt.alloc();
+    let mut text = many(alloc, b'(', 398)?;
+    text.extend_from_slice(b"x")?;
+    text.extend_from_slice(&many(alloc, b')', 398)?)?;
+    let listing: &[u8] = b"file a.js
+script 0 top 0..797
+  00000 GlobalOrEvalDeclInstantiation 0
+  00005 GetGName \"x\"
+  00010 SetRval
+  00011 RetRval
+";
+    assert!(rt; lists(&rt, alloc, &text, listing)?);
     Ok(())
 }
 

@@ -1,7 +1,7 @@
 -- Names that are renamed, where the names that occur are renamed to different ones.
-use Rattle.std.proofs.Common.{◌≡◌, ℕ, Bool, Option, None, Some, List, [], ◌∷◌, map, refl, sym, ap, subst, ◌∙◌}
+use Rattle.std.proofs.Common.{◌≡◌, ℕ, Bool, Option, None, Some, List, [], ◌∷◌, map, refl, sym, ap, ◌∙◌}
 use Rattle.parse_track.specs.declared.region.Early.{Early}
-use Rattle.parse_track.specs.Told.{Name, Region, Script, Function, Arrow, Lambda, Block, Switch, ForHead, Catch, Loop, Label, VarBody, Leaf, Declared, Used, Jumped, Told, nothing, leaf, inner, KnownNames}
+use Rattle.parse_track.specs.Told.{Name, Region, Function, Arrow, Lambda, Label, Leaf, Declared, Used, Jumped, Told, nothing, leaf, inner, KnownNames}
 use Rattle.parse_track.specs.EarlyErrors.{first_error}
 use Rattle.parse_track.specs.ClosedNames.{Bound, closed}
 use Rattle.renamed_names.specs.Renaming.{renamed_label, renamed_region, renamed_leaf, rewritten, renamed, renamed_known, renamed_bound}

@@ -5,10 +5,10 @@ use Rattle.parse_track.specs.Told.{Name, Region, Function, Arrow, Lambda, Label,
 use Rattle.parse_track.specs.EarlyErrors.{first_error}
 use Rattle.parse_track.specs.ClosedNames.{Bound, closed}
 use Rattle.renamed_names.specs.Renaming.{renamed_label, renamed_region, renamed_leaf, rewritten, renamed, renamed_known, renamed_bound}
-use Rattle.renamed_names.specs.Starts.{AreAroundFunctions}
 use Rattle.renamed_names.specs.Alike.{AreOneLabel, AreOneRegion, AreOneLeaf, AreToldAlike, IsOneToOne, AreBoundAlike}
 use Rattle.renamed_names.specs.Occurring.{OfLabel, OfRegion, OfLeaf, OfEachName, OfKnownNames}
-use Rattle.renamed_names.proofs.ToldAlike.{are_around, first_error-alike, closed-alike}
+use Rattle.renamed_names.proofs.Twins.{image_told}
+use Rattle.renamed_names.proofs.ToldAlike.{first_error-alike, closed-alike_exactly}
 
 -- Bindings that are the same but for how their names are written down, where a function gives the second way.
 pub bounds_read : {A B : Type 0} (Means : A → B → Type 0) (f : A → B) → ((x : A) (y : B) → Means x y → f x ≡ y) → (bs : List (Bound A)) (cs : List (Bound B))
@@ -83,8 +83,8 @@ module _ {A B : Type 0} (Occurs : A → Type 0) (f : A → B) (same : A → A �
   first_error-occurring noted =
       first_error-alike Means same equal one_to_one known (renamed_known f known) ((knowns.0, refl), ((knowns.1.0, refl), (knowns.1.1, refl))) t (renamed f t) alike noted
 
-  pub closed-occurring : AreAroundFunctions t → closed equal (renamed_known f known) (renamed f t) ≡ map (renamed_bound f) (closed same known t)
-  closed-occurring h =
+  pub closed-occurring : closed equal (renamed_known f known) (renamed f t) ≡ map (renamed_bound f) (closed same known t)
+  closed-occurring =
       bounds_read Means f (λ x y m. m.1) (closed same known t) (closed equal (renamed_known f known) (renamed f t))
-      (closed-alike Means same equal one_to_one known (renamed_known f known) ((knowns.0, refl), ((knowns.1.0, refl), (knowns.1.1, refl))) t (renamed f t) alike
-      (are_around f (λ k at. at) t h))
+      (closed-alike_exactly Means same equal one_to_one known (renamed_known f known) ((knowns.0, refl), ((knowns.1.0, refl), (knowns.1.1, refl))) t (renamed f t) alike
+      (image_told Means f t alike))

@@ -1,5 +1,5 @@
 -- A short script, what a parser tells of it with atoms for names, and what follows: let a; (function g(){ () => g }); let a
-use Rattle.std.proofs.Common.{◌≡◌, ℕ, zero, suc, Bool, true, false, cond, nat_eq, bytes_eq, Option, None, Some, List, [], ◌∷◌, slice_get, codes, refl, sym, ap, ◌∙◌}
+use Rattle.std.proofs.Common.{◌≡◌, ℕ, zero, suc, true, false, cond, bytes_eq, Option, None, Some, List, [], ◌∷◌, codes, refl, sym, ap, ◌∙◌}
 use Rattle.script_grammar.specs.declared.token.Decl.TheVariants as decl
 use Rattle.script_grammar.specs.declared.token.FuncForm.TheVariants as form
 use Rattle.script_grammar.specs.Tree as tree

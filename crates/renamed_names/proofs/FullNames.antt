@@ -1,16 +1,15 @@
 -- Places for tokens whose names are not empty.
 use Rattle.std.proofs.Common.{◌≡◌, ◌≢◌, ℕ, Bool, true, false, Option, None, Some, List, [], ◌∷◌, ◌++◌, sym, subst, ◌∙◌}
-use Rattle.script_grammar.specs.declared.token.Kind.{Kind}
 use Rattle.script_grammar.specs.declared.token.Kind.TheVariants as kind
 use Rattle.script_grammar.specs.declared.token.FuncForm.{FuncForm}
 use Rattle.script_grammar.specs.declared.token.FuncForm.TheVariants as form
 use Rattle.script_grammar.specs.declared.token.mark.TheConstants as mark
 use Rattle.script_grammar.specs.Lexeme.{Lexeme}
-use Rattle.script_grammar.specs.Tree.{Named, Function, function}
+use Rattle.script_grammar.specs.Tree.{Named}
 use Rattle.script_grammar.specs.Pieces as pieces
 use Rattle.script_grammar.specs.Pieces.{Wanted, Exactly, Content, whole, Piece, At, Gap, Pass, IsWanted, Has, Fits, from, glue, until, comma_piece, mark_piece}
-use Rattle.script_grammar.specs.Print.{func_word, parenthesized, print_name, print_label, print_catch_param, print_func, print_function, print_declared}
-use Rattle.script_grammar.specs.Proper.{IsExpressionForm, IsFuncExpression}
+use Rattle.script_grammar.specs.Print.{func_word, parenthesized, print_name, print_label, print_catch_param}
+use Rattle.script_grammar.specs.Proper.{IsExpressionForm}
 use Rattle.renamed_names.specs.Texts.{NamesAreFull}
 
 abbrev pub NameFull : Wanted → Content → Type 0

@@ -1,5 +1,5 @@
 -- What is told twice stays alike where more names come to stand for one another, as with a list of texts that grows.
-use Rattle.std.proofs.Common.{◌≡◌, ℕ, Option, None, Some, List, ◌++◌}
+use Rattle.std.proofs.Common.{ℕ, Option, None, Some, List, ◌++◌}
 use Rattle.parse_track.specs.Told.{Name, Region, Script, Function, Arrow, Lambda, Block, Switch, ForHead, Catch, Loop, Label, VarBody, Leaf, Declared, Used, Jumped, Told, nothing, leaf, inner, KnownNames}
 use Rattle.parse_track.specs.Tells.{Text}
 use Rattle.renamed_names.specs.Alike.{AreOneLabel, AreOneRegion, AreOneLeaf, AreToldAlike, AreKnownAlike}

@@ -16,5 +16,6 @@ pub mod Growing
 pub mod Around
 pub mod FullNames
 pub mod Written
+pub mod Telling
 pub mod Scripts
 mod Examples

@@ -1,14 +1,14 @@
 -- Names that are renamed, where the names that occur are renamed to different ones.
-use Rattle.std.proofs.Common.{◌≡◌, ℕ, Bool, Option, None, Some, List, [], ◌∷◌, map, refl, sym, ap, subst, ◌∙◌}
+use Rattle.std.proofs.Common.{◌≡◌, ℕ, Bool, Option, None, Some, List, [], ◌∷◌, map, refl, sym, ap, ◌∙◌}
 use Rattle.parse_track.specs.declared.region.Early.{Early}
-use Rattle.parse_track.specs.Told.{Name, Region, Script, Function, Arrow, Lambda, Block, Switch, ForHead, Catch, Loop, Label, VarBody, Leaf, Declared, Used, Jumped, Told, nothing, leaf, inner, KnownNames}
+use Rattle.parse_track.specs.Told.{Name, Region, Function, Arrow, Lambda, Label, Leaf, Declared, Used, Jumped, Told, nothing, leaf, inner, KnownNames}
 use Rattle.parse_track.specs.EarlyErrors.{first_error}
 use Rattle.parse_track.specs.ClosedNames.{Bound, closed}
 use Rattle.renamed_names.specs.Renaming.{renamed_label, renamed_region, renamed_leaf, rewritten, renamed, renamed_known, renamed_bound}
-use Rattle.renamed_names.specs.Starts.{AreAroundFunctions}
 use Rattle.renamed_names.specs.Alike.{AreOneLabel, AreOneRegion, AreOneLeaf, AreToldAlike, IsOneToOne, AreBoundAlike}
 use Rattle.renamed_names.specs.Occurring.{OfLabel, OfRegion, OfLeaf, OfEachName, OfKnownNames}
-use Rattle.renamed_names.proofs.ToldAlike.{are_around, first_error-alike, closed-alike}
+use Rattle.renamed_names.proofs.Twins.{image_told}
+use Rattle.renamed_names.proofs.ToldAlike.{first_error-alike, closed-alike_exactly}
 
 -- Bindings that are the same but for how their names are written down, where a function gives the second way.
 pub bounds_read : {A B : Type 0} (Means : A → B → Type 0) (f : A → B) → ((x : A) (y : B) → Means x y → f x ≡ y) → (bs : List (Bound A)) (cs : List (Bound B))
@@ -83,8 +83,8 @@ module _ {A B : Type 0} (Occurs : A → Type 0) (f : A → B) (same : A → A �
   first_error-occurring noted =
       first_error-alike Means same equal one_to_one known (renamed_known f known) ((knowns.0, refl), ((knowns.1.0, refl), (knowns.1.1, refl))) t (renamed f t) alike noted
 
-  pub closed-occurring : AreAroundFunctions t → closed equal (renamed_known f known) (renamed f t) ≡ map (renamed_bound f) (closed same known t)
-  closed-occurring h =
+  pub closed-occurring : closed equal (renamed_known f known) (renamed f t) ≡ map (renamed_bound f) (closed same known t)
+  closed-occurring =
       bounds_read Means f (λ x y m. m.1) (closed same known t) (closed equal (renamed_known f known) (renamed f t))
-      (closed-alike Means same equal one_to_one known (renamed_known f known) ((knowns.0, refl), ((knowns.1.0, refl), (knowns.1.1, refl))) t (renamed f t) alike
-      (are_around f (λ k at. at) t h))
+      (closed-alike_exactly Means same equal one_to_one known (renamed_known f known) ((knowns.0, refl), ((knowns.1.0, refl), (knowns.1.1, refl))) t (renamed f t) alike
+      (image_told Means f t alike))

@@ -1,17 +1,15 @@
 -- Texts that stand in a list, named by their places.
-use Rattle.std.proofs.Common.{◌≡◌, ◌≢◌, ℕ, zero, suc, ◌<◌, nat_eq, Option, None, Some, List, [], ◌∷◌, ◌++◌, length, slice_get, refl, sym, ap, subst, ◌∙◌}
+use Rattle.std.proofs.Common.{◌≡◌, ◌≢◌, ℕ, zero, suc, ◌<◌, nat_eq, Option, None, Some, List, [], ◌∷◌, ◌++◌, length, refl, sym, ap, subst, ◌∙◌}
 use Rattle.std.specs.Str.{bytes_eq}
 use Rattle.std.proofs.lemmas.Bool.Decides.{same_from_decides, Decides-eqb}
 use Rattle.std.proofs.lemmas.Slice.Eq.{bytes_eq-Decides}
 use Rattle.std.proofs.lemmas.Option.{get_or_from_slice_get, slice_get-get_or}
-use Rattle.script_grammar.specs.Tree.{Stmts}
-use Rattle.parse_track.specs.Told.{Name, Region, Script, Function, Arrow, Lambda, Block, Switch, ForHead, Catch, Loop, Label, VarBody, Leaf, Declared, Used, Jumped, Told, nothing, leaf, inner, KnownNames}
-use Rattle.parse_track.specs.Tells.{Text, known_texts, tells_script}
+use Rattle.parse_track.specs.Told.{Name, Region, Function, Arrow, Lambda, Label, Leaf, Declared, Used, Jumped, Told, nothing, leaf, inner, KnownNames}
+use Rattle.parse_track.specs.Tells.{Text, known_texts}
 use Rattle.renamed_names.specs.Renaming.{renamed_label, renamed_region, renamed_leaf, rewritten, renamed_known}
-use Rattle.renamed_names.specs.Starts.{if_function}
-use Rattle.renamed_names.specs.Alike.{AreOneLabel, AreOneRegion, AreOneLeaf, AreToldAlike, AreKnownAlike, IsOneToOne}
+use Rattle.renamed_names.specs.Alike.{AreToldAlike, AreKnownAlike, IsOneToOne}
 use Rattle.renamed_names.specs.Occurring.{OfLabel, OfRegion, OfLeaf, OfEachName}
-use Rattle.renamed_names.specs.Texts.{StandsAt, AreWithoutEquals, text_at, TellsOf}
+use Rattle.renamed_names.specs.Texts.{StandsAt, AreWithoutEquals, text_at}
 use Rattle.renamed_names.proofs.Occurring.{alike-rewritten, weaker}
 
 pub stands_read : (texts : List Text) (atom : ℕ) (text : Text) → StandsAt texts atom text → text_at texts atom ≡ text

@@ -6,7 +6,7 @@ use Rattle.parse_track.specs.declared.region.Early.{Early}
 use Rattle.parse_track.specs.Told.{Region, Lambda, Told, nothing, leaf, inner, KnownNames}
 use Rattle.parse_track.specs.EarlyErrors.{first_error}
 use Rattle.parse_track.specs.ClosedNames.{Bound, closed}
-use Rattle.renamed_names.specs.Renaming.{renamed_region, rewritten, renamed_bound, same_by}
+use Rattle.renamed_names.specs.Renaming.{renamed_region, rewritten, renamed, renamed_bound, same_by}
 use Rattle.renamed_names.specs.Starts.{if_function, starts_with_function, IsAroundFunction, AreAroundFunctions}
 use Rattle.renamed_names.specs.Alike.{AreToldAlike, AreKnownAlike, IsOneToOne, AreBoundAlike}
 use Rattle.renamed_names.proofs.Names.{is_function-renamed}
@@ -28,7 +28,7 @@ was_around : {A B : Type 0} (f : A → B) (place : Region A → ℕ → ℕ) (k 
 was_around f place (Lambda x) i h = sym (starts-rewritten f place i) ∙ h
 was_around f place _ i h = tt
 
-pub are_around : {A B : Type 0} (f : A → B) (place : Region A → ℕ → ℕ) (t : Told A) → AreAroundFunctions t → AreAroundFunctions (rewritten f place t)
+are_around : {A B : Type 0} (f : A → B) (place : Region A → ℕ → ℕ) (t : Told A) → AreAroundFunctions t → AreAroundFunctions (rewritten f place t)
 are_around f place nothing h = tt
 are_around f place (leaf l t) h = are_around f place t h
 are_around f place (inner k at i t) h = (is_around f place k i h.0, (are_around f place i h.1.0, are_around f place t h.1.1))
@@ -87,7 +87,19 @@ module _ {A B : Type 0} (Means : A → B → Type 0) (same : A → A → Bool) (
   pairs_alike [] = tt
   pairs_alike (b ∷ bs) = (refl, (refl, (b.name.means, pairs_alike bs)))
 
-  pub closed-alike : AreAroundFunctions u → AreBoundAlike Means (closed same known t) (closed equal other u)
-  closed-alike h =
+  bounds_alike : closed equal other u ≡ map (renamed_bound (right Means)) closed_pairs → AreBoundAlike Means (closed same known t) (closed equal other u)
+  bounds_alike e =
       subst (λ bs. AreBoundAlike Means bs (closed equal other u)) (sym closed_left)
-      (subst (AreBoundAlike Means (map (renamed_bound (left Means)) closed_pairs)) (sym (closed_right h)) (pairs_alike closed_pairs))
+      (subst (AreBoundAlike Means (map (renamed_bound (left Means)) closed_pairs)) (sym e) (pairs_alike closed_pairs))
+
+  pub closed-alike : AreAroundFunctions u → AreBoundAlike Means (closed same known t) (closed equal other u)
+  closed-alike h = bounds_alike (closed_right h)
+
+  -- the same where no offset differs, wherever names of function expressions stand
+  pub closed-alike_exactly : renamed (right Means) (twin Means t u alike) ≡ u → AreBoundAlike Means (closed same known t) (closed equal other u)
+  unfolding both both_known closed_pairs
+  closed-alike_exactly e =
+      bounds_alike
+      (ap (closed equal other) (sym e)
+      ∙ (closed-renamed (right Means) (same_by (right Means) equal) equal (λ x y. refl) both_known both
+      ∙ ap (λ test. map (renamed_bound (right Means)) (closed test both_known both)) same_tests))

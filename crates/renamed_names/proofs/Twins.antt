@@ -163,3 +163,29 @@ module _ {A B : Type 0} (Means : A → B → Type 0) where
       (rewritten right if_function (twin t u h.1.1)) (rewritten (λ y. y) if_function u)
       (right_region k at j there h.0) (right_offset k at j there h.0) (right_told i o h.1.0) (right_told t u h.1.1)
   right_told _ _ h = absurd h
+
+  -- the second of each pair, where a function gives it and all offsets are as they are
+  image_label : (f : A → B) (x : Option (Name A)) (h : AreOneLabel Means x (renamed_label f x)) → renamed_label right (twin_label x (renamed_label f x) h) ≡ renamed_label f x
+  image_label f None h = refl
+  image_label f (Some x) h = refl
+
+  image_region : (f : A → B) (k : Region A) (at : ℕ) (h : AreOneRegion Means k at (renamed_region f k) at)
+      → renamed_region right (twin_region k at (renamed_region f k) at h) ≡ renamed_region f k
+  image_region f (Lambda x) at h = refl
+  image_region f (Label x) at h = refl
+  image_region f _ at h = refl
+
+  image_leaf : (f : A → B) (l : Leaf A) (h : AreOneLeaf Means l (renamed_leaf f l)) → renamed_leaf right (twin_leaf l (renamed_leaf f l) h) ≡ renamed_leaf f l
+  image_leaf f (Declared how x) h = refl
+  image_leaf f (Used x) h = refl
+  image_leaf f (Jumped word at x) h = ap (Jumped word at) (image_label f x h.1.1)
+
+  pub image_told : (f : A → B) (t : Told A) (h : AreToldAlike Means t (renamed f t)) → renamed right (twin t (renamed f t) h) ≡ renamed f t
+  image_told f nothing h = refl
+  image_told f (leaf l t) h =
+      leaf_same (renamed_leaf right (twin_leaf l (renamed_leaf f l) h.0)) (renamed_leaf f l) (renamed right (twin t (renamed f t) h.1)) (renamed f t)
+      (image_leaf f l h.0) (image_told f t h.1)
+  image_told f (inner k at i t) h =
+      inner_same (renamed_region right (twin_region k at (renamed_region f k) at h.0)) (renamed_region f k) at at
+      (renamed right (twin i (renamed f i) h.1.0)) (renamed f i) (renamed right (twin t (renamed f t) h.1.1)) (renamed f t)
+      (image_region f k at h.0) refl (image_told f i h.1.0) (image_told f t h.1.1)

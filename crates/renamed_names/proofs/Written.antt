@@ -1,25 +1,24 @@
 -- No name that a script tells is empty, where no token that is a name is.
-use Rattle.std.proofs.Common.{◌≡◌, ◌≢◌, ℕ, suc, Bool, true, false, cond, Option, None, Some, List, [], ◌∷◌, ◌++◌, if◌then◌else◌}
+use Rattle.std.proofs.Common.{◌≢◌, ℕ, suc, Bool, true, false, cond, Option, None, Some, List, [], ◌∷◌, ◌++◌}
 use Rattle.script_grammar.specs.declared.token.mark.TheConstants as mark
 use Rattle.script_grammar.specs.declared.token.word.TheConstants as word
 use Rattle.script_grammar.specs.declared.token.Decl.{Decl}
-use Rattle.script_grammar.specs.declared.token.Decl.TheVariants as decl
 use Rattle.script_grammar.specs.declared.token.FuncForm.{FuncForm}
-use Rattle.script_grammar.specs.Kinds.{is_arrow_form, decl_word}
+use Rattle.script_grammar.specs.Kinds.{is_arrow_form}
 use Rattle.script_grammar.specs.Lexeme.{Lexeme}
 use Rattle.script_grammar.specs.Tree as tree
 use Rattle.script_grammar.specs.Tree.{Named, Expr, MaybeExpr, no_expr, some_expr, Exprs, no_exprs, more_exprs, MaybeArgs, no_args, some_args, Parts, no_parts, more_parts, Items, no_items, more_items, Operands, no_operands, more_operands, Tail, Tails, no_tails, more_tails, Key, Prop, Props, no_props, more_props, function, Params, no_params, more_params, Body, BracedBody, ShortBody, Binds, no_binds, more_binds, Init, NoInit, ValueInit, BindsInit, Each, TargetEach, BindEach, Clauses, no_clauses, more_clauses, Stmt, Stmts, no_stmts, more_stmts, MaybeStmt, no_stmt, some_stmt}
-use Rattle.script_grammar.specs.Pieces.{Piece, whole, Keyword, DoWhile, BareBinding, mark_piece, word_piece, glued_mark, closing_mark, comma_piece, semi_piece, name_piece, template_piece, role_piece, from, glue}
+use Rattle.script_grammar.specs.Pieces.{Piece, whole, Keyword, DoWhile, BareBinding, mark_piece, word_piece, glued_mark, closing_mark, comma_piece, semi_piece, name_piece, template_piece, from, glue}
 use Rattle.script_grammar.specs.Endings.{ending, return_ending, binds_ending}
 use Rattle.script_grammar.specs.Print as Print
 use Rattle.script_grammar.specs.Proper.{Proper, ProperExprs, ProperMaybe, ProperOption, ProperArgs, ProperParts, ProperItems, ProperOperands, ProperTails, ProperTail, ProperKey, ProperProp, ProperProps, ProperFunction, ProperParams, ProperBody, ProperBinds, ProperStmts, ProperElse, ProperInit, ProperEach, ProperClauses, ProperStmt, IsFuncExpression, operands_level}
 use Rattle.script_grammar.specs.Script.{IsScript}
 use Rattle.parse_track.specs.Told as told
 use Rattle.parse_track.specs.Told.{Told, nothing}
-use Rattle.parse_track.specs.Tells.{Text, spelled_label, has_initializer, function_region, body_region, function_name, in_named, declares_function, labels_on, labelled_region, tells_expr, tells_exprs, tells_maybe, tells_args, tells_parts, tells_array, tells_operands, tells_tails, tells_tail, tells_key, tells_prop, tells_props, tells_function, tells_params, tells_body, tells_binds, tells_init, tells_each, tells_clauses, tells_stmt, tells_stmts, tells_maybe_stmt, tells_script}
+use Rattle.parse_track.specs.Tells.{Text, spelled_label, has_initializer, body_region, function_name, in_named, declares_function, labels_on, labelled_region, tells_expr, tells_exprs, tells_maybe, tells_args, tells_parts, tells_array, tells_operands, tells_tails, tells_tail, tells_key, tells_prop, tells_props, tells_function, tells_params, tells_body, tells_binds, tells_init, tells_each, tells_clauses, tells_stmt, tells_stmts, tells_maybe_stmt, tells_script}
 use Rattle.renamed_names.specs.Occurring.{OfLabel, OfRegion, OfEachName}
 use Rattle.renamed_names.specs.Texts.{NamesAreFull}
-use Rattle.renamed_names.proofs.FullNames.{Full, MaybeFull, fits_full, left, right, from_full, glue_full, until_full, paren_full, name_full, label_full, catch_full, func_name}
+use Rattle.renamed_names.proofs.FullNames.{Full, MaybeFull, fits_full, left, right, from_full, glue_full, until_full, paren_full, name_full, label_full, func_name}
 
 abbrev IsFull : Text → Type 0
 IsFull text = text ≢ []

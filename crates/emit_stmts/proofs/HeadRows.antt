@@ -1,7 +1,8 @@
 -- Heads of loops and of switches.
-use Rattle.std.proofs.Common.{◌≡◌, ℕ, ◌+◌, List, [], ◌∷◌, Option, Some, None, map, option_map, refl, sym, ◌∙◌, ap, subst, add-zero}
+use Rattle.std.proofs.Common.{◌≡◌, ℕ, ◌+◌, Bool, true, false, List, [], ◌∷◌, ◌++◌, Option, Some, None, map, option_map, refl, sym, ◌∙◌, ap, subst, add-zero}
 use Rattle.script_grammar.specs.declared.tree.Clause.{Clause}
 use Rattle.script_grammar.specs.declared.tree.Expr.{Expr}
+use Rattle.script_grammar.specs.declared.tree.Stmt.{Stmt}
 use Rattle.script_grammar.specs.Interpretation.{Interpretation}
 use Rattle.script_grammar.specs.Tree as model
 use Rattle.script_grammar.specs.TreeLists as part
@@ -10,10 +11,12 @@ use Rattle.script_grammar.specs.TreeOf.{expr_of, stmt_of, clause_of}
 use Rattle.script_grammar.proofs.PartEquations.{clause_of-fields}
 use Rattle.stencil_data.specs.declared.stencils.TryNote.{TryNote}
 use Rattle.bytecode_buf.specs.declared.opcode.Op.TheVariants as op
+use Rattle.bytecode_buf.specs.declared.waits.Aim.{Aim}
 use Rattle.bytecode_buf.specs.declared.waits.Aim.TheVariants as aim
 use Rattle.bytecode_buf.specs.declared.waits.Wait.{Wait}
 use Rattle.bytecode_buf.specs.Emits.{Emits, Waits, emitted}
-use Rattle.bytecode_buf.proofs.AppendLemmas.{appends_both, emits_both}
+use Rattle.bytecode_buf.specs.Pieces.{Code, Waiting}
+use Rattle.bytecode_buf.proofs.AppendLemmas.{appends_none, appends_both, emits_both}
 use Rattle.emit_exprs.specs.declared.uses.Use.TheVariants.{Plainly}
 use Rattle.emit_exprs.specs.Sites.{EmitsAt}
 use Rattle.emit_exprs.specs.TreeCode.{ExprEmits}
@@ -23,7 +26,9 @@ use Rattle.emit_exprs.proofs.Writing as expr
 use Rattle.emit_stmts.specs.declared.stmt_site.StmtSite.{StmtSite}
 use Rattle.emit_stmts.specs.Frames.{kept_values}
 use Rattle.emit_stmts.specs.HeadCode.{Tested, KeysTested, keys_code, CaseWritten, CasesWritten}
+use Rattle.emit_stmts.specs.PartCode.{clauses_in}
 use Rattle.emit_stmts.specs.Positions.{Position, World, position_of, scene, within}
+use Rattle.emit_stmts.specs.StmtCode.{Written}
 use Rattle.emit_stmts.specs.StmtFits.{ClausesFit}
 use Rattle.emit_stmts.specs.Stmts.{cases_code, default_aim}
 use Rattle.emit_stmts.proofs.Writing.{written_plain, written_wait, written_both, written_by, written_none, Left, left_begin, left_step, left_end}
@@ -62,9 +67,6 @@ pub case_none : (s : StmtSite) (now : List ℕ) (ws : List Wait) (place : ℕ) (
 case_none s now ws place test is = subst (λ (t : Option Expr). CaseWritten s now ws now ws place t) (sym is) (record {
   made = λ ns number. written_by (λ w f. tt) (λ w f. refl) (λ w stands f. refl) (written_none (position_of s) (emitted now ws ns) number);
 })
-
-abbrev clauses_in : Position → World → List Clause → model.Clauses
-clauses_in p w cs = clauses_of (map (clause_of (within p w)) cs)
 
 -- a clause and the others
 pub next_clause : (p : Position) (w : World) (left further : List Clause) (c : Clause) → left ≡ c ∷ further → clauses_in p w left ≡ model.more_clauses (maybe_expr_of (option_map (expr_of (within p w)) c.test)) (stmts_of (map (stmt_of (within p w)) c.items.items)) (clauses_in p w further)

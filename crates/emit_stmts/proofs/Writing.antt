@@ -5,7 +5,7 @@ use Rattle.script_grammar.specs.Tree as model
 use Rattle.script_grammar.specs.declared.tree.Stmt.{Stmt}
 use Rattle.script_grammar.specs.TreeOf.{stmt_of}
 use Rattle.stencil_data.specs.declared.stencils.TryNote.{TryNote}
-use Rattle.scope_analysis.specs.Scopes.{count_stmt}
+use Rattle.scope_analysis.specs.Scopes.{count_stmt, count_stmts}
 use Rattle.bytecode_buf.specs.declared.opcode.Op.{Op}
 use Rattle.bytecode_buf.specs.declared.waits.Aim.{Aim}
 use Rattle.bytecode_buf.specs.declared.waits.Wait.{Wait}
@@ -17,9 +17,10 @@ use Rattle.emit_exprs.specs.TreeCode as expr
 use Rattle.emit_stmts.specs.declared.stmt_site.StmtSite.{StmtSite}
 use Rattle.emit_stmts.specs.Frames.{Frame, chain_of, kept_values}
 use Rattle.emit_stmts.specs.Positions.{Position, position_of, framed, scene, World, setting, within, Stands}
-use Rattle.emit_stmts.specs.StmtCode.{Written, RowWritten, StmtWritten}
-use Rattle.emit_stmts.specs.StmtFits.{StmtFits}
-use Rattle.emit_stmts.specs.Stmts.{stmt_code, scene_at}
+use Rattle.emit_stmts.specs.PartCode.{stmts_in}
+use Rattle.emit_stmts.specs.StmtCode.{Written, RowWritten, StmtWritten, StmtsWritten}
+use Rattle.emit_stmts.specs.StmtFits.{StmtFits, StmtsFit}
+use Rattle.emit_stmts.specs.Stmts.{stmt_code, stmts_code, scene_at}
 
 pub written_none : (p : Position) (now : Emitted) (number : ℕ) → Written p now now number number (λ w. Unit {0}) (λ w. 0) (λ w n. [])
 written_none p now number = record { written = []; appends = appends_none p.texts now; counted = λ w f small. sym (add-zero number); is = λ w stands f small. refl }
@@ -115,6 +116,10 @@ written_by {k = k} fit counts same u = record {
   is = λ w stands f small. u.is w stands (fit w f) (omega (arith, counts w f)) ∙ same w stands f;
 }
 
+-- at the same position by other words
+pub written_moved : {p q : Position} {a b : Emitted} {k l : ℕ} (f : Position → World → Type 0) (m : Position → World → ℕ) (x : Position → World → ℕ → Code) → q ≡ p → Written q a b k l (f q) (m q) (x q) → Written p a b k l (f p) (m p) (x p)
+written_moved {a = a} {b} {k} {l} f m x same u = subst (λ (r : Position). Written r a b k l (f r) (m r) (x r)) same u
+
 -- ---- parts that are appended one after the other: what was appended, and what is left
 
 pub record Left (p : Position) (start now : Emitted) (number next : ℕ) (all left : World → Type 0) (count rest_count : World → ℕ) (code rest : World → ℕ → Code) : Type 0 where
@@ -160,3 +165,23 @@ left_end {next = next} no_more none x = record {
   counted = λ w a small. omega (arith, no_more w, x.counted w a small);
   is = λ w stands a small. sym (append-nil x.written) ∙ (ap (λ (c : Code). x.written ++ c) (sym (none w next)) ∙ x.is w stands a small);
 }
+
+-- ---- statements, one after the other
+
+pub record StmtsLeft (p : Position) (start now : Emitted) (number next : ℕ) (all left : List Stmt) : Type 0 where
+  pub loop : Left p start now number next (λ w. StmtsFit p.room (kept_values p.frames) (stmts_in p w all)) (λ w. StmtsFit p.room (kept_values p.frames) (stmts_in p w left)) (λ w. count_stmts (stmts_in p w all)) (λ w. count_stmts (stmts_in p w left))
+      (λ w i. stmts_code (setting p w) (stmts_in p w all) i p.frames) (λ w i. stmts_code (setting p w) (stmts_in p w left) i p.frames)
+
+pub stmts_begin : (p : Position) (now : Emitted) (number : ℕ) (all : List Stmt) → StmtsLeft p now now number number all all
+stmts_begin p now number all = record { loop = left_begin p now number _ _ _ }
+
+pub stmts_next : {p : Position} {start now new : Emitted} {number next l : ℕ} {all : List Stmt} (left further : List Stmt) (s : Stmt) → left ≡ s ∷ further → StmtWritten p now new next l s → StmtsLeft p start now number next all left → StmtsLeft p start new number l all further
+stmts_next {p} {next = next} left further s is x y = record {
+  loop = left_step x.row.code (λ w f. (subst (StmtsFit p.room (kept_values p.frames)) (same w) f).0) (λ w f. (subst (StmtsFit p.room (kept_values p.frames)) (same w) f).1) (λ w f. ap count_stmts (same w)) (λ w stands f. ap (λ (m : model.Stmts). stmts_code (setting p w) m next p.frames) (same w)) y.loop;
+}
+  where
+    same : (w : World) → stmts_in p w left ≡ model.more_stmts (stmt_of (within p w) s) (stmts_in p w further)
+    same w = ap (stmts_in p w) is
+
+pub stmts_end : {p : Position} {start now : Emitted} {number next : ℕ} {all : List Stmt} (left : List Stmt) → left ≡ [] → StmtsLeft p start now number next all left → StmtsWritten p start now number next all
+stmts_end {p} left none x = record { code = left_end (λ w. ap (λ (ss : List Stmt). count_stmts (stmts_in p w ss)) none) (λ w i. ap (λ (ss : List Stmt). stmts_code (setting p w) (stmts_in p w ss) i p.frames) none) x.loop }

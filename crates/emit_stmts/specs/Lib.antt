@@ -4,6 +4,7 @@ pub mod Functions
 pub mod HeadCode
 pub mod Leaving
 pub mod OneProof
+pub mod PartCode
 pub mod Positions
 pub mod Scoping
 pub mod StmtCode

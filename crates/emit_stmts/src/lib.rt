@@ -4,13 +4,12 @@
 //! each (`specs/Stmts.antt`), the frames around a statement and what leaves them (`specs/Frames.antt`), and the finished
 //! scripts of functions (`specs/Functions.antt`).
 //!
-//! Of the code that emits it these parts stand: the site of a statement with the frames around it (`stmt_site`,
-//! `frames`), the jumps out of these (`leaving`), scopes that are entered and left (`entering`, `inside`, `scoping`),
-//! functions that are declared (`functions`), whether there are any names for a scope (`declares`), values and names that
-//! are bound (`bindings`), the statements that no other statement stands in (`simple`, `valued`, `returning`), and what
-//! stands around others: heads of loops (`heads`), what a for-in gives its keys to (`storing`), the tests of a switch
-//! (`switching`), try notes and what is caught (`trying`). Each appends its code as the definition has it
-//! (`specs/StmtCode.antt`, `ValueCode.antt`, `HeadCode.antt`).
+//! `emit_stmt` appends the code of a whole statement (`stmts`), for every form of a statement; its clause is that of
+//! `specs/StmtCode.antt`. It is one cycle with a function for each row of the table of code. Below it stand the site of a
+//! statement with the frames around it (`stmt_site`, `frames`), the jumps out of these (`leaving`, `returning`), scopes
+//! that are entered and left (`entering`, `inside`, `scoping`), functions that are declared (`functions`), whether there
+//! are any names for a scope (`declares`), and the rows without statements in them (`simple`, `valued`, `bindings`,
+//! `heads`, `storing`, `switching`, `trying`). Functions and scripts are defined and not emitted yet.
 #![tactic(auto)]
 
 pub mod bindings;
@@ -26,6 +25,7 @@ pub mod returning;
 pub mod scoping;
 pub mod simple;
 pub mod stmt_site;
+pub mod stmts;
 pub mod storing;
 pub mod switching;
 pub mod trying;

@@ -1,5 +1,5 @@
 -- Rows of choices and of labelled statements.
-use Rattle.std.proofs.Common.{◌≡◌, ℕ, ◌+◌, List, [], ◌∷◌, ◌++◌, length, refl, sym, ◌∙◌, ap, ap₂, add-zero, zero-add}
+use Rattle.std.proofs.Common.{◌≡◌, ℕ, ◌+◌, List, [], ◌∷◌, ◌++◌, length, refl, sym, ap, add-zero, zero-add}
 use Rattle.script_grammar.specs.declared.tree.Expr.{Expr}
 use Rattle.script_grammar.specs.declared.tree.Ident.{Ident}
 use Rattle.script_grammar.specs.declared.tree.Stmt.{Stmt}
@@ -12,7 +12,7 @@ use Rattle.bytecode_buf.specs.declared.opcode.Op.TheVariants as op
 use Rattle.bytecode_buf.specs.declared.waits.Aim.TheVariants as aim
 use Rattle.bytecode_buf.specs.declared.waits.Wait.{Wait}
 use Rattle.bytecode_buf.specs.Emits.{emitted, Waits, LandsHere}
-use Rattle.bytecode_buf.specs.Pieces.{Code, Waiting, here}
+use Rattle.bytecode_buf.specs.Pieces.{Waiting, here}
 use Rattle.emit_exprs.specs.declared.uses.Use.TheVariants.{Plainly}
 use Rattle.emit_exprs.specs.Exprs.{Scene, expr_code}
 use Rattle.emit_exprs.specs.Fitting.{ExprFits}
@@ -21,10 +21,10 @@ use Rattle.emit_exprs.specs.TreeCode.{ExprEmits}
 use Rattle.emit_stmts.specs.declared.stmt_site.StmtSite.{StmtSite}
 use Rattle.emit_stmts.specs.Frames.{Labelled, kept_values}
 use Rattle.emit_stmts.specs.PartCode.{FirstWritten, first_code}
-use Rattle.emit_stmts.specs.Positions.{Position, position_of, framed, scene, World, setting, within}
+use Rattle.emit_stmts.specs.Positions.{position_of, framed, scene, setting, within}
 use Rattle.emit_stmts.specs.StmtCode.{Written, RowWritten, StmtWritten}
 use Rattle.emit_stmts.specs.StmtFits.{StmtFits}
-use Rattle.emit_stmts.specs.Stmts.{stmt_code, then_code, choice_code}
+use Rattle.emit_stmts.specs.Stmts.{stmt_code, then_code}
 use Rattle.emit_stmts.proofs.Writing.{written_plain, written_wait, written_both, written_here, written_from_none, written_by, scene_is}
 use Rattle.emit_stmts.proofs.LoopRows.{framed_row}
 

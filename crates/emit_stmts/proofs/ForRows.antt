@@ -1,5 +1,5 @@
 -- Rows of `for` and for-in, with the scopes of their heads.
-use Rattle.std.proofs.Common.{◌≡◌, ℕ, ◌+◌, ◌-◌, ◌<◌, ◌^◌, Bool, true, false, ◌&&◌, nat_lt, List, [], ◌∷◌, ◌++◌, Option, Some, None, length, refl, sym, ◌∙◌, ap, ap₂, subst, add-zero, zero-add}
+use Rattle.std.proofs.Common.{◌≡◌, ℕ, ◌+◌, ◌<◌, ◌^◌, Bool, true, false, ◌&&◌, nat_lt, List, ◌∷◌, ◌++◌, Option, Some, None, length, sym, ◌∙◌, ap, ap₂, subst, add-zero, zero-add}
 use Rattle.script_grammar.specs.declared.tree.Each.{Each}
 use Rattle.script_grammar.specs.declared.tree.Expr.{Expr}
 use Rattle.script_grammar.specs.declared.tree.Init.{Init}
@@ -24,11 +24,11 @@ use Rattle.emit_stmts.specs.declared.stmt_site.StmtSite.{StmtSite}
 use Rattle.emit_stmts.specs.Declares.{declares}
 use Rattle.emit_stmts.specs.Frames.{Frame, Loop, KeysLoop, Entered, kept_values, leave_scope}
 use Rattle.emit_stmts.specs.HeadCode.{freshen_head}
-use Rattle.emit_stmts.specs.PartCode.{ForWritten, ForInWritten, maybe_in, turns_code, keys_turns}
+use Rattle.emit_stmts.specs.PartCode.{ForWritten, ForInWritten, maybe_in, turns_code}
 use Rattle.emit_stmts.specs.Positions.{Position, position_of, World, setting, within}
 use Rattle.emit_stmts.specs.StmtCode.{Written, RowWritten}
 use Rattle.emit_stmts.specs.StmtFits.{HasRoom, StmtFits, InitFits, EachFits}
-use Rattle.emit_stmts.specs.Stmts.{Setting, scene_at, enter_scope, in_scope, no_functions, freshen, init_code, stmt_code, for_code, for_in_code, test_code, update_code, store_each}
+use Rattle.emit_stmts.specs.Stmts.{scene_at, enter_scope, no_functions, freshen, init_code, stmt_code, for_code, for_in_code, test_code, update_code, store_each}
 use Rattle.emit_stmts.specs.ValueCode.{InitEmits}
 use Rattle.emit_stmts.proofs.Scoped.{declared_some, left_out, count_some, count_none, room_some, room_none, scoped_plain, unscoped, freshen_some, freshen_none, inner_position, nowhere, written_scope}
 use Rattle.emit_stmts.proofs.Writing.{written_plain, written_both, written_by, scene_is}

@@ -1,8 +1,7 @@
 -- Heads of loops and of switches.
-use Rattle.std.proofs.Common.{◌≡◌, ℕ, ◌+◌, Bool, true, false, List, [], ◌∷◌, ◌++◌, Option, Some, None, map, option_map, refl, sym, ◌∙◌, ap, subst, add-zero}
+use Rattle.std.proofs.Common.{◌≡◌, ℕ, ◌+◌, List, [], ◌∷◌, Option, Some, None, map, option_map, refl, sym, ◌∙◌, ap, subst, add-zero}
 use Rattle.script_grammar.specs.declared.tree.Clause.{Clause}
 use Rattle.script_grammar.specs.declared.tree.Expr.{Expr}
-use Rattle.script_grammar.specs.declared.tree.Stmt.{Stmt}
 use Rattle.script_grammar.specs.Interpretation.{Interpretation}
 use Rattle.script_grammar.specs.Tree as model
 use Rattle.script_grammar.specs.TreeLists as part
@@ -11,12 +10,10 @@ use Rattle.script_grammar.specs.TreeOf.{expr_of, stmt_of, clause_of}
 use Rattle.script_grammar.proofs.PartEquations.{clause_of-fields}
 use Rattle.stencil_data.specs.declared.stencils.TryNote.{TryNote}
 use Rattle.bytecode_buf.specs.declared.opcode.Op.TheVariants as op
-use Rattle.bytecode_buf.specs.declared.waits.Aim.{Aim}
 use Rattle.bytecode_buf.specs.declared.waits.Aim.TheVariants as aim
 use Rattle.bytecode_buf.specs.declared.waits.Wait.{Wait}
 use Rattle.bytecode_buf.specs.Emits.{Emits, Waits, emitted}
-use Rattle.bytecode_buf.specs.Pieces.{Code, Waiting}
-use Rattle.bytecode_buf.proofs.AppendLemmas.{appends_none, appends_both, emits_both}
+use Rattle.bytecode_buf.proofs.AppendLemmas.{appends_both, emits_both}
 use Rattle.emit_exprs.specs.declared.uses.Use.TheVariants.{Plainly}
 use Rattle.emit_exprs.specs.Sites.{EmitsAt}
 use Rattle.emit_exprs.specs.TreeCode.{ExprEmits}
@@ -28,7 +25,6 @@ use Rattle.emit_stmts.specs.Frames.{kept_values}
 use Rattle.emit_stmts.specs.HeadCode.{Tested, KeysTested, keys_code, CaseWritten, CasesWritten}
 use Rattle.emit_stmts.specs.PartCode.{clauses_in}
 use Rattle.emit_stmts.specs.Positions.{Position, World, position_of, scene, within}
-use Rattle.emit_stmts.specs.StmtCode.{Written}
 use Rattle.emit_stmts.specs.StmtFits.{ClausesFit}
 use Rattle.emit_stmts.specs.Stmts.{cases_code, default_aim}
 use Rattle.emit_stmts.proofs.Writing.{written_plain, written_wait, written_both, written_by, written_none, Left, left_begin, left_step, left_end}

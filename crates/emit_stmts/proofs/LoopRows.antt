@@ -1,5 +1,5 @@
 -- Rows of loops.
-use Rattle.std.proofs.Common.{◌≡◌, ℕ, ◌+◌, ◌<◌, List, [], ◌∷◌, ◌++◌, Option, length, refl, sym, ◌∙◌, ap, ap₂, subst, add-zero, zero-add, add_assoc, arith, length-append}
+use Rattle.std.proofs.Common.{◌≡◌, ℕ, ◌+◌, ◌<◌, List, [], ◌∷◌, ◌++◌, Option, length, refl, sym, ◌∙◌, ap, ap₂, add-zero, zero-add, add_assoc, arith, length-append}
 use Rattle.script_grammar.specs.declared.tree.Each.{Each}
 use Rattle.script_grammar.specs.declared.tree.Expr.{Expr}
 use Rattle.script_grammar.specs.declared.tree.Stmt.{Stmt}
@@ -7,12 +7,11 @@ use Rattle.script_grammar.specs.Tree as model
 use Rattle.script_grammar.specs.TreeOf.{expr_of, each_of, stmt_of}
 use Rattle.scope_analysis.specs.Scopes.{count_stmt}
 use Rattle.stencil_data.specs.declared.stencils.TryNote.{TryNote}
-use Rattle.bytecode_buf.specs.declared.opcode.Op.{Op}
 use Rattle.bytecode_buf.specs.declared.opcode.Op.TheVariants as op
 use Rattle.bytecode_buf.specs.declared.waits.Aim.{Aim}
 use Rattle.bytecode_buf.specs.declared.waits.Aim.TheVariants as aim
 use Rattle.bytecode_buf.specs.declared.waits.Wait.{Wait}
-use Rattle.bytecode_buf.specs.Appends.{Appends, Emitted, AllRoom, laid_pieces}
+use Rattle.bytecode_buf.specs.Appends.{Appends, Emitted, laid_pieces}
 use Rattle.bytecode_buf.specs.Emits.{emitted, Waits, LandsHere, TurnsBack}
 use Rattle.bytecode_buf.specs.Command.{jump}
 use Rattle.bytecode_buf.specs.Pieces.{Code, Waiting, here, turning, size, width_by, command_width, landed_by}
@@ -28,13 +27,13 @@ use Rattle.emit_exprs.proofs.Writing as expr
 use Rattle.emit_stmts.specs.declared.stmt_site.StmtSite.{StmtSite}
 use Rattle.emit_stmts.specs.Frames.{Frame, Loop, KeysLoop, kept_values, chain_of}
 use Rattle.emit_stmts.specs.HeadCode.{freshen_head, keys_code, Tested, KeysTested}
-use Rattle.emit_stmts.specs.PartCode.{ForWritten, ForInWritten, maybe_in, turns_code, keys_turns}
+use Rattle.emit_stmts.specs.PartCode.{ForWritten, ForInWritten, maybe_in}
 use Rattle.emit_stmts.specs.Positions.{Position, position_of, framed, scene, World, setting, within, Stands}
 use Rattle.emit_stmts.specs.StmtCode.{Written, RowWritten, StmtWritten}
 use Rattle.emit_stmts.specs.StmtFits.{StmtFits, EachFits}
-use Rattle.emit_stmts.specs.Stmts.{stmt_code, do_code, while_code, for_code, for_in_code, test_code, update_code, store_each}
+use Rattle.emit_stmts.specs.Stmts.{stmt_code, do_code, while_code, for_code, test_code, update_code, store_each}
 use Rattle.emit_stmts.specs.ValueCode.{ValueEmits, EachEmits}
-use Rattle.emit_stmts.proofs.Writing.{written_plain, written_wait, written_both, written_here, written_turn, written_from_none, written_framed, written_moved, written_by, written_room, scene_is}
+use Rattle.emit_stmts.proofs.Writing.{written_plain, written_wait, written_both, written_here, written_turn, written_from_none, written_framed, written_moved, written_by, scene_is}
 
 -- ---- how long code is
 

@@ -1,5 +1,5 @@
 -- Scopes that are entered around parts of statements.
-use Rattle.std.proofs.Common.{◌≡◌, ℕ, zero, suc, ◌+◌, ◌-◌, ◌<◌, ◌^◌, Bool, true, false, ◌&&◌, nat_lt, List, [], ◌∷◌, ◌++◌, Some, refl, sym, ◌∙◌, ap, ap₂, subst, add-zero, zero-add, append_assoc, append-nil, true≢false, arith}
+use Rattle.std.proofs.Common.{◌≡◌, ℕ, ◌+◌, ◌-◌, ◌<◌, ◌^◌, Bool, true, false, ◌&&◌, nat_lt, List, [], ◌∷◌, ◌++◌, Some, refl, sym, ◌∙◌, ap, ap₂, subst, add-zero, zero-add, append_assoc, append-nil, true≢false}
 use Rattle.std.proofs.lemmas.Bool.{lt-ltb, ltb-true}
 use Rattle.script_grammar.specs.declared.tree.Stmt.{Stmt}
 use Rattle.script_grammar.specs.Tree.{no_stmts}
@@ -22,7 +22,7 @@ use Rattle.emit_stmts.specs.Frames.{Entered, scope_at, chain_link, kept_values, 
 use Rattle.emit_stmts.specs.Frames as model
 use Rattle.emit_stmts.specs.HeadCode.{freshen_head}
 use Rattle.emit_stmts.specs.PartCode.{BlockWritten, stmts_in}
-use Rattle.emit_stmts.specs.Positions.{Position, position_of, entered, frames_in, World, setting, Stands}
+use Rattle.emit_stmts.specs.Positions.{Position, position_of, entered, frames_in, World, setting}
 use Rattle.emit_stmts.specs.StmtCode.{Written, StmtsWritten}
 use Rattle.emit_stmts.specs.StmtFits.{HasRoom, room_in, StmtsFit}
 use Rattle.emit_stmts.specs.Stmts.{Setting, scene_at, enter_scope, in_scope, no_functions, freshen, block_functions, stmts_code}

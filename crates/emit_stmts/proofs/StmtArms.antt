@@ -20,7 +20,7 @@ use Rattle.script_grammar.specs.TreeOf.{expr_of, each_of, init_of, bind_of, func
 use Rattle.script_grammar.proofs.StmtEquations as equation
 use Rattle.bytecode_buf.specs.Appends.{Emitted}
 use Rattle.emit_stmts.specs.PartCode.{BlockWritten, stmts_in, clauses_in, maybe_in}
-use Rattle.emit_stmts.specs.Positions.{Position, World, within}
+use Rattle.emit_stmts.specs.Positions.{Position, within}
 use Rattle.emit_stmts.specs.StmtCode.{RowWritten, StmtWritten}
 use Rattle.emit_stmts.proofs.Writing.{written_none, row_of, stmt_at}
 

@@ -1,5 +1,5 @@
 -- Rows of switches.
-use Rattle.std.proofs.Common.{◌≡◌, ℕ, ◌+◌, ◌-◌, ◌<◌, ◌^◌, Bool, true, false, ◌&&◌, nat_lt, List, [], ◌∷◌, ◌++◌, length, map, option_map, refl, sym, ◌∙◌, ap, ap₂, subst, add-zero, zero-add, append_assoc, arith}
+use Rattle.std.proofs.Common.{◌≡◌, ℕ, ◌+◌, ◌<◌, ◌^◌, Bool, true, false, ◌&&◌, nat_lt, List, [], ◌∷◌, ◌++◌, length, map, option_map, refl, sym, ◌∙◌, ap, ap₂, subst, add-zero, zero-add, append_assoc, arith}
 use Rattle.script_grammar.specs.declared.tree.Clause.{Clause}
 use Rattle.script_grammar.specs.declared.tree.Expr.{Expr}
 use Rattle.script_grammar.specs.declared.tree.Stmt.{Stmt}
@@ -8,7 +8,7 @@ use Rattle.script_grammar.specs.Tree as model
 use Rattle.script_grammar.specs.TreeLists.{maybe_expr_of, clauses_of}
 use Rattle.script_grammar.specs.TreeOf.{expr_of, clause_of}
 use Rattle.scope_analysis.specs.DeclaredNames.{Declaration, clauses_lexical_names}
-use Rattle.scope_analysis.specs.Scopes.{count_stmts, count_clauses}
+use Rattle.scope_analysis.specs.Scopes.{count_clauses}
 use Rattle.stencil_data.specs.declared.stencils.TryNote.{TryNote}
 use Rattle.bytecode_buf.specs.declared.opcode.Op.TheVariants as op
 use Rattle.bytecode_buf.specs.declared.waits.Aim.{Aim}

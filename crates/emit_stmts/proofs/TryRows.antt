@@ -1,10 +1,10 @@
 -- Rows of try statements, and their notes.
-use Rattle.std.proofs.Common.{◌≡◌, ℕ, zero, suc, ◌+◌, ◌-◌, ◌*◌, ◌/◌, ◌<◌, ◌%◌, ◌^◌, Bool, true, false, ◌&&◌, nat_lt, List, [], ◌∷◌, ◌++◌, Option, Some, None, length, get_or, set, refl, sym, ◌∙◌, ap, ap₂, subst, arith, add-zero, zero-add, add_assoc, append_assoc, append-nil, length-append, true≢false}
+use Rattle.std.proofs.Common.{◌≡◌, ℕ, zero, suc, ◌+◌, ◌*◌, ◌/◌, ◌<◌, ◌%◌, ◌^◌, true, false, ◌&&◌, nat_lt, List, [], ◌∷◌, ◌++◌, Option, Some, None, length, get_or, set, refl, sym, ◌∙◌, ap, ap₂, subst, arith, add-zero, zero-add, add_assoc, append_assoc, append-nil, length-append, true≢false}
 use Rattle.std.proofs.lemmas.Bool.{lt-ltb}
 use Rattle.std.proofs.Math.Nat.{mod-eq_of_lt, add-mul-mod_self_left, mod-add-div}
 use Rattle.script_grammar.specs.declared.tree.Ident.{Ident}
 use Rattle.script_grammar.specs.declared.tree.Stmt.{Stmt}
-use Rattle.script_grammar.specs.Interpretation.{maybe_named, named}
+use Rattle.script_grammar.specs.Interpretation.{maybe_named}
 use Rattle.script_grammar.specs.Tree as model
 use Rattle.scope_analysis.specs.Scopes.{scope_count, catch_names}
 use Rattle.stencil_data.specs.declared.stencils.TryNote.{TryNote}
@@ -24,9 +24,9 @@ use Rattle.emit_exprs.proofs.Writing.{written_of}
 use Rattle.emit_stmts.specs.declared.frames.Frame.{Frame}
 use Rattle.emit_stmts.specs.declared.frames.Frame.TheVariants as frame
 use Rattle.emit_stmts.specs.declared.stmt_site.StmtSite.{StmtSite}
-use Rattle.emit_stmts.specs.Frames.{Entered, kept_values, leave_scope, scope_at}
+use Rattle.emit_stmts.specs.Frames.{kept_values, leave_scope, scope_at}
 use Rattle.emit_stmts.specs.PartCode.{BlockWritten, BlockFits, GuardedWritten, HandlerWritten, block_code, block_count, handler_code, stmts_in}
-use Rattle.emit_stmts.specs.Positions.{Position, position_of, frame_in, frames_in, World, scene, setting, within}
+use Rattle.emit_stmts.specs.Positions.{Position, position_of, frame_in, frames_in, World, setting, within}
 use Rattle.emit_stmts.specs.StmtCode.{Written, RowWritten}
 use Rattle.emit_stmts.specs.Stmts.{scene_at, push_env, initializing, guarded}
 use Rattle.emit_stmts.specs.Trying.{ended}

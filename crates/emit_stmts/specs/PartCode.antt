@@ -22,7 +22,7 @@ use Rattle.emit_exprs.specs.Fitting.{ExprFits, MaybeExprFits}
 use Rattle.emit_exprs.specs.Whole.{just}
 use Rattle.emit_stmts.specs.Frames.{Frame, Loop, KeysLoop, Switching, kept_values}
 use Rattle.emit_stmts.specs.HeadCode.{freshen_head}
-use Rattle.emit_stmts.specs.Positions.{Position, World, scene, setting, within}
+use Rattle.emit_stmts.specs.Positions.{Position, World, setting, within}
 use Rattle.emit_stmts.specs.StmtCode.{Written}
 use Rattle.emit_stmts.specs.StmtFits.{HasRoom, room_in, StmtFits, StmtsFit, ClausesFit, EachFits}
 use Rattle.emit_stmts.specs.Stmts.{Setting, scene_at, block_functions, in_scope, stmt_code, stmts_code, clauses_code, cases_code, default_aim, test_code, update_code, store_each, for_code, for_in_code, guarded, catch_enter, catch_code, catch_leave, frames_in}

@@ -1,4 +1,4 @@
-use Rattle.std.proofs.Common.{List, Option, ap, drop_of_length-le, length, subst, sym, ℕ, ◌<◌, ◌∙◌, ◌≡◌}
+use Rattle.std.proofs.Common.{List, Option, ap, drop_of_length-le, length, subst, sym, ℕ, ◌<◌, ◌∙◌}
 use Rattle.script_grammar.specs.declared.tree.Ident.{Ident}
 use Rattle.bytecode_buf.specs.Appends.{AllRoom}
 use Rattle.bytecode_buf.specs.declared.opcode.Op.TheVariants as op

@@ -200,6 +200,68 @@ fn refuses_an_unexpected_token(rt: HostRuntime) -> Result<(), Fail> {
     Ok(())
 }
 
+/// Texts that are no script, each with the line for its first fault.
+const FAULTS: [(&[u8], &[u8]); 26] = [
+    (b"(]", b"a.js:1: unexpected\n"),
+    (b"function f(){", b"a.js:13: unexpected\n"),
+    (b"/* x", b"a.js:0: unexpected\n"),
+    (b"x = {a: 1, ...b}", b"a.js:11: unexpected\n"),
+    (b"a?.b", b"a.js:1: unexpected\n"),
+    (b"class A {}", b"a.js:0: unexpected\n"),
+    (b"async function f(){}", b"a.js:6: unexpected\n"),
+    (b"/x/", b"a.js:0: unexpected\n"),
+    (b"1n", b"a.js:0: unexpected\n"),
+    (b"if (a) let b", b"a.js:7: unexpected\n"),
+    (b"return 1", b"a.js:0: unexpected\n"),
+    (b"a\n=> b", b"a.js:2: unexpected\n"),
+    (b"throw\na", b"a.js:6: unexpected\n"),
+    (b"function f(){}()", b"a.js:16: unexpected\n"),
+    (b"(a,,", b"a.js:3: unexpected\n"),
+    (b"(a,) + 1", b"a.js:5: unexpected\n"),
+    (b"a || () => 1", b"a.js:6: unexpected\n"),
+    (b"a ?? b || c", b"a.js:7: unexpected\n"),
+    (b"-a ** b", b"a.js:3: unexpected\n"),
+    (b"(a, 1) => b", b"a.js:7: unexpected\n"),
+    (b"(a, ...b) + 1", b"a.js:10: unexpected\n"),
+    (b"(...a,)", b"a.js:5: unexpected\n"),
+    (b"(a = 1, b.c) => d", b"a.js:13: unexpected\n"),
+    (b"({get x(y){}})", b"a.js:8: unexpected\n"),
+    (b"f(() => { 1 2 }, () => { 3 4 )", b"a.js:12: unexpected\n"),
+    (
+        b"switch (a) { default: default: }",
+        b"a.js:22: unexpected\n",
+    ),
+];
+
+#[test]
+fn refuses_at_the_first_fault(rt: HostRuntime) -> Result<(), Fail> {
+    for (text, line) in FAULTS {
+        assert!(rt; refuses(&rt, rt.alloc(), text, line)?);
+    }
+    Ok(())
+}
+
+/// Scripts that are not of the built form.
+const SCRIPTS: [&[u8]; 9] = [
+    b"x++\n(y)",
+    b"-x++\n/y/z",
+    b"do ; while (0) x",
+    b"let f = x => {}\n[1]",
+    b"\xEF\xBB\xBFx - 1",
+    b"`${() => `${x}`}`",
+    b"if (a) if (b) c; else d",
+    b"for (let a in b) continue",
+    b"(a, b = {c: [d, , e]}, ...f) => g",
+];
+
+#[test]
+fn reads_what_is_not_built(rt: HostRuntime) -> Result<(), Fail> {
+    for text in SCRIPTS {
+        assert!(rt; refuses(&rt, rt.alloc(), text, b"a.js: not built\n")?);
+    }
+    Ok(())
+}
+
 /// So many times this byte.
 fn many(alloc: Global, byte: u8, count: usize) -> Result<Vec<u8>, AllocError> {
     vec![in alloc; byte; count]

@@ -2,6 +2,7 @@ pub mod ChoiceRows
 pub mod CodeRows
 pub mod Declaring
 pub mod Exits
+pub mod Finished
 pub mod ForRows
 pub mod HeadRows
 pub mod Hiding
@@ -9,6 +10,7 @@ pub mod LoopRows
 pub mod ReturnRows
 pub mod Scoped
 pub mod Scopes
+pub mod ScriptRows
 pub mod SimpleRows
 pub mod StmtArms
 pub mod StoreRows

@@ -7,6 +7,7 @@ pub mod OneProof
 pub mod PartCode
 pub mod Positions
 pub mod Scoping
+pub mod ScriptCode
 pub mod StmtCode
 pub mod StmtFits
 pub mod Stmts

@@ -9,7 +9,11 @@
 //! statement with the frames around it (`stmt_site`, `frames`), the jumps out of these (`leaving`, `returning`), scopes
 //! that are entered and left (`entering`, `inside`, `scoping`), functions that are declared (`functions`), whether there
 //! are any names for a scope (`declares`), and the rows without statements in them (`simple`, `valued`, `bindings`,
-//! `heads`, `storing`, `switching`, `trying`). Functions and scripts are defined and not emitted yet.
+//! `heads`, `storing`, `switching`, `trying`).
+//!
+//! `top` makes the script's own stencil (`scripts`), where its scopes and the extents of the functions directly in it are
+//! handed in; its clause is that of `specs/ScriptCode.antt`. Functions are defined and not emitted yet, and nothing here
+//! finds the functions in a tree or makes the chains at them.
 #![tactic(auto)]
 
 pub mod bindings;
@@ -23,6 +27,7 @@ pub mod inside;
 pub mod leaving;
 pub mod returning;
 pub mod scoping;
+pub mod scripts;
 pub mod simple;
 pub mod stmt_site;
 pub mod stmts;

@@ -6,7 +6,6 @@ use Rattle.std.proofs.lemmas.Map.Views.{any-filter_same}
 use Rattle.std.specs.Cmp.Lexicographic.{bytes_decides}
 use Rattle.stencil_data.specs.declared.scopes.BindKind.{BindKind}
 use Rattle.scope_analysis.specs.DeclaredNames.{Text, Declaration, declarations, texts_of, has_text, texts_without, first_ones, first_ones_after}
-use Rattle.scope_analysis.specs.Uses.{Uses, uses_both, uses_inside}
 
 -- used in one of two parts
 pub has_either : (xs ys : List Text) (t : Text) → has_text (xs ++ ys) t ≡ (has_text xs t || has_text ys t)
@@ -59,5 +58,5 @@ pub used_behind : (xs ys : List Text) (t : Text) (b r : Bool) → b ≡ has_text
 used_behind xs ys t b r h missed k = k ∙ sym (has_either xs ys t ∙ ap (λ (x : Bool). x || has_text ys t) (sym h ∙ missed))
 
 -- a function beside a part has no uses of its own
-pub no_functions : (u f : Uses) (t : Text) → has_text (uses_both u (uses_inside f)).own t ≡ has_text u.own t
-no_functions u f t = ap (λ (xs : List Text). has_text xs t) (append-nil u.own)
+pub no_functions : (xs : List Text) (t : Text) → has_text (xs ++ []) t ≡ has_text xs t
+no_functions xs t = ap (λ (ys : List Text). has_text ys t) (append-nil xs)

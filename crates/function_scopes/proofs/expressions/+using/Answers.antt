@@ -185,15 +185,15 @@ uses_key-returns-in-Computed t c = λ bodies.
 
 pub uses_prop-returns-in-Method : goal.uses_prop-returns-in-Method
 uses_prop-returns-in-Method t c = λ bodies.
-    rw c.in-Method.is (rw (prop_of-Method (under c.args.wanted.now.texts.now bodies) c.in-Method.key c.in-Method.func) (rw (func_of-fields (under c.args.wanted.now.texts.now bodies) c.in-Method.func) (c.uses_key-in-Method.ensures bodies ∙ sym (no_functions (uses_key (key_of (under c.args.wanted.now.texts.now bodies) c.in-Method.key)) _ c.args.wanted.now.units.now))))
+    rw c.in-Method.is (rw (prop_of-Method (under c.args.wanted.now.texts.now bodies) c.in-Method.key c.in-Method.func) (rw (func_of-fields (under c.args.wanted.now.texts.now bodies) c.in-Method.func) (c.uses_key-in-Method.ensures bodies ∙ sym (no_functions (uses_key (key_of (under c.args.wanted.now.texts.now bodies) c.in-Method.key)).own c.args.wanted.now.units.now))))
 
 pub uses_prop-returns-in-Get : goal.uses_prop-returns-in-Get
 uses_prop-returns-in-Get t c = λ bodies.
-    rw c.in-Get.is (rw (prop_of-Get (under c.args.wanted.now.texts.now bodies) c.in-Get.key c.in-Get.func) (rw (func_of-fields (under c.args.wanted.now.texts.now bodies) c.in-Get.func) (c.uses_key-in-Get.ensures bodies ∙ sym (no_functions (uses_key (key_of (under c.args.wanted.now.texts.now bodies) c.in-Get.key)) _ c.args.wanted.now.units.now))))
+    rw c.in-Get.is (rw (prop_of-Get (under c.args.wanted.now.texts.now bodies) c.in-Get.key c.in-Get.func) (rw (func_of-fields (under c.args.wanted.now.texts.now bodies) c.in-Get.func) (c.uses_key-in-Get.ensures bodies ∙ sym (no_functions (uses_key (key_of (under c.args.wanted.now.texts.now bodies) c.in-Get.key)).own c.args.wanted.now.units.now))))
 
 pub uses_prop-returns-in-Set : goal.uses_prop-returns-in-Set
 uses_prop-returns-in-Set t c = λ bodies.
-    rw c.in-Set.is (rw (prop_of-Set (under c.args.wanted.now.texts.now bodies) c.in-Set.key c.in-Set.func) (rw (func_of-fields (under c.args.wanted.now.texts.now bodies) c.in-Set.func) (c.uses_key-in-Set.ensures bodies ∙ sym (no_functions (uses_key (key_of (under c.args.wanted.now.texts.now bodies) c.in-Set.key)) _ c.args.wanted.now.units.now))))
+    rw c.in-Set.is (rw (prop_of-Set (under c.args.wanted.now.texts.now bodies) c.in-Set.key c.in-Set.func) (rw (func_of-fields (under c.args.wanted.now.texts.now bodies) c.in-Set.func) (c.uses_key-in-Set.ensures bodies ∙ sym (no_functions (uses_key (key_of (under c.args.wanted.now.texts.now bodies) c.in-Set.key)).own c.args.wanted.now.units.now))))
 
 pub uses_tail-returns-in-Index : goal.uses_tail-returns-in-Index
 uses_tail-returns-in-Index t c = λ bodies.

@@ -3,15 +3,15 @@
 ghost use Rattle.std.specs.Prelude.{◌≡◌, ℕ, map, option_map};
 ghost use Rattle.script_grammar.specs.Interpretation.{named, maybe_named};
 ghost use Rattle.script_grammar.specs.Tree as model;
-ghost use Rattle.script_grammar.specs.TreeLists.{params_of, binds_of, stmts_of, maybe_stmt_of, clauses_of};
-ghost use Rattle.script_grammar.specs.TreeOf.{param_of, bind_of, stmt_of, clause_of, init_of, each_of};
+ghost use Rattle.script_grammar.specs.TreeLists.{binds_of, stmts_of, maybe_stmt_of, clauses_of};
+ghost use Rattle.script_grammar.specs.TreeOf.{bind_of, stmt_of, clause_of, init_of, each_of};
 ghost use Rattle.scope_analysis.specs.DeclaredNames as defined;
 ghost use Rattle.scope_analysis.specs.DeclaredNames.{has_text, texts_of};
 ghost use Rattle.scope_analysis.specs.Kept.{under};
 
 use crate::wanted::{Wanted, is_atom};
 use script_grammar::token::Decl;
-use script_grammar::tree::{Bind, Clause, Each, Ident, Init, Param, Stmt};
+use script_grammar::tree::{Bind, Clause, Each, Ident, Init, Stmt};
 
 /// Whether the name is this one, where there is one.
 pub fn is_named(wanted: &Wanted, name: Option<Ident>) -> bool
@@ -21,19 +21,6 @@ pub fn is_named(wanted: &Wanted, name: Option<Ident>) -> bool
         Some(ident) => is_atom(wanted, ident.atom),
         None => false,
     }
-}
-
-/// Whether the name is one of the parameters.
-#[tactic(auto, using(crate::proofs::OwnUses::has_either))]
-pub fn is_param(wanted: &Wanted, params: &[Param]) -> bool
-    ensures { (bodies : ℕ → model.Stmts) → result ≡ has_text (defined.param_names (params_of (map (param_of (under wanted.now.texts.now bodies)) params.now))) wanted.now.units.now }
-{
-    for param in params {
-        if is_atom(wanted, param.name.atom) {
-            return true;
-        }
-    }
-    false
 }
 
 // Whether the name is one of these that are declared.
@@ -82,7 +69,6 @@ fn is_lexical_name(wanted: &Wanted, stmt: &Stmt) -> bool
 }
 
 /// Whether a block declares the name.
-#[tactic(auto, using(crate::proofs::OwnUses::has_either, crate::proofs::OwnUses::has_either_named))]
 pub fn is_lexical(wanted: &Wanted, items: &[Stmt]) -> bool
     ensures { (bodies : ℕ → model.Stmts) → result ≡ has_text (texts_of (defined.lexical_names (stmts_of (map (stmt_of (under wanted.now.texts.now bodies)) items.now)))) wanted.now.units.now }
 {
@@ -95,7 +81,6 @@ pub fn is_lexical(wanted: &Wanted, items: &[Stmt]) -> bool
 }
 
 /// Whether the clauses of a `switch` declare the name.
-#[tactic(auto, using(crate::proofs::OwnUses::has_either, crate::proofs::OwnUses::has_either_named))]
 pub fn is_lexical_in_clauses(wanted: &Wanted, clauses: &[Clause]) -> bool
     ensures { (bodies : ℕ → model.Stmts) → result ≡ has_text (texts_of (defined.clauses_lexical_names (clauses_of (map (clause_of (under wanted.now.texts.now bodies)) clauses.now)))) wanted.now.units.now }
 {
@@ -118,7 +103,6 @@ fn is_top_lexical_name(wanted: &Wanted, stmt: &Stmt) -> bool
 }
 
 /// Whether a function's body declares the name as a lexical one.
-#[tactic(auto, using(crate::proofs::OwnUses::has_either, crate::proofs::OwnUses::has_either_named))]
 pub fn is_top_lexical(wanted: &Wanted, items: &[Stmt]) -> bool
     ensures { (bodies : ℕ → model.Stmts) → result ≡ has_text (texts_of (defined.top_lexical_names (stmts_of (map (stmt_of (under wanted.now.texts.now bodies)) items.now)))) wanted.now.units.now }
 {
@@ -194,7 +178,6 @@ fn is_var_in_each(wanted: &Wanted, each: &Each) -> bool
 
 // Whether a statement declares the name by `var`, at any depth, functions left out.
 #[cycle(vars)]
-#[tactic(auto, using(crate::proofs::OwnUses::has_either))]
 fn is_var_in(wanted: &Wanted, stmt: &Stmt) -> bool
     ensures { (bodies : ℕ → model.Stmts) → result ≡ has_text (defined.var_names_in (stmt_of (under wanted.now.texts.now bodies) stmt.now)) wanted.now.units.now }
 {
@@ -221,7 +204,6 @@ fn is_var_in(wanted: &Wanted, stmt: &Stmt) -> bool
 }
 
 #[cycle(vars)]
-#[tactic(auto, using(crate::proofs::OwnUses::has_either))]
 fn is_var(wanted: &Wanted, items: &[Stmt]) -> bool
     ensures { (bodies : ℕ → model.Stmts) → result ≡ has_text (defined.var_names (stmts_of (map (stmt_of (under wanted.now.texts.now bodies)) items.now))) wanted.now.units.now }
 {
@@ -234,7 +216,6 @@ fn is_var(wanted: &Wanted, items: &[Stmt]) -> bool
 }
 
 #[cycle(vars)]
-#[tactic(auto, using(crate::proofs::OwnUses::has_either))]
 fn is_var_in_else(wanted: &Wanted, no: &Option<Box<Stmt>>) -> bool
     ensures { (bodies : ℕ → model.Stmts) → result ≡ has_text (defined.else_var_names (maybe_stmt_of (option_map (λ boxed. stmt_of (under wanted.now.texts.now bodies) boxed.value) no.now))) wanted.now.units.now }
 {
@@ -245,7 +226,6 @@ fn is_var_in_else(wanted: &Wanted, no: &Option<Box<Stmt>>) -> bool
 }
 
 #[cycle(vars)]
-#[tactic(auto, using(crate::proofs::OwnUses::has_either))]
 fn is_var_in_clauses(wanted: &Wanted, clauses: &[Clause]) -> bool
     ensures { (bodies : ℕ → model.Stmts) → result ≡ has_text (defined.clauses_var_names (clauses_of (map (clause_of (under wanted.now.texts.now bodies)) clauses.now))) wanted.now.units.now }
 {
@@ -268,7 +248,6 @@ fn is_top_var_name(wanted: &Wanted, stmt: &Stmt) -> bool
 }
 
 /// Whether a function's body declares the name by `var` or as a function.
-#[tactic(auto, using(crate::proofs::OwnUses::has_either))]
 pub fn is_top_var(wanted: &Wanted, items: &[Stmt]) -> bool
     ensures { (bodies : ℕ → model.Stmts) → result ≡ has_text (defined.all_top_var_names (stmts_of (map (stmt_of (under wanted.now.texts.now bodies)) items.now))) wanted.now.units.now }
 {

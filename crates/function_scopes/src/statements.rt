@@ -3,10 +3,9 @@
 
 ghost use Rattle.std.specs.Prelude.{◌≡◌, ℕ, map, option_map};
 ghost use Rattle.script_grammar.specs.Tree.{Stmts};
-ghost use Rattle.script_grammar.specs.Interpretation.{maybe_named};
 ghost use Rattle.script_grammar.specs.TreeLists.{maybe_expr_of, stmts_of, maybe_stmt_of, clauses_of};
 ghost use Rattle.script_grammar.specs.TreeOf.{expr_of, stmt_of, clause_of, init_of, each_of};
-ghost use Rattle.scope_analysis.specs.DeclaredNames.{name_list, texts_of, lexical_names, clauses_lexical_names};
+ghost use Rattle.scope_analysis.specs.DeclaredNames.{texts_of, lexical_names, clauses_lexical_names};
 ghost use Rattle.scope_analysis.specs.Uses as uses;
 ghost use Rattle.scope_analysis.specs.Kept.{under};
 ghost use Rattle.function_scopes.specs.OwnUse.{uses_itself};
@@ -14,7 +13,7 @@ ghost use Rattle.function_scopes.specs.OwnUse.{uses_itself};
 use crate::declared::{is_lexical, is_lexical_in_clauses, is_lexical_in_each, is_lexical_in_init, is_named};
 use crate::expressions::{uses_binds, uses_expr, uses_maybe};
 use crate::wanted::Wanted;
-use script_grammar::tree::{Clause, Each, Expr, Ident, Init, Stmt};
+use script_grammar::tree::{Clause, Each, Expr, Init, Stmt};
 
 // Whether the head of a `for` uses the name.
 fn uses_init(wanted: &Wanted, init: &Init) -> bool
@@ -37,6 +36,27 @@ fn uses_each(wanted: &Wanted, each: &Each) -> bool
     }
 }
 
+// Whether the head of a `for` uses the name, or its test, or what it does between turns.
+#[tactic(auto, using(crate::proofs::OwnUses::has_either))]
+fn uses_for_head(
+    wanted: &Wanted,
+    init: &Init,
+    test: &Option<Expr>,
+    update: &Option<Expr>,
+) -> bool
+    ensures { (bodies : ℕ → Stmts) → let i = under wanted.now.texts.now bodies in result ≡ uses_itself (uses.uses_both (uses.uses_init (init_of i init.now)) (uses.uses_both (uses.uses_maybe (maybe_expr_of (option_map (expr_of i) test.now))) (uses.uses_maybe (maybe_expr_of (option_map (expr_of i) update.now))))) wanted.now.units.now }
+{
+    uses_init(wanted, init) || (uses_maybe(wanted, test) || uses_maybe(wanted, update))
+}
+
+// Whether the head of a `for` with `in` uses the name, or what it goes over.
+#[tactic(auto, using(crate::proofs::OwnUses::has_either))]
+fn uses_for_in_head(wanted: &Wanted, each: &Each, over: &Expr) -> bool
+    ensures { (bodies : ℕ → Stmts) → let i = under wanted.now.texts.now bodies in result ≡ uses_itself (uses.uses_both (uses.uses_each (each_of i each.now)) (uses.uses_expr (expr_of i over.now))) wanted.now.units.now }
+{
+    uses_each(wanted, each) || uses_expr(wanted, over)
+}
+
 // Whether a statement uses the name.
 #[cycle(using)]
 #[tactic(auto, using(crate::proofs::OwnUses::has_either, crate::proofs::OwnUses::has_without))]
@@ -50,7 +70,7 @@ fn uses_stmt(wanted: &Wanted, stmt: &Stmt) -> bool
         Stmt::Binds { binds, .. } => uses_binds(wanted, binds),
         Stmt::Value { value, .. } => uses_expr(wanted, value),
         Stmt::If { test, yes, no } => {
-            uses_expr(wanted, test) || uses_stmt(wanted, yes) || uses_else(wanted, no)
+            uses_expr(wanted, test) || (uses_stmt(wanted, yes) || uses_else(wanted, no))
         }
         Stmt::Do { body, test, .. } => uses_stmt(wanted, body) || uses_expr(wanted, test),
         Stmt::While { test, body } => uses_expr(wanted, test) || uses_stmt(wanted, body),
@@ -59,9 +79,13 @@ fn uses_stmt(wanted: &Wanted, stmt: &Stmt) -> bool
             test,
             update,
             body,
-        } => !is_lexical_in_init(wanted, init) && uses_for(wanted, init, test, update, body),
+        } => {
+            !is_lexical_in_init(wanted, init)
+                && (uses_for_head(wanted, init, test, update) || uses_stmt(wanted, body))
+        }
         Stmt::ForIn { each, over, body } => {
-            !is_lexical_in_each(wanted, each) && uses_for_in(wanted, each, over, body)
+            !is_lexical_in_each(wanted, each)
+                && (uses_for_in_head(wanted, each, over) || uses_stmt(wanted, body))
         }
         Stmt::Continue { .. } => false,
         Stmt::Break { .. } => false,
@@ -73,36 +97,12 @@ fn uses_stmt(wanted: &Wanted, stmt: &Stmt) -> bool
             body,
             param,
             handler,
-        } => uses_block(wanted, body) || uses_handler(wanted, *param, handler),
+        } => {
+            uses_block(wanted, body)
+                || (!is_named(wanted, *param) && uses_block(wanted, handler))
+        },
         Stmt::Func(_) => false,
     }
-}
-
-// Whether the parts of a `for` use the name, whatever its head declares.
-#[cycle(using)]
-#[tactic(auto, using(crate::proofs::OwnUses::has_either))]
-fn uses_for(
-    wanted: &Wanted,
-    init: &Init,
-    test: &Option<Expr>,
-    update: &Option<Expr>,
-    body: &Stmt,
-) -> bool
-    ensures { (bodies : ℕ → Stmts) → let i = under wanted.now.texts.now bodies in result ≡ uses_itself (uses.uses_both (uses.uses_init (init_of i init.now)) (uses.uses_both (uses.uses_maybe (maybe_expr_of (option_map (expr_of i) test.now))) (uses.uses_both (uses.uses_maybe (maybe_expr_of (option_map (expr_of i) update.now))) (uses.uses_stmt (stmt_of i body.now))))) wanted.now.units.now }
-{
-    uses_init(wanted, init)
-        || uses_maybe(wanted, test)
-        || uses_maybe(wanted, update)
-        || uses_stmt(wanted, body)
-}
-
-// Whether the parts of a `for` with `in` use the name, whatever its head declares.
-#[cycle(using)]
-#[tactic(auto, using(crate::proofs::OwnUses::has_either))]
-fn uses_for_in(wanted: &Wanted, each: &Each, over: &Expr, body: &Stmt) -> bool
-    ensures { (bodies : ℕ → Stmts) → let i = under wanted.now.texts.now bodies in result ≡ uses_itself (uses.uses_both (uses.uses_each (each_of i each.now)) (uses.uses_both (uses.uses_expr (expr_of i over.now)) (uses.uses_stmt (stmt_of i body.now)))) wanted.now.units.now }
-{
-    uses_each(wanted, each) || uses_expr(wanted, over) || uses_stmt(wanted, body)
 }
 
 // Whether a block uses the name and does not declare it.
@@ -121,15 +121,6 @@ fn uses_switch(wanted: &Wanted, clauses: &[Clause]) -> bool
     ensures { (bodies : ℕ → Stmts) → let all = clauses_of (map (clause_of (under wanted.now.texts.now bodies)) clauses.now) in result ≡ uses_itself (uses.uses_without (texts_of (clauses_lexical_names all)) (uses.uses_clauses all)) wanted.now.units.now }
 {
     !is_lexical_in_clauses(wanted, clauses) && uses_clauses(wanted, clauses)
-}
-
-// Whether the block of a catch clause uses the name, and neither the clause nor the block declares it.
-#[cycle(using)]
-#[tactic(auto, using(crate::proofs::OwnUses::has_without))]
-fn uses_handler(wanted: &Wanted, param: Option<Ident>, handler: &[Stmt]) -> bool
-    ensures { (bodies : ℕ → Stmts) → let block = stmts_of (map (stmt_of (under wanted.now.texts.now bodies)) handler.now) in result ≡ uses_itself (uses.uses_without (name_list (maybe_named (under wanted.now.texts.now bodies) param)) (uses.uses_without (texts_of (lexical_names block)) (uses.uses_stmts block))) wanted.now.units.now }
-{
-    !is_named(wanted, param) && uses_block(wanted, handler)
 }
 
 /// Whether statements use the name, whatever they declare.
@@ -163,9 +154,17 @@ fn uses_clauses(wanted: &Wanted, clauses: &[Clause]) -> bool
     ensures { (bodies : ℕ → Stmts) → result ≡ uses_itself (uses.uses_clauses (clauses_of (map (clause_of (under wanted.now.texts.now bodies)) clauses.now))) wanted.now.units.now }
 {
     for clause in clauses {
-        if uses_maybe(wanted, &clause.test) || uses_stmts(wanted, &clause.items) {
+        if uses_clause(wanted, clause) {
             return true;
         }
     }
     false
+}
+
+#[cycle(using)]
+#[tactic(auto, using(crate::proofs::OwnUses::has_either))]
+fn uses_clause(wanted: &Wanted, clause: &Clause) -> bool
+    ensures { (bodies : ℕ → Stmts) → let one = clause_of (under wanted.now.texts.now bodies) clause.now in result ≡ uses_itself (uses.uses_both (uses.uses_maybe (maybe_expr_of one.test)) (uses.uses_stmts (stmts_of one.items))) wanted.now.units.now }
+{
+    uses_maybe(wanted, &clause.test) || uses_stmts(wanted, &clause.items)
 }

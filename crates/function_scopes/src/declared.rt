@@ -7,7 +7,7 @@ ghost use Rattle.script_grammar.specs.TreeLists.{binds_of, stmts_of, maybe_stmt_
 ghost use Rattle.script_grammar.specs.TreeOf.{bind_of, stmt_of, clause_of, init_of, each_of};
 ghost use Rattle.scope_analysis.specs.DeclaredNames as defined;
 ghost use Rattle.scope_analysis.specs.DeclaredNames.{has_text, texts_of};
-ghost use Rattle.scope_analysis.specs.Kept.{under};
+ghost use Rattle.scope_analysis.specs.Kept.{under, declared_name};
 
 use crate::wanted::{Wanted, is_atom};
 use script_grammar::token::Decl;
@@ -237,14 +237,21 @@ fn is_var_in_clauses(wanted: &Wanted, clauses: &[Clause]) -> bool
     false
 }
 
+// Whether a statement declares the name as a function.
+fn is_declared_name(wanted: &Wanted, stmt: &Stmt) -> bool
+    ensures { (bodies : ℕ → model.Stmts) → result ≡ has_text (declared_name (stmt_of (under wanted.now.texts.now bodies) stmt.now)) wanted.now.units.now }
+{
+    match stmt {
+        Stmt::Func(func) => is_named(wanted, func.name),
+        _ => false,
+    }
+}
+
 // Whether one statement at the top of a function's body declares the name by `var` or as a function.
 fn is_top_var_name(wanted: &Wanted, stmt: &Stmt) -> bool
     ensures { (bodies : ℕ → model.Stmts) → result ≡ has_text (defined.top_var_names_in (stmt_of (under wanted.now.texts.now bodies) stmt.now)) wanted.now.units.now }
 {
-    match stmt {
-        Stmt::Func(func) => is_named(wanted, func.name),
-        _ => is_var_in(wanted, stmt),
-    }
+    is_declared_name(wanted, stmt) || is_var_in(wanted, stmt)
 }
 
 /// Whether a function's body declares the name by `var` or as a function.

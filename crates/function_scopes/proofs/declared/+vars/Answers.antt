@@ -94,3 +94,6 @@ pub is_var_in-returns-else-is_var : goal.is_var_in-returns-else-is_var
 is_var_in-returns-else-is_var t c = λ bodies.
     rw c.in-Try.is (rw (stmt_of-Try (under c.args.wanted.now.texts.now bodies) c.in-Try.body c.in-Try.param c.in-Try.handler) (rw (sym c.deref-in-Try.ensures.value) (rw (sym c.deref-else-is_var.ensures.value) (used_behind _ _ c.args.wanted.now.units.now _ _ (c.is_var-in-Try.ensures bodies) c.if-is_var.false (c.is_var-else-is_var.ensures bodies)))))
 
+pub is_var_in_else-returns-in-Some : goal.is_var_in_else-returns-in-Some
+is_var_in_else-returns-in-Some t c = λ bodies.
+    rw c.in-Some.is (rw (sym c.deref.ensures) (c.is_var_in.ensures bodies))

@@ -15,11 +15,11 @@ use Rattle.function_scopes.proofs.declared.is_bound.Goals as goal
 
 pub returns-then-is_atom : goal.returns-then-is_atom
 returns-then-is_atom c = λ bodies.
-    turn_found (λ (ys : List Bind). bound_names (binds_of (map (bind_of (under c.args.wanted.now.texts.now bodies)) ys))) (λ (x : Bind). (bind_of (under c.args.wanted.now.texts.now bodies) x).name.text ∷ []) c.args.wanted.now.units.now (λ (x : Bind) (xs : List Bind). has_either ((bind_of (under c.args.wanted.now.texts.now bodies) x).name.text ∷ []) (bound_names (binds_of (map (bind_of (under c.args.wanted.now.texts.now bodies)) xs))) c.args.wanted.now.units.now) c.args.binds.now c.loop-bind.bind-index c.bind-item.result c.is_atom.result (omega arith) c.bind-item.is (one_text _ _ _ (c.is_atom.ensures ∙ ap (λ (p : part.Bind). bytes_eq p.name.text c.args.wanted.now.units.now) (sym (bind_of-fields (under c.args.wanted.now.texts.now bodies) c.bind-item.result)))) (c.loop-bind.invariant bodies) c.if-is_atom.true
+    turn_found (λ (ys : List Bind). bound_names (binds_of (map (bind_of (under c.args.wanted.now.texts.now bodies)) ys))) (λ (x : Bind). (bind_of (under c.args.wanted.now.texts.now bodies) x).name.text ∷ []) c.args.wanted.now.units.now (λ (x : Bind) (xs : List Bind). has_either ((bind_of (under c.args.wanted.now.texts.now bodies) x).name.text ∷ []) (bound_names (binds_of (map (bind_of (under c.args.wanted.now.texts.now bodies)) xs))) c.args.wanted.now.units.now) c.args.binds.now c.loop-bind.bind-index c.bind-item.result c.is_atom.result (omega arith) c.bind-item.is (one_text (bind_of (under c.args.wanted.now.texts.now bodies) c.bind-item.result).name.text c.args.wanted.now.units.now c.is_atom.result (c.is_atom.ensures ∙ ap (λ (p : part.Bind). bytes_eq p.name.text c.args.wanted.now.units.now) (sym (bind_of-fields (under c.args.wanted.now.texts.now bodies) c.bind-item.result)))) (c.loop-bind.invariant bodies) c.if-is_atom.true
 
 pub loop-bind-preserved : goal.loop-bind-preserved
 loop-bind-preserved c = λ bodies.
-    turn_on (λ (ys : List Bind). bound_names (binds_of (map (bind_of (under c.args.wanted.now.texts.now bodies)) ys))) (λ (x : Bind). (bind_of (under c.args.wanted.now.texts.now bodies) x).name.text ∷ []) c.args.wanted.now.units.now (λ (x : Bind) (xs : List Bind). has_either ((bind_of (under c.args.wanted.now.texts.now bodies) x).name.text ∷ []) (bound_names (binds_of (map (bind_of (under c.args.wanted.now.texts.now bodies)) xs))) c.args.wanted.now.units.now) c.args.binds.now c.loop-bind.bind-index c.bind-item.result c.is_atom.result (omega arith) c.bind-item.is (one_text _ _ _ (c.is_atom.ensures ∙ ap (λ (p : part.Bind). bytes_eq p.name.text c.args.wanted.now.units.now) (sym (bind_of-fields (under c.args.wanted.now.texts.now bodies) c.bind-item.result)))) (c.loop-bind.invariant bodies) c.if-is_atom.false
+    turn_on (λ (ys : List Bind). bound_names (binds_of (map (bind_of (under c.args.wanted.now.texts.now bodies)) ys))) (λ (x : Bind). (bind_of (under c.args.wanted.now.texts.now bodies) x).name.text ∷ []) c.args.wanted.now.units.now (λ (x : Bind) (xs : List Bind). has_either ((bind_of (under c.args.wanted.now.texts.now bodies) x).name.text ∷ []) (bound_names (binds_of (map (bind_of (under c.args.wanted.now.texts.now bodies)) xs))) c.args.wanted.now.units.now) c.args.binds.now c.loop-bind.bind-index c.bind-item.result c.is_atom.result (omega arith) c.bind-item.is (one_text (bind_of (under c.args.wanted.now.texts.now bodies) c.bind-item.result).name.text c.args.wanted.now.units.now c.is_atom.result (c.is_atom.ensures ∙ ap (λ (p : part.Bind). bytes_eq p.name.text c.args.wanted.now.units.now) (sym (bind_of-fields (under c.args.wanted.now.texts.now bodies) c.bind-item.result)))) (c.loop-bind.invariant bodies) c.if-is_atom.false
 
 pub returns : goal.returns
 returns c = λ bodies.

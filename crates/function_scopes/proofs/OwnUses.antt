@@ -1,6 +1,6 @@
 -- Whether a name is among texts: those of two parts, those that are not bound around, and each once.
 use Rattle.std.proofs.Common.{◌≡◌, Bool, true, false, ◌||◌, ◌&&◌, not, if◌then◌else◌, bytes_eq, List, [], ◌∷◌, ◌++◌, map, refl, sym, ◌∙◌, ap}
-use Rattle.std.proofs.lemmas.List.{map-append, append-nil}
+use Rattle.std.proofs.lemmas.List.{map-append, append-nil, append_assoc}
 use Rattle.std.proofs.lemmas.List.Folds.{list_any-append}
 use Rattle.std.proofs.lemmas.Map.Views.{any-filter_same}
 use Rattle.std.specs.Cmp.Lexicographic.{bytes_decides}
@@ -60,3 +60,22 @@ used_behind xs ys t b r h missed k = k ∙ sym (has_either xs ys t ∙ ap (λ (x
 -- a function beside a part has no uses of its own
 pub no_functions : (xs : List Text) (t : Text) → has_text (xs ++ []) t ≡ has_text xs t
 no_functions xs t = ap (λ (ys : List Text). has_text ys t) (append-nil xs)
+
+-- ---- three and four parts, the first ones together
+
+pub has_third : (a b d : List Text) (t : Text) → has_text (a ++ (b ++ d)) t ≡ (has_text (a ++ b) t || has_text d t)
+has_third a b d t = ap (λ (xs : List Text). has_text xs t) (sym (append_assoc a b d)) ∙ has_either (a ++ b) d t
+
+pub two_first : (a b d : List Text) (t : Text) → has_text ((a ++ b) ++ d) t ≡ has_text (a ++ (b ++ d)) t
+two_first a b d t = ap (λ (xs : List Text). has_text xs t) (append_assoc a b d)
+
+pub three_first : (a b d e : List Text) (t : Text) → has_text ((a ++ (b ++ d)) ++ e) t ≡ has_text (a ++ (b ++ (d ++ e))) t
+three_first a b d e t = ap (λ (xs : List Text). has_text xs t) (append_assoc a (b ++ d) e ∙ ap (λ (xs : List Text). a ++ xs) (append_assoc b d e))
+
+-- ---- a part that names are bound around
+
+pub used_unbound : (gone xs : List Text) (t : Text) (b r : Bool) → b ≡ has_text gone t → b ≡ false → r ≡ has_text xs t → r ≡ has_text (texts_without gone xs) t
+used_unbound gone xs t b r h free k = k ∙ sym (has_without gone xs t ∙ ap (λ (x : Bool). not x && has_text xs t) (sym h ∙ free))
+
+pub used_bound : (gone xs : List Text) (t : Text) (b : Bool) → b ≡ has_text gone t → b ≡ true → not b ≡ has_text (texts_without gone xs) t
+used_bound gone xs t b h bound = ap not bound ∙ sym (has_without gone xs t ∙ ap (λ (x : Bool). not x && has_text xs t) (sym h ∙ bound))

@@ -47,7 +47,6 @@ fn has_initializer(params: &[Param]) -> bool
 
 // Whether a braced body binds the name around its statements. Its var names are its own where a parameter has an
 // initializer.
-#[tactic(auto, using(crate::proofs::OwnUses::has_either, crate::proofs::OwnUses::has_first))]
 fn is_bound_in(wanted: &Wanted, initialized: bool, items: &[Stmt]) -> bool
     ensures { (bodies : ℕ → model.Stmts) → let body = stmts_of (map (stmt_of (under wanted.now.texts.now bodies)) items.now) in result ≡ has_text (texts_of (defined.top_lexical_names body) ++ uses.body_vars initialized body) wanted.now.units.now }
 {
@@ -55,7 +54,6 @@ fn is_bound_in(wanted: &Wanted, initialized: bool, items: &[Stmt]) -> bool
 }
 
 // Whether a braced body uses the name and does not bind it.
-#[tactic(auto, using(crate::proofs::OwnUses::has_without))]
 fn uses_braced(wanted: &Wanted, initialized: bool, items: &[Stmt]) -> bool
     ensures { (bodies : ℕ → model.Stmts) → result ≡ uses_itself (uses.uses_body initialized (model.BracedBody (stmts_of (map (stmt_of (under wanted.now.texts.now bodies)) items.now)))) wanted.now.units.now }
 {
@@ -74,7 +72,6 @@ fn uses_body(wanted: &Wanted, initialized: bool, body: &FuncBody) -> bool
 }
 
 // Whether a function uses the name itself.
-#[tactic(auto, using(crate::proofs::OwnUses::has_either))]
 fn uses_name(texts: &[Text], units: &[u16], func: &Func) -> bool
     ensures { (bodies : ℕ → model.Stmts) (b : model.Body) → HasBody (under texts.now bodies) func.now b → result ≡ uses_itself (function_uses (params_in (under texts.now bodies) func.now) b) units.now }
 {

@@ -37,7 +37,6 @@ fn uses_each(wanted: &Wanted, each: &Each) -> bool
 }
 
 // Whether the head of a `for` uses the name, or its test, or what it does between turns.
-#[tactic(auto, using(crate::proofs::OwnUses::has_either))]
 fn uses_for_head(
     wanted: &Wanted,
     init: &Init,
@@ -50,7 +49,6 @@ fn uses_for_head(
 }
 
 // Whether the head of a `for` with `in` uses the name, or what it goes over.
-#[tactic(auto, using(crate::proofs::OwnUses::has_either))]
 fn uses_for_in_head(wanted: &Wanted, each: &Each, over: &Expr) -> bool
     ensures { (bodies : ℕ → Stmts) → let i = under wanted.now.texts.now bodies in result ≡ uses_itself (uses.uses_both (uses.uses_each (each_of i each.now)) (uses.uses_expr (expr_of i over.now))) wanted.now.units.now }
 {
@@ -59,7 +57,6 @@ fn uses_for_in_head(wanted: &Wanted, each: &Each, over: &Expr) -> bool
 
 // Whether a statement uses the name.
 #[cycle(using)]
-#[tactic(auto, using(crate::proofs::OwnUses::has_either, crate::proofs::OwnUses::has_without))]
 fn uses_stmt(wanted: &Wanted, stmt: &Stmt) -> bool
     ensures { (bodies : ℕ → Stmts) → result ≡ uses_itself (uses.uses_stmt (stmt_of (under wanted.now.texts.now bodies) stmt.now)) wanted.now.units.now }
 {
@@ -107,7 +104,6 @@ fn uses_stmt(wanted: &Wanted, stmt: &Stmt) -> bool
 
 // Whether a block uses the name and does not declare it.
 #[cycle(using)]
-#[tactic(auto, using(crate::proofs::OwnUses::has_without))]
 fn uses_block(wanted: &Wanted, items: &[Stmt]) -> bool
     ensures { (bodies : ℕ → Stmts) → let block = stmts_of (map (stmt_of (under wanted.now.texts.now bodies)) items.now) in result ≡ uses_itself (uses.uses_without (texts_of (lexical_names block)) (uses.uses_stmts block)) wanted.now.units.now }
 {
@@ -116,7 +112,6 @@ fn uses_block(wanted: &Wanted, items: &[Stmt]) -> bool
 
 // Whether the clauses of a `switch` use the name and do not declare it.
 #[cycle(using)]
-#[tactic(auto, using(crate::proofs::OwnUses::has_without))]
 fn uses_switch(wanted: &Wanted, clauses: &[Clause]) -> bool
     ensures { (bodies : ℕ → Stmts) → let all = clauses_of (map (clause_of (under wanted.now.texts.now bodies)) clauses.now) in result ≡ uses_itself (uses.uses_without (texts_of (clauses_lexical_names all)) (uses.uses_clauses all)) wanted.now.units.now }
 {
@@ -125,7 +120,6 @@ fn uses_switch(wanted: &Wanted, clauses: &[Clause]) -> bool
 
 /// Whether statements use the name, whatever they declare.
 #[cycle(using)]
-#[tactic(auto, using(crate::proofs::OwnUses::has_either))]
 pub fn uses_stmts(wanted: &Wanted, items: &[Stmt]) -> bool
     ensures { (bodies : ℕ → Stmts) → result ≡ uses_itself (uses.uses_stmts (stmts_of (map (stmt_of (under wanted.now.texts.now bodies)) items.now))) wanted.now.units.now }
 {
@@ -138,7 +132,6 @@ pub fn uses_stmts(wanted: &Wanted, items: &[Stmt]) -> bool
 }
 
 #[cycle(using)]
-#[tactic(auto, using(crate::proofs::OwnUses::has_either))]
 fn uses_else(wanted: &Wanted, no: &Option<Box<Stmt>>) -> bool
     ensures { (bodies : ℕ → Stmts) → result ≡ uses_itself (uses.uses_else (maybe_stmt_of (option_map (λ boxed. stmt_of (under wanted.now.texts.now bodies) boxed.value) no.now))) wanted.now.units.now }
 {
@@ -149,7 +142,6 @@ fn uses_else(wanted: &Wanted, no: &Option<Box<Stmt>>) -> bool
 }
 
 #[cycle(using)]
-#[tactic(auto, using(crate::proofs::OwnUses::has_either))]
 fn uses_clauses(wanted: &Wanted, clauses: &[Clause]) -> bool
     ensures { (bodies : ℕ → Stmts) → result ≡ uses_itself (uses.uses_clauses (clauses_of (map (clause_of (under wanted.now.texts.now bodies)) clauses.now))) wanted.now.units.now }
 {
@@ -162,7 +154,6 @@ fn uses_clauses(wanted: &Wanted, clauses: &[Clause]) -> bool
 }
 
 #[cycle(using)]
-#[tactic(auto, using(crate::proofs::OwnUses::has_either))]
 fn uses_clause(wanted: &Wanted, clause: &Clause) -> bool
     ensures { (bodies : ℕ → Stmts) → let one = clause_of (under wanted.now.texts.now bodies) clause.now in result ≡ uses_itself (uses.uses_both (uses.uses_maybe (maybe_expr_of one.test)) (uses.uses_stmts (stmts_of one.items))) wanted.now.units.now }
 {

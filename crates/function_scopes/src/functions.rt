@@ -103,5 +103,13 @@ pub fn scopes(
 ) -> Result<Vec<ScopeData>, AllocError>
     ensures { IfOk result (λ scopes. (bodies : ℕ → model.Stmts) (b : model.Body) → HasBody (under texts.now bodies) func.now b → KnowsNames texts.now → AreScopes texts.now closed.now scopes.items (function_scopes kind (option_map (text_at texts.now) name) (func_of (under texts.now bodies) func.now))) }
 {
-    scopes_using(alloc, func, kind, name, closed, texts, own_uses(func, texts))
+    scopes_using(
+        alloc,
+        func,
+        kind,
+        name,
+        closed,
+        texts,
+        own_uses(func, texts),
+    )
 }

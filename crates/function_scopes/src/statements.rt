@@ -10,7 +10,9 @@ ghost use Rattle.scope_analysis.specs.Uses as uses;
 ghost use Rattle.scope_analysis.specs.Kept.{under};
 ghost use Rattle.function_scopes.specs.OwnUse.{uses_itself};
 
-use crate::declared::{is_lexical, is_lexical_in_clauses, is_lexical_in_each, is_lexical_in_init, is_named};
+use crate::declared::{
+    is_lexical, is_lexical_in_clauses, is_lexical_in_each, is_lexical_in_init, is_named,
+};
 use crate::expressions::{uses_binds, uses_expr, uses_maybe};
 use crate::wanted::Wanted;
 use script_grammar::tree::{Clause, Each, Expr, Init, Stmt};
@@ -37,12 +39,7 @@ fn uses_each(wanted: &Wanted, each: &Each) -> bool
 }
 
 // Whether the head of a `for` uses the name, or its test, or what it does between turns.
-fn uses_for_head(
-    wanted: &Wanted,
-    init: &Init,
-    test: &Option<Expr>,
-    update: &Option<Expr>,
-) -> bool
+fn uses_for_head(wanted: &Wanted, init: &Init, test: &Option<Expr>, update: &Option<Expr>) -> bool
     ensures { (bodies : ℕ → Stmts) → let i = under wanted.now.texts.now bodies in result ≡ uses_itself (uses.uses_both (uses.uses_init (init_of i init.now)) (uses.uses_both (uses.uses_maybe (maybe_expr_of (option_map (expr_of i) test.now))) (uses.uses_maybe (maybe_expr_of (option_map (expr_of i) update.now))))) wanted.now.units.now }
 {
     uses_init(wanted, init) || (uses_maybe(wanted, test) || uses_maybe(wanted, update))
@@ -95,8 +92,7 @@ fn uses_stmt(wanted: &Wanted, stmt: &Stmt) -> bool
             param,
             handler,
         } => {
-            uses_block(wanted, body)
-                || (!is_named(wanted, *param) && uses_block(wanted, handler))
+            uses_block(wanted, body) || (!is_named(wanted, *param) && uses_block(wanted, handler))
         },
         Stmt::Func(_) => false,
     }

@@ -9,10 +9,7 @@ use stencil_data::{BindKind, FuncKind, ScopeData, Text};
 // The texts `arguments` and `.this`, and `a`.
 fn known_texts(alloc: Global) -> Result<Vec<Text>, AllocError> {
     let mut texts = Vec::new(alloc);
-    texts.push(Text::of(
-        alloc,
-        &[97, 114, 103, 117, 109, 101, 110, 116, 115],
-    )?)?;
+    texts.push(Text::of(alloc, &[97, 114, 103, 117, 109, 101, 110, 116, 115])?)?;
     texts.push(Text::of(alloc, &[46, 116, 104, 105, 115])?)?;
     texts.push(Text::of(alloc, &[97])?)?;
     Ok(texts)

@@ -11,4 +11,3 @@ invariant-is_var-loop-item l = (bodies : ℕ → Stmts) → has_text (var_names 
 
 abbrev pub invariant-is_var_in_clauses-loop-clause : goal.invariant-is_var_in_clauses-loop-clause
 invariant-is_var_in_clauses-loop-clause l = (bodies : ℕ → Stmts) → has_text (clauses_var_names (clauses_of (map (clause_of (under l.wanted.texts.now bodies)) (drop l.clause-index l.clauses)))) l.wanted.units.now ≡ has_text (clauses_var_names (clauses_of (map (clause_of (under l.wanted.texts.now bodies)) l.clauses))) l.wanted.units.now
-

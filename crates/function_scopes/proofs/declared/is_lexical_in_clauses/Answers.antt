@@ -24,4 +24,3 @@ loop-clause-preserved c = λ bodies.
 pub returns : goal.returns
 returns c = λ bodies.
     turns_end (λ (ys : List Clause). texts_of (clauses_lexical_names (clauses_of (map (clause_of (under c.args.wanted.now.texts.now bodies)) ys)))) c.args.wanted.now.units.now refl c.args.clauses.now c.loop-clause.clause-index (omega arith) (c.loop-clause.invariant bodies)
-

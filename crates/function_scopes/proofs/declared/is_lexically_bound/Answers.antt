@@ -14,4 +14,3 @@ returns-in-Let c = λ bodies.
 pub returns-in-Const : goal.returns-in-Const
 returns-in-Const c = λ bodies.
     rw c.in-Const.is (c.is_bound-in-Const.ensures bodies ∙ sym (has_declared bind.Const (bound_names (binds_of (map (bind_of (under c.args.wanted.now.texts.now bodies)) c.args.binds.now))) c.args.wanted.now.units.now))
-

@@ -24,4 +24,3 @@ loop-item-preserved c = λ bodies.
 pub returns : goal.returns
 returns c = λ bodies.
     turns_end (λ (ys : List Stmt). all_top_var_names (stmts_of (map (stmt_of (under c.args.wanted.now.texts.now bodies)) ys))) c.args.wanted.now.units.now refl c.args.items.now c.loop-item.item-index (omega arith) (c.loop-item.invariant bodies)
-

@@ -202,4 +202,3 @@ uses_tail-returns-in-Index t c = λ bodies.
 pub uses_tail-returns-in-Call : goal.uses_tail-returns-in-Call
 uses_tail-returns-in-Call t c = λ bodies.
     rw c.in-Call.is (rw (tail_of-Call (under c.args.wanted.now.texts.now bodies) c.in-Call.given) (c.uses_exprs.ensures bodies ∙ (ap (λ (xs : List Expr). has_text (uses_exprs (exprs_of (map (expr_of (under c.args.wanted.now.texts.now bodies)) xs))).own c.args.wanted.now.units.now) c.deref.ensures.value ∙ ap (λ (p : part.Args). has_text (uses_exprs (exprs_of p.items)).own c.args.wanted.now.units.now) (sym (args_of-fields (under c.args.wanted.now.texts.now bodies) c.in-Call.given)))))
-

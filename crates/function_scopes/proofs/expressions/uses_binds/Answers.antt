@@ -22,4 +22,3 @@ loop-bind-preserved c = λ bodies.
 pub returns : goal.returns
 returns c = λ bodies.
     turns_end (λ (ys : List Bind). (uses_binds (binds_of (map (bind_of (under c.args.wanted.now.texts.now bodies)) ys))).own) c.args.wanted.now.units.now refl c.args.binds.now c.loop-bind.bind-index (omega arith) (c.loop-bind.invariant bodies)
-

@@ -22,4 +22,3 @@ loop-param-preserved c = λ bodies.
 pub returns : goal.returns
 returns c = λ bodies.
     turns_end (λ (ys : List Param). (uses_params (params_of (map (param_of (under c.args.wanted.now.texts.now bodies)) ys))).own) c.args.wanted.now.units.now refl c.args.params.now c.loop-param.param-index (omega arith) (c.loop-param.invariant bodies)
-

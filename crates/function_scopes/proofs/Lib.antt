@@ -1,0 +1,2 @@
+pub mod OwnUses
+pub mod Turns

@@ -1,0 +1,26 @@
+use Rattle.std.proofs.Common.{◌≡◌, ℕ, ◌||◌, Bool, bytes_eq, List, [], ◌∷◌, map, refl, sym, ap, ◌∙◌, arith}
+use Rattle.script_grammar.specs.declared.tree.Bind.{Bind}
+use Rattle.script_grammar.specs.declared.tree.Stmt.{Stmt}
+use Rattle.script_grammar.specs.declared.tree.Clause.{Clause}
+use Rattle.script_grammar.specs.Tree as model
+use Rattle.script_grammar.specs.TreeLists as part
+use Rattle.script_grammar.specs.TreeLists.{binds_of, stmts_of, clauses_of}
+use Rattle.script_grammar.specs.TreeOf.{bind_of, stmt_of, clause_of}
+use Rattle.script_grammar.proofs.PartEquations.{bind_of-fields, clause_of-fields}
+use Rattle.scope_analysis.specs.DeclaredNames.{Text, has_text, texts_of, bound_names, lexical_name, lexical_names, clauses_lexical_names, top_lexical_name, top_lexical_names, var_names_in, var_names, clauses_var_names, top_var_names_in, all_top_var_names}
+use Rattle.scope_analysis.specs.Kept.{under}
+use Rattle.function_scopes.proofs.OwnUses.{has_either, has_either_named}
+use Rattle.function_scopes.proofs.Turns.{turn_found, turn_on, turns_end, one_text}
+use Rattle.function_scopes.proofs.declared.is_bound.Goals as goal
+
+pub returns-then-is_atom : goal.returns-then-is_atom
+returns-then-is_atom c = λ bodies.
+    turn_found (λ (ys : List Bind). bound_names (binds_of (map (bind_of (under c.args.wanted.now.texts.now bodies)) ys))) (λ (x : Bind). (bind_of (under c.args.wanted.now.texts.now bodies) x).name.text ∷ []) c.args.wanted.now.units.now (λ (x : Bind) (xs : List Bind). has_either ((bind_of (under c.args.wanted.now.texts.now bodies) x).name.text ∷ []) (bound_names (binds_of (map (bind_of (under c.args.wanted.now.texts.now bodies)) xs))) c.args.wanted.now.units.now) c.args.binds.now c.loop-bind.bind-index c.bind-item.result c.is_atom.result (omega arith) c.bind-item.is (one_text (bind_of (under c.args.wanted.now.texts.now bodies) c.bind-item.result).name.text c.args.wanted.now.units.now c.is_atom.result (c.is_atom.ensures ∙ ap (λ (p : part.Bind). bytes_eq p.name.text c.args.wanted.now.units.now) (sym (bind_of-fields (under c.args.wanted.now.texts.now bodies) c.bind-item.result)))) (c.loop-bind.invariant bodies) c.if-is_atom.true
+
+pub loop-bind-preserved : goal.loop-bind-preserved
+loop-bind-preserved c = λ bodies.
+    turn_on (λ (ys : List Bind). bound_names (binds_of (map (bind_of (under c.args.wanted.now.texts.now bodies)) ys))) (λ (x : Bind). (bind_of (under c.args.wanted.now.texts.now bodies) x).name.text ∷ []) c.args.wanted.now.units.now (λ (x : Bind) (xs : List Bind). has_either ((bind_of (under c.args.wanted.now.texts.now bodies) x).name.text ∷ []) (bound_names (binds_of (map (bind_of (under c.args.wanted.now.texts.now bodies)) xs))) c.args.wanted.now.units.now) c.args.binds.now c.loop-bind.bind-index c.bind-item.result c.is_atom.result (omega arith) c.bind-item.is (one_text (bind_of (under c.args.wanted.now.texts.now bodies) c.bind-item.result).name.text c.args.wanted.now.units.now c.is_atom.result (c.is_atom.ensures ∙ ap (λ (p : part.Bind). bytes_eq p.name.text c.args.wanted.now.units.now) (sym (bind_of-fields (under c.args.wanted.now.texts.now bodies) c.bind-item.result)))) (c.loop-bind.invariant bodies) c.if-is_atom.false
+
+pub returns : goal.returns
+returns c = λ bodies.
+    turns_end (λ (ys : List Bind). bound_names (binds_of (map (bind_of (under c.args.wanted.now.texts.now bodies)) ys))) c.args.wanted.now.units.now refl c.args.binds.now c.loop-bind.bind-index (omega arith) (c.loop-bind.invariant bodies)

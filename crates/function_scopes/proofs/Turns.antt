@@ -1,8 +1,7 @@
 -- A loop over a list of parts: whether the name is used in one of them.
-use Rattle.std.proofs.Common.{◌≡◌, ℕ, ◌+◌, ◌<◌, ◌≤◌, suc, Bool, true, false, ◌||◌, bytes_eq, List, [], ◌∷◌, map, drop, length, get_or, refl, sym, ◌∙◌, ap, arith, drop-cons}
+use Rattle.std.proofs.Common.{◌≡◌, ℕ, ◌+◌, ◌<◌, ◌≤◌, suc, Bool, true, false, ◌||◌, bytes_eq, List, [], ◌∷◌, drop, length, get_or, refl, sym, ◌∙◌, ap, arith, drop-cons}
 use Rattle.std.proofs.lemmas.List.{drop_all}
 use Rattle.scope_analysis.specs.DeclaredNames.{Text, has_text}
-use Rattle.function_scopes.proofs.OwnUses.{has_either}
 
 split_at : {A : Type 0} (xs : List A) (k : ℕ) (x : A) → k < length xs → x ≡ get_or xs k x → drop k xs ≡ x ∷ drop (k + 1) xs
 split_at {A = A} xs k x lt is =

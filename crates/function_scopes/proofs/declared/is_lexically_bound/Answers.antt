@@ -1,4 +1,4 @@
-use Rattle.std.proofs.Common.{◌≡◌, map, sym, ◌∙◌}
+use Rattle.std.proofs.Common.{map, sym, ◌∙◌}
 use Rattle.script_grammar.specs.TreeLists.{binds_of}
 use Rattle.script_grammar.specs.TreeOf.{bind_of}
 use Rattle.stencil_data.specs.declared.scopes.BindKind.TheVariants as bind

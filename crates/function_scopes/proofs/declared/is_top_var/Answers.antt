@@ -1,16 +1,11 @@
-use Rattle.std.proofs.Common.{◌≡◌, ℕ, ◌||◌, Bool, List, [], ◌∷◌, map, refl, sym, ap, ◌∙◌, arith}
-use Rattle.script_grammar.specs.declared.tree.Bind.{Bind}
+use Rattle.std.proofs.Common.{List, map, refl, arith}
 use Rattle.script_grammar.specs.declared.tree.Stmt.{Stmt}
-use Rattle.script_grammar.specs.declared.tree.Clause.{Clause}
-use Rattle.script_grammar.specs.Tree as model
-use Rattle.script_grammar.specs.TreeLists as part
-use Rattle.script_grammar.specs.TreeLists.{binds_of, stmts_of, clauses_of}
-use Rattle.script_grammar.specs.TreeOf.{bind_of, stmt_of, clause_of}
-use Rattle.script_grammar.proofs.PartEquations.{bind_of-fields, clause_of-fields}
-use Rattle.scope_analysis.specs.DeclaredNames.{Text, has_text, texts_of, bound_names, lexical_name, lexical_names, clauses_lexical_names, top_lexical_name, top_lexical_names, var_names_in, var_names, clauses_var_names, top_var_names_in, all_top_var_names}
+use Rattle.script_grammar.specs.TreeLists.{stmts_of}
+use Rattle.script_grammar.specs.TreeOf.{stmt_of}
+use Rattle.scope_analysis.specs.DeclaredNames.{top_var_names_in, all_top_var_names}
 use Rattle.scope_analysis.specs.Kept.{under}
-use Rattle.function_scopes.proofs.OwnUses.{has_either, has_either_named}
-use Rattle.function_scopes.proofs.Turns.{turn_found, turn_on, turns_end, one_text}
+use Rattle.function_scopes.proofs.OwnUses.{has_either}
+use Rattle.function_scopes.proofs.Turns.{turn_found, turn_on, turns_end}
 use Rattle.function_scopes.proofs.declared.is_top_var.Goals as goal
 
 pub returns-then-is_top_var_name : goal.returns-then-is_top_var_name

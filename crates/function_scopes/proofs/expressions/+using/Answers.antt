@@ -1,18 +1,16 @@
-use Rattle.std.proofs.Common.{◌≡◌, ℕ, ◌||◌, Bool, List, Option, map, option_map, refl, sym, ap, ◌∙◌, arith}
+use Rattle.std.proofs.Common.{◌||◌, List, Option, map, option_map, refl, sym, ap, ◌∙◌, arith}
 use Rattle.script_grammar.specs.declared.tree.Expr.{Expr}
 use Rattle.script_grammar.specs.declared.tree.Operand.{Operand, out-Operand}
 use Rattle.script_grammar.specs.declared.tree.TemplatePart.{TemplatePart, out-TemplatePart}
-use Rattle.script_grammar.specs.declared.tree.Args.{Args, out-Args}
+use Rattle.script_grammar.specs.declared.tree.Args.{Args}
 use Rattle.script_grammar.specs.declared.tree.Tail.{Tail}
 use Rattle.script_grammar.specs.declared.tree.Prop.{Prop}
-use Rattle.script_grammar.specs.Interpretation.{Interpretation}
-use Rattle.script_grammar.specs.Tree as model
 use Rattle.script_grammar.specs.TreeLists as part
 use Rattle.script_grammar.specs.TreeLists.{exprs_of, maybe_expr_of, items_of, maybe_args_of, operands_of, parts_of, tails_of, props_of}
 use Rattle.script_grammar.specs.TreeOf.{expr_of, operand_of, part_of, tail_of, args_of, key_of, prop_of}
 use Rattle.script_grammar.proofs.ExprEquations.{expr_of-Template, expr_of-Array, expr_of-Object, expr_of-Paren, expr_of-Chain, expr_of-New, expr_of-Unary, expr_of-Update, expr_of-Binary, expr_of-Cond, expr_of-Assign, expr_of-Comma, prop_of-Pair, prop_of-Method, prop_of-Get, prop_of-Set, key_of-Computed, tail_of-Index, tail_of-Call}
 use Rattle.script_grammar.proofs.PartEquations.{operand_of-fields, part_of-fields, args_of-fields, func_of-fields}
-use Rattle.scope_analysis.specs.DeclaredNames.{Text, has_text}
+use Rattle.scope_analysis.specs.DeclaredNames.{has_text}
 use Rattle.scope_analysis.specs.Kept.{under}
 use Rattle.scope_analysis.specs.Uses.{uses_expr, uses_exprs, uses_maybe, uses_args, uses_parts, uses_items, uses_operands, uses_tail, uses_tails, uses_key, uses_prop, uses_props}
 use Rattle.function_scopes.proofs.OwnUses.{has_either, used_first, used_behind, no_functions}

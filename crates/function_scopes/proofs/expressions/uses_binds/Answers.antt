@@ -1,10 +1,10 @@
-use Rattle.std.proofs.Common.{◌≡◌, ℕ, ◌||◌, Bool, List, map, option_map, refl, ap, ◌∙◌, arith}
+use Rattle.std.proofs.Common.{◌||◌, List, map, option_map, refl, ap, ◌∙◌, arith}
 use Rattle.script_grammar.specs.declared.tree.Bind.{Bind}
 use Rattle.script_grammar.specs.TreeLists as part
 use Rattle.script_grammar.specs.TreeLists.{maybe_expr_of, binds_of}
 use Rattle.script_grammar.specs.TreeOf.{expr_of, bind_of}
 use Rattle.script_grammar.proofs.PartEquations.{bind_of-fields}
-use Rattle.scope_analysis.specs.DeclaredNames.{Text, has_text}
+use Rattle.scope_analysis.specs.DeclaredNames.{has_text}
 use Rattle.scope_analysis.specs.Kept.{under}
 use Rattle.scope_analysis.specs.Uses.{uses_maybe, uses_binds}
 use Rattle.function_scopes.proofs.OwnUses.{has_either}

@@ -1,10 +1,10 @@
-use Rattle.std.proofs.Common.{◌≡◌, ℕ, ◌||◌, Bool, List, map, option_map, refl, ap, ◌∙◌, arith}
+use Rattle.std.proofs.Common.{◌||◌, List, map, option_map, refl, ap, ◌∙◌, arith}
 use Rattle.script_grammar.specs.declared.tree.Param.{Param}
 use Rattle.script_grammar.specs.TreeLists as part
 use Rattle.script_grammar.specs.TreeLists.{maybe_expr_of, params_of}
 use Rattle.script_grammar.specs.TreeOf.{expr_of, param_of}
 use Rattle.script_grammar.proofs.PartEquations.{param_of-fields}
-use Rattle.scope_analysis.specs.DeclaredNames.{Text, has_text}
+use Rattle.scope_analysis.specs.DeclaredNames.{has_text}
 use Rattle.scope_analysis.specs.Kept.{under}
 use Rattle.scope_analysis.specs.Uses.{uses_maybe, uses_params}
 use Rattle.function_scopes.proofs.OwnUses.{has_either}

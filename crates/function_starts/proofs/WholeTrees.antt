@@ -4,7 +4,7 @@ use Rattle.script_grammar.specs.Lexeme.{Lexeme}
 use Rattle.script_grammar.specs.Script.{IsScript}
 use Rattle.script_grammar.specs.Tree.{Body, BracedBody, ShortBody, Stmts}
 use Rattle.pure_parser.specs.Filling.{fill_stmts}
-use Rattle.recorded_bodies.specs.Braced.{braced_all}
+use Rattle.script_grammar.specs.Braced.{braced_all}
 use Rattle.function_starts.specs.Started.{Started, started_stmts}
 use Rattle.function_starts.specs.Own.{AllOf, HasOwn, IsFilled, TokensRise, StartsRise, stmts_in, stmts_at}
 use Rattle.function_starts.proofs.Finding.{starts_rise, all_found, found}

@@ -11,7 +11,7 @@ use Rattle.script_grammar.specs.Print.{print_stmts}
 use Rattle.script_grammar.specs.Script.{IsScript}
 use Rattle.script_grammar.specs.Fault.{depth_limit, ScriptPart, Unexpected, TooDeep, FirstFault}
 use Rattle.pure_parser.specs.Filling.{fill_stmts}
-use Rattle.recorded_bodies.specs.Braced.{braced_all}
+use Rattle.script_grammar.specs.Braced.{braced_all}
 use Rattle.parse_exprs.specs.declared.source.Source.{Source}
 use Rattle.parse_exprs.specs.declared.place.ParseFault.{ParseFault}
 use Rattle.parse_exprs.specs.declared.place.ParseFault.TheVariants as faults

@@ -19,7 +19,7 @@ use Rattle.parse_exprs.specs.Source.{IsSource, lexemes, ends_all}
 use Rattle.parse_exprs.proofs.Partners.{inner_kind, true_false, ls, within, inner, matches, kind_at, more, stop_ends}
 
 -- brackets that are open behind tokens of a text
-opens_all : (us : List Lexeme) (st o : List Bracket) → AllInner us → all_open st (kinds us) ≡ Some o → open_at_end (openers st) us ≡ Some (openers o)
+pub opens_all : (us : List Lexeme) (st o : List Bracket) → AllInner us → all_open st (kinds us) ≡ Some o → open_at_end (openers st) us ≡ Some (openers o)
 opens_all [] st o h e = ap (λ (x : Option (List Bracket)). elim x [ None ↦ None | Some y ↦ Some (openers y) ]) e
 opens_all (t ∷ us) st o h e = past (next_open st (part_of t.kind)) refl (λ s. opens_all us s o h.1) e
   where
@@ -27,7 +27,7 @@ opens_all (t ∷ us) st o h e = past (next_open st (part_of t.kind)) refl (λ s.
     past None k f e = absurd (cc)
     past (Some s) k f e = open_step (openers st) (openers s) t us (open_behind-next t.kind st h.0 ∙ ap (Rattle.std.specs.Prelude.option_map openers) k) ∙ f s e
 
-none_behind : (k : Kind) (os : List Opener) → ends_all k ≡ true → open_behind k os ≡ None
+pub none_behind : (k : Kind) (os : List Opener) → ends_all k ≡ true → open_behind k os ≡ None
 none_behind kind.Bad os e = refl
 none_behind kind.End os e = refl
 none_behind kind.Name os e = absurd (true_false (sym e))
@@ -40,17 +40,17 @@ none_behind kind.TemplateTail os e = absurd (true_false (sym e))
 none_behind (kind.Word i) os e = absurd (true_false (sym e))
 none_behind (kind.Mark i) os e = absurd (true_false (sym e))
 
-none_last : (os : List Opener) (t : Lexeme) → open_behind t.kind os ≡ None → open_at_end os (t ∷ []) ≡ None
+pub none_last : (os : List Opener) (t : Lexeme) → open_behind t.kind os ≡ None → open_at_end os (t ∷ []) ≡ None
 none_last os t e = ap (λ (x : Option (List Opener)). elim x [ None ↦ None | Some qs ↦ Some qs ]) e
 
 module _ (s : Source) (h : IsSource s) (i : Interpretation) where
-  stop : ℕ
+  pub stop : ℕ
   stop = s.brackets.now.stop
 
-  last : Lexeme
+  pub last : Lexeme
   last = get_or (ls s h i) s.brackets.now.stop end_lexeme
 
-  split : ls s h i ≡ take s.brackets.now.stop (ls s h i) ++ last ∷ []
+  pub split : ls s h i ≡ take s.brackets.now.stop (ls s h i) ++ last ∷ []
   unfolding last
   split = sym (take-append-drop s.brackets.now.stop (ls s h i)) ∙ ap (λ us. take s.brackets.now.stop (ls s h i) ++ us)
       (drop-cons (ls s h i) s.brackets.now.stop end_lexeme (let e = within s h i in omega arith) ∙ ap (λ us. get_or (ls s h i) s.brackets.now.stop end_lexeme ∷ us) (drop_of_length-le (ls s h i) {i = suc s.brackets.now.stop} (let e = within s h i in omega arith)))
@@ -58,10 +58,10 @@ module _ (s : Source) (h : IsSource s) (i : Interpretation) where
   front_kinds : kinds (take s.brackets.now.stop (ls s h i)) ≡ take s.brackets.now.stop (kinds (ls s h i ++ more s h i))
   front_kinds = ap kinds (sym (take-append-le s.brackets.now.stop (ls s h i) (more s h i) (let e = within s h i in omega arith))) ∙ sym (take-map (λ (t : Lexeme). t.kind) s.brackets.now.stop (ls s h i ++ more s h i))
 
-  open_before : open_at_end [] (take s.brackets.now.stop (ls s h i)) ≡ Some (openers (matches s h i).stop.stack)
+  pub open_before : open_at_end [] (take s.brackets.now.stop (ls s h i)) ≡ Some (openers (matches s h i).stop.stack)
   open_before = opens_all (take s.brackets.now.stop (ls s h i)) [] (matches s h i).stop.stack (inner s h i) (ap (all_open []) front_kinds ∙ (matches s h i).stop.fit)
 
-  stops_there : (b : Bool) → ends_all last.kind ≡ b → open_behind last.kind (openers (matches s h i).stop.stack) ≡ None
+  pub stops_there : (b : Bool) → ends_all last.kind ≡ b → open_behind last.kind (openers (matches s h i).stop.stack) ≡ None
   unfolding last
   stops_there true e = none_behind last.kind (openers (matches s h i).stop.stack) e
   stops_there false e = by (matches s h i).stop.stops

@@ -26,7 +26,7 @@ use Rattle.pure_parser.proofs.PassingLaws.{AreBraced}
 use Rattle.pure_parser.proofs.PassedBodies.{pass_braced}
 use Rattle.pure_parser.proofs.PassedParts.{pass_env, pass_assign, pass_expression}
 use Rattle.pure_parser.proofs.AloneLaws.{env_with, read_assign, read_expression, read_braced}
-use Rattle.recorded_bodies.specs.Braced.{in_expr, in_function, in_body, in_stmts}
+use Rattle.script_grammar.specs.Braced.{in_expr, in_function, in_body, in_stmts}
 use Rattle.recorded_bodies.proofs.Lists.{Bodies, as_is, in_read, in_records, ListsAt, Lists}
 use Rattle.recorded_bodies.proofs.ListsStmts.{in_inner}
 use Rattle.recorded_bodies.proofs.ListsScripts.{scripts_list, own_bodies_list, assign_list, expr_list, head_list}

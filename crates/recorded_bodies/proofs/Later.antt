@@ -18,7 +18,7 @@ use Rattle.pure_parser.proofs.AgreesScripts.{body_in_place, passed_over}
 use Rattle.pure_parser.proofs.AgreesAlone.{AloneK}
 use Rattle.pure_parser.proofs.PassedLaws.{pass_script}
 use Rattle.pure_parser.proofs.Totals.{or_says, or_fine, judged_bodies, judged_both, own_says, pass_body, next_read}
-use Rattle.recorded_bodies.specs.Braced.{in_body, in_stmts, braced_all}
+use Rattle.script_grammar.specs.Braced.{in_body, in_stmts, braced_all}
 use Rattle.recorded_bodies.proofs.Lists.{Bodies, as_is, in_read, in_records, in_append, ListsAt, Lists}
 use Rattle.recorded_bodies.proofs.ListsStmts.{in_inside, in_inner}
 use Rattle.recorded_bodies.proofs.ListsScripts.{scripts_list, own_bodies_list}

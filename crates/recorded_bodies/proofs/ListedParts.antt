@@ -4,7 +4,7 @@ use Rattle.std.proofs.Common.{◌≡◌, ℕ, List, [], ◌∷◌, ◌++◌, ref
 use Rattle.script_grammar.specs.Tree.{Expr, Stmts, Stmt, Prop, Tail}
 use Rattle.script_grammar.specs.TreeLists.{Args, Operand, Part, Param, Bind, Clause, exprs_of, maybe_args_of, operands_of, tails_of, items_of, parts_of, props_of, params_of, binds_of, stmts_of, clauses_of, maybe_expr_of, maybe_stmt_of}
 use Rattle.pure_parser.specs.Exprs.{BodyRead, Head, ParamsEnd, Plain, Trailing, Rest, comma_case, list_case, chain_case, binary_case, with_last, rest_param, some_last, array_case, ended_params}
-use Rattle.recorded_bodies.specs.Braced.{in_expr, in_exprs, in_maybe_expr, in_maybe_args, in_parts, in_items, in_operands, in_tail, in_tails, in_prop, in_props, in_params, in_body, in_binds, in_clauses, in_stmt, in_stmts, in_maybe_stmt}
+use Rattle.script_grammar.specs.Braced.{in_expr, in_exprs, in_maybe_expr, in_maybe_args, in_parts, in_items, in_operands, in_tail, in_tails, in_prop, in_props, in_params, in_body, in_binds, in_clauses, in_stmt, in_stmts, in_maybe_stmt}
 use Rattle.recorded_bodies.proofs.Lists.{Bodies, in_list, in_option}
 
 pub list_both : {A : Type 0} (f : Bodies A) (xs ys : List A) (r : List Stmts) → in_list f xs (in_list f ys r) ≡ in_list f (xs ++ ys) r

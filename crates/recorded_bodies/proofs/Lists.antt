@@ -8,7 +8,7 @@ use Rattle.script_grammar.specs.Tree.{Stmts}
 use Rattle.pure_parser.specs.Parser.{Recorded, Reply, Read, Bad, Deep, Parser, head_of, rest_of, noted, after, ret, bad, deep, bind, peek, step, when, no_room, Turn, Again, Stop, turned, turns, loop, Many, led, begun, stopped}
 use Rattle.pure_parser.specs.Exprs.{BodyRead}
 use Rattle.pure_parser.proofs.Agrees.{Verdict, fine, bad_at, deep_at, records, judged, judged_append, judged_bad, judged_deep, TurnK, ManyK}
-use Rattle.recorded_bodies.specs.Braced.{in_body}
+use Rattle.script_grammar.specs.Braced.{in_body}
 
 -- the bodies in something that was read, before others
 abbrev pub Bodies : Type 0 → Type 0

@@ -21,7 +21,7 @@ use Rattle.pure_parser.proofs.Agrees.{Verdict, fine, bad_at, deep_at, judged, re
 use Rattle.pure_parser.proofs.AgreesExprs.{CallK, ParamTurn, ParamsK}
 use Rattle.pure_parser.proofs.AgreesScripts.{body_in_place, passed_over}
 use Rattle.pure_parser.proofs.AgreesAlone.{AloneK, functions_agree}
-use Rattle.recorded_bodies.specs.Braced.{in_params}
+use Rattle.script_grammar.specs.Braced.{in_params}
 use Rattle.recorded_bodies.proofs.Lists.{Bodies, as_is, in_none, in_turn, in_many, ListsAt, Lists, lists_then, lists_more, lists_map, lists_ret, lists_bad, lists_peek, lists_step, lists_when}
 use Rattle.recorded_bodies.proofs.ListedParts.{in_param, in_head, in_own, params_listed, head_listed}
 use Rattle.recorded_bodies.proofs.ListsExprs.{ListsEnv, in_call, expect_lists, params_led_lists, params_head_lists}

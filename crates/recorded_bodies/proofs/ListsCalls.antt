@@ -16,7 +16,7 @@ use Rattle.pure_parser.specs.Filling.{fill}
 use Rattle.pure_parser.proofs.Agrees.{Verdict, fine, bad_at, deep_at, judged, records}
 use Rattle.pure_parser.proofs.AgreesExprs.{CallK, ParamTurn, ParamsK}
 use Rattle.pure_parser.proofs.AgreesCalls.{PowerTurn, OpTurn, SpannedK}
-use Rattle.recorded_bodies.specs.Braced.{in_expr}
+use Rattle.script_grammar.specs.Braced.{in_expr}
 use Rattle.recorded_bodies.proofs.Lists.{Bodies, as_is, in_none, in_turn, in_option, in_many, ListsAt, Lists, lists_bind, lists_then, lists_more, lists_ret, lists_bad, lists_peek, lists_step, lists_when, lists_if, lists_loop, lists_no_room}
 use Rattle.recorded_bodies.proofs.ListedParts.{in_operand, in_param, in_head, in_own, with_last_listed, params_listed, binary_listed, head_listed}
 use Rattle.recorded_bodies.proofs.ListsExprs.{ListsEnv, in_call, lists_two, expect_lists, own_body_lists, name_lists, param_lists, params_led_lists, items_lists, doomed_lists, new_lists, unary_lists, prefix_lists}

@@ -19,7 +19,7 @@ use Rattle.pure_parser.proofs.Alike.{AnyK, SameK, OptionK, ExprK, FunctionK, Bod
 use Rattle.pure_parser.specs.Filling.{fill, fill_exprs, fill_key, fill_prop, fill_props, fill_function}
 use Rattle.pure_parser.proofs.Agrees.{TurnK, ListK, ManyK}
 use Rattle.pure_parser.proofs.AgreesExprs.{CallK, ExprTurn, ArgTurn, ParamTurn, ParamsK, TailTurn}
-use Rattle.recorded_bodies.specs.Braced.{in_expr, in_key, in_prop, in_function, in_tail}
+use Rattle.script_grammar.specs.Braced.{in_expr, in_key, in_prop, in_function, in_tail}
 use Rattle.recorded_bodies.proofs.Lists.{Bodies, as_is, in_none, in_turn, in_list, in_option, in_many, Lists, lists_then, lists_more, lists_ret, lists_bad, lists_peek, lists_step, lists_when, lists_if, lists_loop, lists_led}
 use Rattle.recorded_bodies.proofs.ListedParts.{in_args, in_part, in_param, in_head, in_own, list_both, exprs_listed, args_listed, props_listed, params_listed, comma_listed, list_listed, array_listed, template_listed, chain_listed, head_listed}
 

@@ -18,7 +18,7 @@ use Rattle.pure_parser.proofs.Alike.{SameK, BodyK, ExprK, FunctionK, StmtK}
 use Rattle.pure_parser.proofs.AgreesExprs.{CallK}
 use Rattle.pure_parser.proofs.AgreesStmts.{StmtsK, OwnK, reading_agrees}
 use Rattle.pure_parser.proofs.AgreesScripts.{body_in_place, passed_over, silent, body_agrees, everything_agrees}
-use Rattle.recorded_bodies.specs.Braced.{in_expr, in_function, in_stmt, in_stmts}
+use Rattle.script_grammar.specs.Braced.{in_expr, in_function, in_stmt, in_stmts}
 use Rattle.recorded_bodies.proofs.Lists.{Bodies, as_is, in_none, in_read, in_records, ListsAt, Lists, lists_no_room}
 use Rattle.recorded_bodies.proofs.ListedParts.{in_own}
 use Rattle.recorded_bodies.proofs.ListsExprs.{ListsEnv, in_call, name_lists, expr_lists, function_lists}

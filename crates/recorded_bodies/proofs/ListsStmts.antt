@@ -21,7 +21,7 @@ use Rattle.pure_parser.proofs.Alike.{AnyK, SameK, OptionK, ExprK, BindK, StmtK, 
 use Rattle.pure_parser.specs.Filling.{fill, fill_maybe, fill_init, fill_each, fill_stmt, fill_stmts}
 use Rattle.pure_parser.proofs.Agrees.{TurnK, ListK, ManyK}
 use Rattle.pure_parser.proofs.AgreesStmts.{StmtTurn, BindTurn, ClauseTurn, StmtsK, OwnK}
-use Rattle.recorded_bodies.specs.Braced.{in_expr, in_maybe_expr, in_init, in_each, in_stmt, in_stmts}
+use Rattle.script_grammar.specs.Braced.{in_expr, in_maybe_expr, in_init, in_each, in_stmt, in_stmts}
 use Rattle.recorded_bodies.proofs.Lists.{Bodies, as_is, in_none, in_turn, in_list, in_option, in_many, Lists, lists_then, lists_more, lists_made, lists_behind, lists_known, lists_ret, lists_bad, lists_peek, lists_step, lists_when, lists_if, lists_loop, lists_led}
 use Rattle.recorded_bodies.proofs.ListedParts.{in_bind, in_clause, list_both, maybe_listed, binds_listed, stmts_listed, clauses_listed, else_listed}
 use Rattle.recorded_bodies.proofs.ListsExprs.{ListsEnv, lists_two, expect_lists, name_lists, expr_lists, function_lists}

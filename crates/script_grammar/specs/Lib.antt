@@ -13,3 +13,4 @@ pub mod Script
 pub mod Fault
 pub mod Matching
 pub mod BracketWalk
+pub mod Braced

@@ -1,0 +1,2 @@
+-- The log of a track, read as texts.
+pub mod Spelled

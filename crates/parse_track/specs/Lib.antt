@@ -4,6 +4,7 @@ pub mod RegionNames
 pub mod EarlyErrors
 pub mod ClosedNames
 pub mod Log
+pub mod Counted
 pub mod Rows
 pub mod Walk
 pub mod Asked

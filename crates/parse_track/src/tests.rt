@@ -114,6 +114,17 @@ fn the_first_of_two_errors_at_one_offset_is_that_of_the_smaller_rule(
     Ok(())
 }
 
+#[test]
+fn a_function_and_an_arrow_count(rt: HostRuntime) -> Result<(), Fail> {
+    let mut track = Track::new(rt.alloc(), KNOWN);
+    let _script = track.enter(Region::Script, 0)?;
+    let _function = track.enter(Region::Function, 10)?;
+    let _block = track.enter(Region::Block, 14)?;
+    let _arrow = track.enter(Region::Arrow, 22)?;
+    assert_eq!(rt; track.functions(), 2);
+    Ok(())
+}
+
 fn declare_names(track: &mut Track, count: u32) -> Result<(), AllocError>
     requires { IsSome track.old.present }
     ensures { OnOk result (IsSome track.new.present) }

@@ -2,9 +2,11 @@
 
 ghost use Rattle.std.specs.Prelude.{◌≡◌, ◌<◌, ◌≤◌, ◌+◌, ◌^◌, ◌-◌, ◌⊎◌, length, map, IsSome, IfSome, IfOk, OnOk, OnErr, Some, None, [], nat_eq};
 ghost use Rattle.parse_track.specs.Told.{Declared, Used, Jumped};
-ghost use Rattle.parse_track.specs.Log.{name_of, label_of, with_leaf, entered, left, noting, tell, around_at, known_names, told_of};
+ghost use Rattle.parse_track.specs.Log.{name_of, label_of, region_of, with_leaf, entered, left, noting, tell, around_at, known_names, told_of};
 ghost use Rattle.parse_track.specs.EarlyErrors.{first_error};
 ghost use Rattle.parse_track.specs.ClosedNames.{closed};
+ghost use Rattle.parse_track.specs.RegionNames.{is_function};
+ghost use Rattle.parse_track.specs.Counted.{counted};
 ghost use Rattle.parse_track.specs.Scopes.{bounds_of};
 ghost use Rattle.parse_track.specs.Rows.{item_of, row_of};
 
@@ -166,6 +168,13 @@ impl Track {
         self.noted = sooner_early(Some(Early { offset, rule }), self.noted);
     }
 
+    /// How many functions were told: regions that are a Function or an Arrow.
+    pub fn functions(&self) -> usize
+        ensures { result ≡ counted self.now.parts }
+    {
+        self.rows.iter().filter(|row| is_function(row.kind)).count()
+    }
+
     /// What follows from all that was told: the first early error, and the names that inner functions close over, in order of
     /// functions, scopes and bindings. There are fewer than 2^32 scopes in one function.
     pub fn finish(self) -> Result<Tracked, AllocError>
@@ -176,6 +185,13 @@ impl Track {
         let closed = closed_names(self.alloc, &self.known, &self.rows)?;
         Ok(Tracked { early, closed })
     }
+}
+
+/// Whether a region is that of a function.
+fn is_function(kind: Region) -> bool
+    ensures { result ≡ is_function (region_of kind) }
+{
+    matches!(kind, Region::Function | Region::Arrow)
 }
 
 /// The number of the next region, where there may be one more.

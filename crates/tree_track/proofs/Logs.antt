@@ -1,5 +1,5 @@
 -- What the steps of a track do to its log, in texts, and what stays.
-use Rattle.std.proofs.Common.{◌≡◌, ℕ, ◌+◌, ◌<◌, ◌≤◌, zero, suc, List, [], ◌∷◌, ◌++◌, length, map, slice_get, refl, sym, ap, subst, ◌∙◌, arith, Option, Some, None, option_map}
+use Rattle.std.proofs.Common.{◌≡◌, ℕ, ◌+◌, ◌<◌, zero, suc, List, [], ◌∷◌, ◌++◌, length, map, slice_get, refl, sym, ap, ◌∙◌, arith, Option, Some, None}
 use Rattle.std.proofs.Common.{length-append}
 use Rattle.std.proofs.lemmas.List.{map-append, length-map}
 use Rattle.script_grammar.specs.Interpretation.{Interpretation}
@@ -7,9 +7,8 @@ use Rattle.parse_track.specs.declared.region.Region.{Region}
 use Rattle.parse_track.specs.Told as told
 use Rattle.parse_track.specs.Told.{Told, nothing, leaf, inner}
 use Rattle.parse_track.specs.Log.{Item, Leaf, Inner, Part, Log, add, tell, with_leaf, entered, left, around_at, around_of, region_of}
-use Rattle.parse_track.specs.Tells.{Text}
 use Rattle.parse_track.proofs.Order.{length-tell}
-use Rattle.told_log.specs.Spelled.{TextItem, TextLeaf, TextInner, TextPart, TextLog, item_text, part_text, leaf_text, region_text, log_text, put, put_in, with_text, opened, logged}
+use Rattle.told_log.specs.Spelled.{TextItem, TextLeaf, TextInner, TextPart, TextLog, item_text, part_text, leaf_text, region_text, log_text, put, put_in, with_text, opened}
 use Rattle.tree_track.specs.Walks.{Stays}
 
 module _ (i : Interpretation) where

@@ -1,5 +1,5 @@
 -- A walk over a list, item by item.
-use Rattle.std.proofs.Common.{◌≡◌, ℕ, ◌≤◌, List, [], ◌∷◌, refl, sym, ap, subst, ◌∙◌, arith, map, true, option_map, Option, drop, get_or, length, ◌+◌, ◌<◌, add-one}
+use Rattle.std.proofs.Common.{◌≡◌, ℕ, ◌≤◌, List, [], ◌∷◌, refl, sym, ap, ◌∙◌, arith, map, true, option_map, Option, drop, get_or, length, ◌+◌, ◌<◌, add-one}
 use Rattle.std.proofs.Math.Seq.{drop-cons}
 use Rattle.script_grammar.specs.declared.tree.Expr.{Expr}
 use Rattle.script_grammar.specs.declared.tree.Stmt.{Stmt}

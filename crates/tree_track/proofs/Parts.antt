@@ -1,5 +1,5 @@
 -- How walks over parts make a walk over the whole.
-use Rattle.std.proofs.Common.{◌≡◌, ℕ, List, [], ◌∷◌, refl, sym, ap, subst, ◌∙◌, Option, Some, None, map, option_map, codes, Bool, true, false}
+use Rattle.std.proofs.Common.{◌≡◌, ℕ, List, refl, sym, ap, subst, ◌∙◌, Option, Some, None, option_map, codes, Bool, true, false}
 use Rattle.script_grammar.specs.Interpretation.{Interpretation, text_of, maybe_named}
 use Rattle.script_grammar.specs.Tree.{Stmts, Named}
 use Rattle.script_grammar.specs.Tree as tree
@@ -11,8 +11,8 @@ use Rattle.parse_track.specs.Told.{Told, nothing, leaf, inner}
 use Rattle.parse_track.specs.Log.{Log, with_leaf, entered, left, region_of, label_of}
 use Rattle.parse_track.specs.Tells.{Text, spelled_label, tells_stmt, tells_stmts, tells_region}
 use Rattle.script_grammar.specs.Braced.{in_stmt, in_stmts}
-use Rattle.told_log.specs.Spelled.{name_text, TextLog, TextPart, leaf_text, region_text, log_text, with_text, opened, logged}
-use Rattle.tree_track.specs.Walks.{Bodies, at_hand, KnowsThis, Stays, Walks, Fills, tells_handler}
+use Rattle.told_log.specs.Spelled.{name_text, TextLog, leaf_text, region_text, log_text, logged}
+use Rattle.tree_track.specs.Walks.{Bodies, KnowsThis, Stays, Walks, Fills, tells_handler}
 use Rattle.tree_track.proofs.Logs.{leaf_logged, region_logged, present_left, region_stays, leaf_stays}
 
 module _ (i : Interpretation) where

@@ -76,12 +76,12 @@ fn var(alloc: Global, atom: u32, at: u32) -> Result<Stmt, AllocError> {
     })
 }
 
-// function NAME(..) {..}, whose body was passed over
+// function NAME(..) {..}, whose body was passed over; nothing looks at its end
 fn passed(own: Option<Ident>, start: u32, params: Vec<Param>) -> Func {
     Func {
         form: FuncForm::Function,
         start,
-        end: start + 10,
+        end: start,
         name: own,
         params,
         comma: false,
@@ -182,13 +182,13 @@ fn head_and_var(alloc: Global) -> Result<Tracked, AllocError> {
     told(alloc, &items, Vec::new(alloc))
 }
 
-// () => NAME
+// () => NAME, of which nothing looks at the end
 fn arrow(alloc: Global, start: u32, value: Ident) -> Result<Expr, AllocError> {
     let body = Box::new(alloc, Expr::Name(value))?;
     let func = Func {
         form: FuncForm::Arrow,
         start,
-        end: start + 7,
+        end: start,
         name: None,
         params: Vec::new(alloc),
         comma: false,

@@ -1,13 +1,8 @@
-use Rattle.std.proofs.Common.{◌∙◌, ap, refl, sym, true, false, map, option_map}
-use Rattle.script_grammar.specs.Interpretation.{Interpretation, named, maybe_named}
-use Rattle.script_grammar.specs.TreeOf as of
-use Rattle.script_grammar.specs.TreeLists.{maybe_expr_of, maybe_args_of, maybe_stmt_of, exprs_of}
-use Rattle.script_grammar.proofs.ExprEquations as eq
+use Rattle.std.proofs.Common.{◌∙◌, ap, sym}
+use Rattle.script_grammar.specs.Interpretation.{named, maybe_named}
 use Rattle.parse_track.specs.Told as told
 use Rattle.parse_track.specs.Tells as tell
-use Rattle.script_grammar.specs.Braced as braced
-use Rattle.tree_track.proofs.Logs.{stays_then}
-use Rattle.tree_track.proofs.Parts.{walk_as, walk_none, walk_leaf, walk_then, fill, walk_region, region_stays_as, leaf_stays_as}
+use Rattle.tree_track.proofs.Parts.{leaf_stays_as}
 use Rattle.tree_track.proofs.walk.declare_function.Goals as goal
 use Rattle.script_grammar.proofs.PartEquations.{func_of-fields}
 use Rattle.parse_track.specs.Log.{name_of}

@@ -1,4 +1,4 @@
-use Rattle.std.proofs.Common.{◌≡◌, ◌∙◌, ap, sym, refl, drop, map, option_map, ◌+◌, ◌<◌, ℕ, List, ◌∷◌, length, get_or, drop_of_length-le, Option, Bool}
+use Rattle.std.proofs.Common.{◌≡◌, ◌∙◌, ap, sym, drop, map, option_map, ◌+◌, ◌<◌, ℕ, List, length, get_or, drop_of_length-le, Option, Bool}
 use Rattle.script_grammar.specs.declared.tree.Expr.{Expr}
 use Rattle.script_grammar.specs.declared.tree.Param.{Param}
 use Rattle.script_grammar.specs.Interpretation.{Interpretation, named}

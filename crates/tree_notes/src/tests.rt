@@ -57,12 +57,12 @@ fn bare(alloc: Global, atom: u32, at: u32) -> Result<Stmt, AllocError> {
     Ok(build::binds(Decl::Const, binds, true))
 }
 
-// function NAME(PARAMS) {..}, whose body was passed over
+// function NAME(PARAMS) {..}, whose body was passed over; where it starts and ends is not looked at
 fn passed(atom: u32, at: u32, params: Vec<Param>) -> Stmt {
     build::declared(Func {
         form: FuncForm::Function,
-        start: at + 1,
-        end: at + 100,
+        start: at,
+        end: at,
         name: Some(ident(atom, at)),
         params,
         comma: false,

@@ -1,6 +1,6 @@
--- What a log is after more is told, without the order of telling: the items that the present region gets, and the regions that
--- come behind those that are there.
-use Rattle.std.proofs.Common.{◌≡◌, ℕ, ◌+◌, ◌<◌, suc, Option, None, Some, IfSome, List, [], ◌∷◌, ◌++◌, length, refl, sym, ap, ◌∙◌, arith, append_assoc, append-nil, length-append}
+-- What a log is after more is told, said at once: the items that the present region gets, and the regions that come behind those
+-- that are there.
+use Rattle.std.proofs.Common.{◌≡◌, ℕ, ◌+◌, ◌<◌, ◌≤◌, suc, Option, None, Some, IfSome, List, [], ◌∷◌, ◌++◌, length, refl, sym, ap, ◌∙◌, arith, append_assoc, append-nil, length-append}
 use Rattle.parse_track.specs.Told as told
 use Rattle.parse_track.specs.Told.{Told, nothing, leaf, inner}
 use Rattle.parse_track.specs.Tells.{Text}
@@ -57,22 +57,22 @@ module _ (around : Option ℕ) (ps : List TextPart) (kind : told.Region Text) (a
   abbrev within : List TextPart
   within = parts_laid (Some (length ps)) (length ps + 1) inside
 
-  pub inside_length : length (before ++ empty ∷ []) ≡ length ps + 1
+  inside_length : length (before ++ empty ∷ []) ≡ length ps + 1
   inside_length = length-append before (empty ∷ []) ∙ ap (λ k. k + 1) (length_put_in around (TextInner (length ps)) ps)
 
-  pub inside_laid : laid (Some (length ps)) (before ++ empty ∷ []) inside (length ps + 1) ≡ before ++ full ∷ within
+  inside_laid : laid (Some (length ps)) (before ++ empty ∷ []) inside (length ps + 1) ≡ before ++ full ∷ within
   inside_laid =
       ap (λ qs. qs ++ within) (put_last (items_laid (length ps + 1) inside) (length ps) before empty (length_put_in around (TextInner (length ps)) ps))
       ∙ append_assoc before (full ∷ []) within
 
-  pub behind_length : length (before ++ full ∷ within) ≡ length ps + 1 + size inside
+  behind_length : length (before ++ full ∷ within) ≡ length ps + 1 + size inside
   behind_length =
       let e = length-append before (full ∷ within) in
       let b = length_put_in around (TextInner (length ps)) ps in
       let w = length_laid (Some (length ps)) (length ps + 1) inside in
       omega (arith, e, b, w)
 
-  pub behind_laid : IfSome around (λ n. n < length before)
+  behind_laid : IfSome around (λ n. n < length before)
       → laid around (before ++ full ∷ within) t (length ps + 1 + size inside) ≡ laid around ps (inner kind at inside t) (length ps)
   behind_laid h =
       let ys : List TextItem = items_laid (length ps + 1 + size inside) t in
@@ -82,20 +82,16 @@ module _ (around : Option ℕ) (ps : List TextPart) (kind : told.Region Text) (a
       ∙ ap (λ qs. qs ++ full ∷ within) (put_more_in around (TextInner (length ps)) ys ps))
       ∙ append_assoc (put_all_in around (TextInner (length ps) ∷ ys) ps) (full ∷ within) rest
 
-is_within : (around : Option ℕ) (m n : ℕ) → m ≡ n → IfSome around (λ k. k < m) → IfSome around (λ k. k < n)
-is_within None m n e h = tt
-is_within (Some k) m n e h = omega arith
-
-is_below : (around : Option ℕ) (m n : ℕ) (d : ℕ) → n ≡ m + d → IfSome around (λ k. k < m) → IfSome around (λ k. k < n)
-is_below None m n d e h = tt
-is_below (Some k) m n d e h = omega arith
+still_below : (around : Option ℕ) (m n : ℕ) → m ≤ n → IfSome around (λ k. k < m) → IfSome around (λ k. k < n)
+still_below None m n l h = tt
+still_below (Some k) m n l h = omega arith
 
 pub logged-laid : (t : Told Text) (around : Option ℕ) (ps : List TextPart) → IfSome around (λ n. n < length ps)
     → logged_parts t around ps ≡ laid around ps t (length ps)
 logged-laid nothing around ps h = sym (append-nil (put_all_in around [] ps) ∙ put_none_in around ps)
 logged-laid (leaf l t) around ps h =
     let same : length (put_in around (TextLeaf l) ps) ≡ length ps = length_put_in around (TextLeaf l) ps in
-    logged-laid t around (put_in around (TextLeaf l) ps) (is_within around (length ps) (length (put_in around (TextLeaf l) ps)) (sym same) h)
+    logged-laid t around (put_in around (TextLeaf l) ps) (still_below around (length ps) (length (put_in around (TextLeaf l) ps)) (omega (arith, same)) h)
     ∙ (ap (laid around (put_in around (TextLeaf l) ps) t) same
     ∙ ap (λ qs. qs ++ parts_laid around (length ps) t) (put_more_in around (TextLeaf l) (items_laid (length ps) t) ps))
 logged-laid (inner kind at inside t) around ps h =
@@ -103,9 +99,10 @@ logged-laid (inner kind at inside t) around ps h =
     let all : List TextPart = before around ps kind at inside t ++ full around ps kind at inside t ∷ within around ps kind at inside t in
     let more : length front ≡ length ps + 1 = inside_length around ps kind at inside t in
     let most : length all ≡ length ps + 1 + size inside = behind_length around ps kind at inside t in
+    let kept : length (before around ps kind at inside t) ≡ length ps = length_put_in around (TextInner (length ps)) ps in
     ap (logged_parts t around)
     (logged-laid inside (Some (length ps)) front (let l : length ps < length front = omega arith in l)
     ∙ (ap (laid (Some (length ps)) front inside) more ∙ inside_laid around ps kind at inside t))
-    ∙ (logged-laid t around all (is_below around (length ps) (length all) (1 + size inside) (omega arith) h)
+    ∙ (logged-laid t around all (still_below around (length ps) (length all) (omega (arith, most)) h)
     ∙ (ap (laid around all t) most
-    ∙ behind_laid around ps kind at inside t (is_within around (length ps) (length (before around ps kind at inside t)) (sym (length_put_in around (TextInner (length ps)) ps)) h)))
+    ∙ behind_laid around ps kind at inside t (still_below around (length ps) (length (before around ps kind at inside t)) (omega (arith, kept)) h)))

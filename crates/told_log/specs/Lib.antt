@@ -1,2 +1,3 @@
--- The log of a track, read as texts.
+-- The log of a track, read as texts, and its regions put together again.
 pub mod Spelled
+pub mod Reading

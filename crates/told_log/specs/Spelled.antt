@@ -1,8 +1,6 @@
 -- The log of a track with texts in place of atoms, and what it becomes where more is told.
-use Rattle.std.specs.Prelude.{ℕ, zero, suc, ◌+◌, Option, None, Some, List, [], ◌∷◌, ◌++◌, length, map, option_map}
-use Rattle.script_grammar.specs.declared.tree.Ident.{Ident}
+use Rattle.std.specs.Prelude.{ℕ, zero, suc, Option, None, Some, List, [], ◌∷◌, ◌++◌, length, map, option_map}
 use Rattle.script_grammar.specs.Interpretation.{Interpretation, text_of}
-use Rattle.parse_track.specs.declared.region.Region.{Region}
 use Rattle.parse_track.specs.Told as told
 use Rattle.parse_track.specs.Told.{Told, nothing, leaf, inner}
 use Rattle.parse_track.specs.Log.{Item, Leaf, Inner, Part, Log, region_of}

@@ -1,0 +1,6 @@
+pub mod Putting
+pub mod Laid
+pub mod Reading
+pub mod Texts
+pub mod Counts
+pub mod Scripts

@@ -1,0 +1,10 @@
+pub mod Clauses
+pub mod OwnBody
+pub mod OwnClauses
+pub mod Quiet
+pub mod Refills
+pub mod Refusals
+pub mod Rooms
+pub mod Spine
+pub mod Suffixes
+pub mod Takes

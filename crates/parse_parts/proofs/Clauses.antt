@@ -41,7 +41,8 @@ use Rattle.parse_bodies.specs.Means.{BodyOf}
 use Rattle.parse_bodies.specs.declared.part.BodyNode.{BodyNode}
 use Rattle.parse_bodies.proofs.Parts.{func_read}
 use Rattle.parse_parts.specs.Answers.{IsRefused, IsAssignment, IsExpression, IsHeaded, IsBraced}
-use Rattle.parse_parts.specs.Parts.{HeadPart, Taken}
+use Rattle.parse_parts.specs.Parts.{HeadPart, NoAssign, NoExpression, NoHead, NoBody, Taken}
+use Rattle.parse_parts.proofs.Present.{ReadsNothing, no_assign, no_expression, no_head, no_body}
 use Rattle.parse_parts.proofs.Refusals.{some_left, bad_refused, deep_refused, renamed}
 use Rattle.parse_parts.proofs.Suffixes.{suffix_closed}
 use Rattle.parse_parts.proofs.Takes.{given, takes_assign, takes_expression, takes_head, takes_body}
@@ -104,12 +105,26 @@ module _ (s : Source) (h : IsSource s) (i : Interpretation) where
   pub taken_in : (P : Part) → Balanced P → (start stop : ℕ) → start < length s.tokens.now → (t : Taken P (front s i start) (front s i stop)) → stop < length s.tokens.now
   taken_in P b start stop l t = place_in stop (leaves_some P b (front s i start) t.tokens (front s i stop) t.deep (closed_at start l) t.split t.part)
 
-  -- a fault is the first of the part
-  pub fault_is : {A : Type 0} (P : Part) (f : Parser A) → Decides P f → Matches P → (start : ℕ) → start < length s.tokens.now → (e : ParseFault) → Faults s i e (bare (f (front s i start))) → IsRefused P i s start e
+  -- where the code faults, the parser reads nothing
+
+  reads_no_bad : {A : Type 0} (f : Parser A) (from us : List Lexeme) → bare (f from) ≡ Bad [] us → ReadsNothing f from
+  reads_no_bad {A = A} f from us e a vs k = never (sym e ∙ k)
+    where
+      never : ◌≡◌ {A = Reply A} (Bad [] us) (Read a [] vs) → ⊥
+      never k = cc
+
+  reads_no_deep : {A : Type 0} (f : Parser A) (from us : List Lexeme) → bare (f from) ≡ Deep [] us → ReadsNothing f from
+  reads_no_deep {A = A} f from us e a vs k = never (sym e ∙ k)
+    where
+      never : ◌≡◌ {A = Reply A} (Deep [] us) (Read a [] vs) → ⊥
+      never k = cc
+
+  -- and the fault is the first of the part
+  pub fault_is : {A : Type 0} (P : Part) (f : Parser A) → Decides P f → Matches P → (none : Type 0) (start : ℕ) → (ReadsNothing f (front s i start) → none) → start < length s.tokens.now → (e : ParseFault) → Faults s i e (bare (f (front s i start))) → IsRefused P none i s start e
   unfolding front
-  fault_is P f d o start l (faults.Unexpected k) e = bad_refused P f d o (lexemes s i) start k (closed_at start l) e
-  fault_is P f d o start l (faults.TooDeep k) e = deep_refused P f d (lexemes s i) start k e
-  fault_is P f d o start l faults.NoMemory e = tt
+  fault_is P f d o none start n l (faults.Unexpected k) e = (bad_refused P f d o (lexemes s i) start k (closed_at start l) e, n (reads_no_bad f (drop start (lexemes s i)) (drop k (lexemes s i)) e))
+  fault_is P f d o none start n l (faults.TooDeep k) e = (deep_refused P f d (lexemes s i) start k e, n (reads_no_deep f (drop start (lexemes s i)) (drop k (lexemes s i)) e))
+  fault_is P f d o none start n l faults.NoMemory e = tt
 
   module _ (d : ℕ) (low : d ≤ depth_limit) (start : ℕ) (l : start < length s.tokens.now) (p : Place) (rs : List Recorded) where
     room : depth_limit - d + d ≡ depth_limit
@@ -129,7 +144,7 @@ module _ (s : Source) (h : IsSource s) (i : Interpretation) where
 
       pub assignment_refused : (e : ParseFault) → Refuses s i p e rs ((env_at i d).sub (AnAssign w) (front s i start)) → IsAssignment {E = E} i shows s w d start p.at (Err e)
       assignment_refused e a =
-          fault_is (AssignPart passed w d) (pass_assign (body_at i) (given i) (depth_limit - d) w) (assign_decides (body_at i) (given i) (depth_limit - d) d room w) (balanced_matches (AssignPart passed w d) (assign_balanced passed w d)) start l e
+          fault_is (AssignPart passed w d) (pass_assign (body_at i) (given i) (depth_limit - d) w) (assign_decides (body_at i) (given i) (depth_limit - d) d room w) (balanced_matches (AssignPart passed w d) (assign_balanced passed w d)) (NoAssign w d (front s i start)) start (no_assign i (depth_limit - d) d room (front s i start) w) l e
           (subst (λ (f : Parser Expr). Faults s i e (bare (f (front s i start)))) assign_here (fault_bare s i p e rs _ a))
 
     -- an Expression
@@ -145,7 +160,7 @@ module _ (s : Source) (h : IsSource s) (i : Interpretation) where
 
       pub expression_refused : (e : ParseFault) → Refuses s i p e rs (expr_of (env_at i d) w (front s i start)) → IsExpression {E = E} i shows s w d start p.at (Err e)
       expression_refused e a =
-          fault_is (ExpressionPart passed w d) (pass_expression (body_at i) (given i) (depth_limit - d) w) (expression_decides (body_at i) (given i) (depth_limit - d) d room w) (balanced_matches (ExpressionPart passed w d) (expression_balanced passed w d)) start l e
+          fault_is (ExpressionPart passed w d) (pass_expression (body_at i) (given i) (depth_limit - d) w) (expression_decides (body_at i) (given i) (depth_limit - d) d room w) (balanced_matches (ExpressionPart passed w d) (expression_balanced passed w d)) (NoExpression w d (front s i start)) start (no_expression i (depth_limit - d) d room (front s i start) w) l e
           (subst (λ (f : Parser Expr). Faults s i e (bare (f (front s i start)))) expression_here (fault_bare s i p e rs _ a))
 
     -- a function that is no arrow
@@ -169,12 +184,12 @@ module _ (s : Source) (h : IsSource s) (i : Interpretation) where
       pub headed_refused : (e : ParseFault) → Refuses s i p e rs (function_of (env_at i d) f name (front s i start)) → IsHeaded {E = E} {B = B} i shows shows_body s f name d start p.at (Err e)
       headed_refused e a =
           renamed_fault e
-          (fault_is (heads.HeadPart passed f name d) (pass_head (body_at i) (given i) (depth_limit - d) d f name plain) (head_decides (body_at i) (given i) (depth_limit - d) d f name plain room) (balanced_matches (heads.HeadPart passed f name d) (head_balanced passed f name d)) start l e
+          (fault_is (heads.HeadPart passed f name d) (pass_head (body_at i) (given i) (depth_limit - d) d f name plain) (head_decides (body_at i) (given i) (depth_limit - d) d f name plain room) (balanced_matches (heads.HeadPart passed f name d) (head_balanced passed f name d)) (NoHead f name d (front s i start)) start (no_head i (depth_limit - d) d room (front s i start) f name plain) l e
           (subst (λ (g : Parser _). Faults s i e (bare (g (front s i start)))) head_here (fault_bare s i p e rs _ a)))
         where
-          renamed_fault : (e : ParseFault) → IsRefused (heads.HeadPart passed f name d) i s start e → IsRefused (HeadPart passed f name d) i s start e
-          renamed_fault (faults.Unexpected k) r = renamed (heads.HeadPart passed f name d) (HeadPart passed f name d) head_to head_back (front s i start) start k Unexpected r
-          renamed_fault (faults.TooDeep k) r = renamed (heads.HeadPart passed f name d) (HeadPart passed f name d) head_to head_back (front s i start) start k TooDeep r
+          renamed_fault : (e : ParseFault) → IsRefused (heads.HeadPart passed f name d) (NoHead f name d (front s i start)) i s start e → IsRefused (HeadPart passed f name d) (NoHead f name d (front s i start)) i s start e
+          renamed_fault (faults.Unexpected k) r = (renamed (heads.HeadPart passed f name d) (HeadPart passed f name d) head_to head_back (front s i start) start k Unexpected r.0, r.1)
+          renamed_fault (faults.TooDeep k) r = (renamed (heads.HeadPart passed f name d) (HeadPart passed f name d) head_to head_back (front s i start) start k TooDeep r.0, r.1)
           renamed_fault faults.NoMemory r = tt
 
     -- a braced body
@@ -191,5 +206,5 @@ module _ (s : Source) (h : IsSource s) (i : Interpretation) where
 
       pub braced_refused : (e : ParseFault) → Refuses s i p e rs (pure.reading (stmts_at i d) f at simple (front s i start)) → IsBraced {B = B} i shows s d start p.at (Err e)
       braced_refused e a =
-          fault_is (BodyPart passed d) (pass_braced (body_at i) (given i) (depth_limit - d) f at simple) (body_decides (body_at i) (given i) (depth_limit - d) d room f at simple) (balanced_matches (BodyPart passed d) (body_balanced passed d)) start l e
+          fault_is (BodyPart passed d) (pass_braced (body_at i) (given i) (depth_limit - d) f at simple) (body_decides (body_at i) (given i) (depth_limit - d) d room f at simple) (balanced_matches (BodyPart passed d) (body_balanced passed d)) (NoBody d (front s i start)) start (no_body i (depth_limit - d) d room (front s i start) f at simple) l e
           (subst (λ (g : Parser _). Faults s i e (bare (g (front s i start)))) body_here (fault_bare s i p e rs _ a))

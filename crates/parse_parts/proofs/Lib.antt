@@ -1,6 +1,7 @@
 pub mod Clauses
 pub mod OwnBody
 pub mod OwnClauses
+pub mod Present
 pub mod Quiet
 pub mod Refills
 pub mod Refusals

@@ -37,6 +37,8 @@ use Rattle.parse_bodies.proofs.Parts.{func_read}
 use Rattle.parse_parts.specs.Answers.{IsAlone, IsOutermost}
 use Rattle.parse_parts.proofs.Clauses.{Faults, env_here, fault_is, taken_in, read_bare, fault_bare}
 use Rattle.parse_parts.proofs.OwnBody.{passes, own_body, Stood, none_own, own_stood, own_bad, own_deep, own_read}
+use Rattle.parse_parts.specs.Parts.{NoFunction}
+use Rattle.parse_parts.proofs.Present.{no_function}
 use Rattle.parse_parts.proofs.Takes.{given, takes_alone}
 
 -- the last of what was recorded is the last body on the pending list
@@ -131,7 +133,7 @@ module _ (s : Source) (h : IsSource s) (i : Interpretation) (f : FuncForm) (n : 
 
   -- a fault of the function
   pub alone_refused : {E B : Type 0} (shows : E → Expr → Type 0) (shows_body : B → Stmts → Type 0) (stop : ℕ) (e : ParseFault) → Faults s i e (bare (pass_alone (body_at i) (given i) depth_limit f (front s i start))) → IsAlone {E = E} {B = B} i shows shows_body s f start stop (Err e)
-  alone_refused shows shows_body stop e k = fault_is s h i (FunctionPart passed f None 0) (pass_alone (body_at i) (given i) depth_limit f) (function_decides (body_at i) (given i) depth_limit 0 refl f n) (balanced_matches (FunctionPart passed f None 0) (function_balanced passed f None 0)) start l e k
+  alone_refused shows shows_body stop e k = fault_is s h i (FunctionPart passed f None 0) (pass_alone (body_at i) (given i) depth_limit f) (function_decides (body_at i) (given i) depth_limit 0 refl f n) (balanced_matches (FunctionPart passed f None 0) (function_balanced passed f None 0)) (NoFunction f 0 (front s i start)) start (no_function i depth_limit 0 refl (front s i start) f) l e k
 
   module _ {E B : Type 0} (shows : E → Expr → Type 0) (shows_body : B → Stmts → Type 0) where
     alone_is : (stop : ℕ) (node : NodeFunc E B) (x : Function) → ShowFunc i shows shows_body node x → bare (pass_alone (body_at i) (given i) depth_limit f (front s i start)) ≡ Read x [] (front s i stop) → IsAlone i shows shows_body s f start stop (Ok node)

@@ -2,7 +2,7 @@
 --
 -- Everywhere here `from` are the tokens of the text from the place on where a call began, and `behind` those from the place on
 -- where it stands afterwards. Braced bodies of functions are passed over: they are looked at as tokens whose brackets match.
-use Rattle.std.specs.Prelude.{ℕ, ◌≤◌, ◌-◌, ◌≡◌, List, [], ◌∷◌, ◌++◌, get_or, Bool, Option, None}
+use Rattle.std.specs.Prelude.{ℕ, ◌≤◌, ◌-◌, ◌≡◌, List, [], ◌∷◌, ◌++◌, get_or, Bool, true, Option, None}
 use Rattle.script_grammar.specs.declared.token.Kind.TheVariants as kind
 use Rattle.script_grammar.specs.declared.token.FuncForm.{FuncForm}
 use Rattle.script_grammar.specs.declared.node.NodeFunc.{NodeFunc}
@@ -16,7 +16,9 @@ use Rattle.script_grammar.specs.Print.{print_function}
 use Rattle.script_grammar.specs.Proper.{ProperFunction}
 use Rattle.script_grammar.specs.Script.{IsOf}
 use Rattle.script_grammar.specs.Fault.{depth_limit, Part, Begins, Refusal, FirstFault, AssignPart, ExpressionPart, BodyPart, FunctionPart}
+use Rattle.script_grammar.specs.Endings.{ending}
 use Rattle.pure_parser.specs.Parser.{head_of}
+use Rattle.pure_parser.specs.Follow.{continues_assign, continues_expr}
 use Rattle.pure_parser.specs.Filling.{fill, fill_params, fill_stmts, fill_function}
 use Rattle.parse_exprs.specs.Env.{body_at}
 
@@ -91,3 +93,22 @@ pub record TakesAlone {E B : Type 0} (i : Interpretation) (shows : E → Expr �
   pub next : taken.part.next ≡ head_of behind
   pub ends : (head_of behind).kind ≡ kind.End
   pub shown : ShowFunc i shows shows_body node (fill_inside (body_at i) taken.part.tree)
+
+-- Where there is no such part: wherever one stands in front of the tokens behind it, with no token too deep, the first of these
+-- is one that goes on with an expression.
+
+pub record NoAssign (with_in : Bool) (depth : ℕ) (from : List Lexeme) : Type 0 where
+  pub goes_on : (behind : List Lexeme) (there : Taken (AssignPart passed with_in depth) from behind) → there.part.next ≡ head_of behind → continues_assign with_in (ending there.part.tree) (head_of behind) ≡ true
+
+pub record NoExpression (with_in : Bool) (depth : ℕ) (from : List Lexeme) : Type 0 where
+  pub goes_on : (behind : List Lexeme) (there : Taken (ExpressionPart passed with_in depth) from behind) → there.part.next ≡ head_of behind → continues_expr with_in (ending there.part.tree) (head_of behind) ≡ true
+
+-- and what ends with a brace stands nowhere, nor a whole text in front of the End token
+pub record NoHead (form : FuncForm) (name : Option Named) (depth : ℕ) (from : List Lexeme) : Type 0 where
+  pub none : (behind : List Lexeme) (there : Taken (HeadPart passed form name depth) from behind) → there.part.next ≡ head_of behind → ⊥
+
+pub record NoBody (depth : ℕ) (from : List Lexeme) : Type 0 where
+  pub none : (behind : List Lexeme) (there : Taken (BodyPart passed depth) from behind) → there.part.next ≡ head_of behind → ⊥
+
+pub record NoFunction (form : FuncForm) (depth : ℕ) (from : List Lexeme) : Type 0 where
+  pub none : (behind : List Lexeme) (there : Taken (FunctionPart passed form None depth) from behind) → there.part.next ≡ head_of behind → (head_of behind).kind ≡ kind.End → ⊥

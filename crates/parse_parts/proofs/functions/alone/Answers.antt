@@ -1,5 +1,6 @@
 use Rattle.std.proofs.Common.{◌≡◌, ◌∙◌, sym, subst, Ok, Err, Some}
 use Rattle.pure_parser.specs.Exprs.{is_simple}
+use Rattle.parse_exprs.specs.Answers.{records}
 use Rattle.parse_bodies.specs.Whole.{lacks_memory}
 use Rattle.parse_parts.specs.Answers.{IsAlone, IsOutermost}
 use Rattle.parse_parts.proofs.Clauses.{handed_on}
@@ -29,7 +30,7 @@ returns-in_err-read g c = λ i.
     let outer = subst (λ ps. IsOutermost ps (Some c.in-Some.own)) c.deref.ensures.value c.in-Some.ensures in
     let stood = own_there s c.requires.source i c.args.form c.requires.no_script start c.requires.place shows shows_body p c.alone-passed.result (sym c.lacks_memory.ensures ∙ c.if-lacks_memory.false) c.in-Some.own outer passes in
     handed_on (IsAlone i shows shows_body s c.args.form start q.at) c.in_err-read.field-0.0 c.from_residual.result c.from_residual.ensures.1
-    (own_refused s c.requires.source i c.args.form c.requires.no_script start c.requires.place shows shows_body c.in-Some.own stood q _ c.in_err-read.field-0.0 (c.in_err-read.ensures i c.args.form stood.head.start (is_simple stood.head.params)) q.at)
+    (own_refused s c.requires.source i c.args.form c.requires.no_script start c.requires.place shows shows_body c.in-Some.own stood q (records s i (record { at = c.in-Some.own.token; pending = c.pop.new.self })) c.in_err-read.field-0.0 (c.in_err-read.ensures i c.args.form stood.head.start (is_simple stood.head.params)) q.at)
 
 pub returns-in_err-func : goal.returns-in_err-func
 returns-in_err-func g c = λ i.

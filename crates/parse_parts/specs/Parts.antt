@@ -94,8 +94,8 @@ pub record TakesAlone {E B : Type 0} (i : Interpretation) (shows : E → Expr �
   pub ends : (head_of behind).kind ≡ kind.End
   pub shown : ShowFunc i shows shows_body node (fill_inside (body_at i) taken.part.tree)
 
--- Where there is no such part: wherever one stands in front of the tokens behind it, with no token too deep, the first of these
--- is one that goes on with an expression.
+-- Where there is no such part, as far as the token behind it tells: wherever one stands there, with no token too deep, the token
+-- behind it goes on with it, as a member, a call, an operator or `=>` on its line does.
 
 pub record NoAssign (with_in : Bool) (depth : ℕ) (from : List Lexeme) : Type 0 where
   pub goes_on : (behind : List Lexeme) (there : Taken (AssignPart passed with_in depth) from behind) → there.part.next ≡ head_of behind → continues_assign with_in (ending there.part.tree) (head_of behind) ≡ true
@@ -103,7 +103,9 @@ pub record NoAssign (with_in : Bool) (depth : ℕ) (from : List Lexeme) : Type 0
 pub record NoExpression (with_in : Bool) (depth : ℕ) (from : List Lexeme) : Type 0 where
   pub goes_on : (behind : List Lexeme) (there : Taken (ExpressionPart passed with_in depth) from behind) → there.part.next ≡ head_of behind → continues_expr with_in (ending there.part.tree) (head_of behind) ≡ true
 
--- and what ends with a brace stands nowhere, nor a whole text in front of the End token
+-- And where no token behind it matters there is none: what ends with a brace stands nowhere, and a function not in front of the
+-- End token.
+
 pub record NoHead (form : FuncForm) (name : Option Named) (depth : ℕ) (from : List Lexeme) : Type 0 where
   pub none : (behind : List Lexeme) (there : Taken (HeadPart passed form name depth) from behind) → there.part.next ≡ head_of behind → ⊥
 

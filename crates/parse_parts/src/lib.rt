@@ -14,3 +14,5 @@
 pub mod bodies;
 pub mod exprs;
 pub mod functions;
+#[cfg(test)]
+mod tests;

@@ -1,10 +1,10 @@
 -- A part that stands in front of the tokens behind it is read, where no token of it is too deep. So there is none where the
 -- parser faults.
-use Rattle.std.proofs.Common.{◌≡◌, ◌∙◌, ℕ, suc, ◌+◌, List, [], ◌∷◌, ◌++◌, refl, sym, ap, subst, Bool, true, false, Option, None, ◌⊎◌, inl, inr}
+use Rattle.std.proofs.Common.{◌≡◌, ◌∙◌, ℕ, suc, ◌+◌, List, [], ◌++◌, sym, ap, subst, Bool, true, false, Option, None, ◌⊎◌, inl, inr}
 use Rattle.script_grammar.specs.declared.token.FuncForm.{FuncForm}
 use Rattle.script_grammar.specs.declared.token.Kind.TheVariants as kind
 use Rattle.script_grammar.specs.Endings.{ending}
-use Rattle.script_grammar.specs.Fault.{depth_limit, AssignPart, ExpressionPart, BodyPart, FunctionPart}
+use Rattle.script_grammar.specs.Fault.{depth_limit, AssignPart, ExpressionPart}
 use Rattle.script_grammar.specs.Interpretation.{Interpretation}
 use Rattle.script_grammar.specs.Kinds.{is_end}
 use Rattle.script_grammar.specs.Lexeme.{Lexeme}
@@ -12,7 +12,7 @@ use Rattle.script_grammar.specs.Pieces.{passed, depths}
 use Rattle.script_grammar.specs.Print.{print, print_function}
 use Rattle.script_grammar.specs.Script.{IsAssign, IsExpression, IsFunction, IsBody, print_braced, print_alone}
 use Rattle.script_grammar.specs.Tree.{Named, Expr, Stmts, Function}
-use Rattle.pure_parser.specs.Parser.{Reply, Read, Parser, head_of}
+use Rattle.pure_parser.specs.Parser.{Read, Parser, head_of}
 use Rattle.pure_parser.specs.Exprs.{BodyRead}
 use Rattle.pure_parser.specs.Follow.{continues_assign, continues_expr}
 use Rattle.pure_parser.proofs.Complete.{bare}
@@ -20,12 +20,11 @@ use Rattle.pure_parser.proofs.CompleteFunctions.{PlainForm}
 use Rattle.pure_parser.proofs.PartLaws.{NoneDeep}
 use Rattle.pure_parser.proofs.PassedBodies.{pass_braced, body_is_passed}
 use Rattle.pure_parser.proofs.PassedFunctions.{pass_alone, function_is_passed}
-use Rattle.pure_parser.proofs.PassedHeads as heads
 use Rattle.pure_parser.proofs.PassedHeads.{pass_head, head_is_passed}
 use Rattle.pure_parser.proofs.PassedParts.{pass_assign, pass_expression, assign_is_passed, expression_is_passed}
 use Rattle.pure_parser.proofs.Tests.{bool_cases}
 use Rattle.parse_exprs.specs.Env.{body_at}
-use Rattle.parse_parts.specs.Parts.{IsHead, HeadPart, Taken, NoAssign, NoExpression, NoHead, NoBody, NoFunction}
+use Rattle.parse_parts.specs.Parts.{IsHead, Taken, NoAssign, NoExpression, NoHead, NoBody, NoFunction}
 use Rattle.parse_parts.proofs.Takes.{given}
 
 -- a parser reads nothing from these

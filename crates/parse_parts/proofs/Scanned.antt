@@ -6,7 +6,7 @@ use Rattle.std.proofs.lemmas.Bool.{ne_eqb, eq-eqb}
 use Rattle.std.proofs.lemmas.List.{get_or_default}
 use borrow.Author.Count.{below_more}
 use Rattle.script_grammar.specs.declared.token.Token.{Token}
-use Rattle.parse_exprs.specs.Source.{HasAtom, ends_all, IsScanned}
+use Rattle.parse_exprs.specs.Source.{ends_all, IsScanned}
 
 -- the value of this token is below 2^32, and it is End or Bad where it is the last
 pub record ScannedAt (ts : List Token) (k : ℕ) : Type 0 where

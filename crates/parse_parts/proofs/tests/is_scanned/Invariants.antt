@@ -1,7 +1,4 @@
-use Rattle.std.proofs.Common.{◌≡◌, ℕ, suc, ◌<◌, ◌^◌, length, nat_eq}
-use Rattle.std.specs.Prelude.{slice_index_or}
-use Rattle.script_grammar.specs.declared.token.Token.{Token}
-use Rattle.parse_exprs.specs.Source.{ends_all}
+use Rattle.std.proofs.Common.{ℕ, ◌<◌}
 use Rattle.parse_parts.proofs.Scanned.{ScannedAt}
 use Rattle.parse_parts.proofs.tests.is_scanned.Given as goal
 

@@ -1,0 +1,12 @@
+pub mod Clauses
+pub mod OwnBody
+pub mod OwnClauses
+pub mod Present
+pub mod Quiet
+pub mod Refills
+pub mod Refusals
+pub mod Rooms
+pub mod Scanned
+pub mod Spine
+pub mod Suffixes
+pub mod Takes

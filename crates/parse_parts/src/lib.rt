@@ -1,0 +1,18 @@
+//! The parsers of the parts of a script, stated in the words of the grammar.
+//!
+//! It stands on parse_exprs and parse_bodies, whose functions are stated by what the same parser on lists of lexemes answers.
+//! Each call here reads one part from the present token on: an AssignmentExpression, an Expression, a function from its
+//! parameters on, a braced body, or one function that is the whole text. After Ok the tokens between the two places are such a
+//! part with no token too deep, and the node stands for its tree; the place stands at a token of the text. Otherwise the fault
+//! is the first fault of such a part of these tokens. Nothing is said where memory ran out. So a caller that reads one part
+//! alone, as a tool that evaluates an expression, needs no more than these clauses (specs/Answers.antt, specs/Parts.antt).
+//!
+//! Braced bodies of functions inside a part are passed over and put on the pending list: they are looked at as tokens whose
+//! brackets match. Of a function that is read alone, and of a body, the own statements are read.
+#![tactic(auto)]
+
+pub mod bodies;
+pub mod exprs;
+pub mod functions;
+#[cfg(test)]
+mod tests;

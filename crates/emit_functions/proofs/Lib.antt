@@ -1,0 +1,6 @@
+pub mod BodyRows
+pub mod CopyRows
+pub mod FunctionRows
+pub mod ParamRows
+pub mod TopRows
+pub mod VarScopes

@@ -1,0 +1,5 @@
+pub mod BodyCode
+pub mod CopyCode
+pub mod FunctionCode
+pub mod ParamCode
+pub mod TopCode

@@ -19,3 +19,6 @@ pub mod stencils;
 pub mod tops;
 
 pub use stencils::function;
+
+#[cfg(test)]
+mod function_tests;

@@ -1,0 +1,5 @@
+use Rattle.bytecode_buf.proofs.AppendLemmas.{emits_both}
+use Rattle.emit_functions.proofs.params.is_undefined.Goals as goal
+
+pub returns : goal.returns
+returns c = emits_both c.in_ok-reading.ensures (emits_both (c.in_ok-plain.ensures c.args.site.now.texts.now) (c.in_ok-plain-2.ensures c.args.site.now.texts.now))

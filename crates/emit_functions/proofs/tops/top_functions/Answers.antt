@@ -1,0 +1,13 @@
+use Rattle.std.proofs.Common.{drop_of_length-le}
+use Rattle.emit_exprs.proofs.Lists.{next_of}
+use Rattle.emit_functions.proofs.TopRows as list
+use Rattle.emit_functions.proofs.tops.top_functions.Goals as goal
+
+pub loop-item-init : goal.loop-item-init
+loop-item-init c = list.functions_begin _ _ _
+
+pub loop-item-preserved : goal.loop-item-preserved
+loop-item-preserved c = list.functions_next _ _ c.item-item.result (next_of c.args.items.now c.loop-item.item-index c.item-item.result c.loop-item-test.true c.item-item.is) c.in_ok-top_function.ensures c.loop-item.invariant
+
+pub returns : goal.returns
+returns c = list.functions_end _ (drop_of_length-le c.args.items.now c.loop-item-test.false) c.loop-item.invariant

@@ -1,33 +1,30 @@
 -- One file: what is printed is the text of its verdict, which is the only one.
 use Rattle.std.proofs.Common.{◌≡◌, ℕ, zero, suc, ◌+◌, ◌<◌, ◌≤◌, Bool, true, false, List, [], ◌∷◌, ◌++◌, length, get_or, Option, Some, None, Vec, map, refl, ap, sym, ◌∙◌, subst, arith}
-use Rattle.std.specs.Str.{IsUtf8}
 use Rattle.std.specs.declared.alloc.Global.{Global}
 use Rattle.script_grammar.specs.declared.token.Token.{Token}
-use Rattle.script_grammar.specs.declared.tree.Stmt.{Stmt}
 use Rattle.script_grammar.specs.Fault.{Refusal as Fault, Unexpected, TooDeep}
 use Rattle.script_grammar.specs.Interpretation.{Interpretation}
 use Rattle.script_grammar.specs.Lexeme.{Lexeme, lexeme_of}
 use Rattle.script_grammar.specs.Tree.{Stmts}
-use Rattle.script_grammar.specs.TreeLists.{stmts_of}
-use Rattle.script_grammar.specs.TreeOf.{stmt_of}
 use Rattle.bytecode_buf.specs.Width.{width_of}
 use Rattle.bytecode_buf.specs.Layout.{Numbered}
 use Rattle.bytecode_buf.specs.Command.{Command, command_of, command_at, listed_from, Listed, placed_from, placed}
 use Rattle.outside.specs.Loops.{IsWholeWithin}
-use Rattle.parse_exprs.specs.Env.{body_at}
 use Rattle.script_scanner.specs.Lexemes.{lexemes}
 use Rattle.compile_session.specs.declared.file.Outcome.{Outcome}
 use Rattle.compile_session.specs.declared.file.Outcome.TheVariants as outcome
+use Rattle.parse_track.specs.declared.region.Early.{Early}
+use Rattle.parse_track.specs.Notes.{early_error}
+use Rattle.compile_session.specs.declared.words.Purpose.{Purpose}
+use Rattle.compile_session.specs.declared.words.Purpose.TheVariants as purpose
 use Rattle.compile_session.specs.declared.refusal.Refusal.{Refusal}
 use Rattle.compile_session.specs.declared.refusal.Refusal.TheVariants as refusal
 use Rattle.compile_session.specs.Built.{are_built_stmts}
 use Rattle.compile_session.specs.Code.{script_code}
 use Rattle.compile_session.specs.Emission.{Emits}
 use Rattle.compile_session.specs.Listing.{listing, AppendsListing}
-use Rattle.compile_session.specs.Reading.{IsKept}
-use Rattle.compile_session.specs.Verdict.{Verdict, IsListed, IsRefused, IsRefusedAs, IsVerdict, head_text, script_text, refusal_text, start_of, most_bytes}
-use Rattle.compile_session.specs.Answers.{IsListing, IsScriptOutcome, IsOutcome, Settles}
-use Rattle.compile_session.proofs.BuiltLemmas.{stmts_fill, same_stmts}
+use Rattle.compile_session.specs.Verdict.{Verdict, IsListed, IsFine, IsRefused, IsFaultless, IsEarly, IsFaulty, IsListedAs, IsFineAs, IsUnbuiltAs, Reads, IsRefusedAs, IsVerdict, head_text, script_text, refusal_text, start_of, most_bytes}
+use Rattle.compile_session.specs.Answers.{IsOutcome, Settles}
 use Rattle.compile_session.proofs.TextLemmas.{one_text, text_no_fault, one_offset, one_kind}
 
 -- listed instructions are their commands at their places
@@ -68,105 +65,158 @@ unlike e = cc
 never_both_built : (b : Bool) → b ≡ true → b ≡ false → ⊥
 never_both_built b t f = let e = sym t ∙ f in cc
 
-refusals_equal : (before : ℕ) (file : List ℕ) (one two : Refusal) → IsRefusedAs before file one → IsRefusedAs before file two → one ≡ two
-refusals_equal before file refusal.TooLong refusal.TooLong h k = refl
-refusals_equal before file refusal.TooLong (refusal.BadUtf8 offset) h k = absurd (omega (arith, h, k.0))
-refusals_equal before file refusal.TooLong (refusal.Unexpected offset) h k = absurd (omega (arith, h, k.0))
-refusals_equal before file refusal.TooLong (refusal.TooDeep offset) h k = absurd (omega (arith, h, k.0))
-refusals_equal before file refusal.TooLong refusal.NotBuilt h k = absurd (omega (arith, h, k.0))
-refusals_equal before file (refusal.BadUtf8 offset) refusal.TooLong h k = absurd (omega (arith, h.0, k))
-refusals_equal before file (refusal.BadUtf8 offset) (refusal.BadUtf8 other) h k = ap refusal.BadUtf8 (h.2 ∙ sym k.2)
-refusals_equal before file (refusal.BadUtf8 offset) (refusal.Unexpected other) h k = absurd (h.1 k.1)
-refusals_equal before file (refusal.BadUtf8 offset) (refusal.TooDeep other) h k = absurd (h.1 k.1)
-refusals_equal before file (refusal.BadUtf8 offset) refusal.NotBuilt h k = absurd (h.1 k.1)
-refusals_equal before file (refusal.Unexpected offset) refusal.TooLong h k = absurd (omega (arith, h.0, k))
-refusals_equal before file (refusal.Unexpected offset) (refusal.BadUtf8 other) h k = absurd (k.1 h.1)
-refusals_equal before file (refusal.Unexpected offset) (refusal.Unexpected other) h k = ap refusal.Unexpected (one_offset (lexemes file) Unexpected Unexpected offset other h.2 k.2)
-refusals_equal before file (refusal.Unexpected offset) (refusal.TooDeep other) h k = absurd (unlike (one_kind (lexemes file) Unexpected TooDeep offset other h.2 k.2))
-refusals_equal before file (refusal.Unexpected offset) refusal.NotBuilt h k = absurd (text_no_fault (lexemes file) k.2.script Unexpected offset k.2.text h.2)
-refusals_equal before file (refusal.TooDeep offset) refusal.TooLong h k = absurd (omega (arith, h.0, k))
-refusals_equal before file (refusal.TooDeep offset) (refusal.BadUtf8 other) h k = absurd (k.1 h.1)
-refusals_equal before file (refusal.TooDeep offset) (refusal.Unexpected other) h k = absurd (unlike (one_kind (lexemes file) Unexpected TooDeep other offset k.2 h.2))
-refusals_equal before file (refusal.TooDeep offset) (refusal.TooDeep other) h k = ap refusal.TooDeep (one_offset (lexemes file) TooDeep TooDeep offset other h.2 k.2)
-refusals_equal before file (refusal.TooDeep offset) refusal.NotBuilt h k = absurd (text_no_fault (lexemes file) k.2.script TooDeep offset k.2.text h.2)
-refusals_equal before file refusal.NotBuilt refusal.TooLong h k = absurd (omega (arith, h.0, k))
-refusals_equal before file refusal.NotBuilt (refusal.BadUtf8 offset) h k = absurd (k.1 h.1)
-refusals_equal before file refusal.NotBuilt (refusal.Unexpected offset) h k = absurd (text_no_fault (lexemes file) h.2.script Unexpected offset h.2.text k.2)
-refusals_equal before file refusal.NotBuilt (refusal.TooDeep offset) h k = absurd (text_no_fault (lexemes file) h.2.script TooDeep offset h.2.text k.2)
-refusals_equal before file refusal.NotBuilt refusal.NotBuilt h k = refl
+-- what is listed, fine or not built is a script without early errors
 
-never_both : (before : ℕ) (file : List ℕ) (script : Stmts) (why : Refusal) → IsVerdict before file (IsListed script) → IsRefusedAs before file why → ⊥
-never_both before file script refusal.TooLong h k = omega (arith, h.0, k)
-never_both before file script (refusal.BadUtf8 offset) h k = k.1 h.1
-never_both before file script (refusal.Unexpected offset) h k = text_no_fault (lexemes file) script Unexpected offset h.2.text k.2
-never_both before file script (refusal.TooDeep offset) h k = text_no_fault (lexemes file) script TooDeep offset h.2.text k.2
-never_both before file script refusal.NotBuilt h k = never_both_built (are_built_stmts script) h.2.built (ap are_built_stmts (one_text (lexemes file) script k.2.script h.2.text k.2.text) ∙ k.2.built)
+listed_valid : (wanted : Purpose) (ts : List Lexeme) (script : Stmts) → IsListedAs wanted ts script → IsFaultless ts script
+listed_valid purpose.Code ts script h = h.valid
+listed_valid purpose.Check ts script h = absurd h
 
-pub verdicts_equal : (before : ℕ) (file : List ℕ) (one two : Verdict) → IsVerdict before file one → IsVerdict before file two → one ≡ two
-verdicts_equal before file (IsListed script) (IsListed other) h k = ap IsListed (one_text (lexemes file) script other h.2.text k.2.text)
-verdicts_equal before file (IsListed script) (IsRefused why) h k = absurd (never_both before file script why h k)
-verdicts_equal before file (IsRefused why) (IsListed script) h k = absurd (never_both before file script why k h)
-verdicts_equal before file (IsRefused why) (IsRefused other) h k = ap IsRefused (refusals_equal before file why other h k)
+fine_valid : (wanted : Purpose) (ts : List Lexeme) (script : Stmts) → IsFineAs wanted ts script → IsFaultless ts script
+fine_valid purpose.Code ts script h = absurd h
+fine_valid purpose.Check ts script h = h
 
--- What becomes of a file that was read.
+unbuilt_valid : (wanted : Purpose) (ts : List Lexeme) → IsUnbuiltAs wanted ts → (script : Stmts) × IsFaultless ts script
+unbuilt_valid purpose.Code ts h = (h.script, h.valid)
+unbuilt_valid purpose.Check ts h = absurd h
 
--- its script is listed, or is not of the built form
-pub script_outcome : (name : List ℕ) (size : ℕ) (i : Interpretation) (tokens : List Lexeme) (statements : List Stmt) (o : Outcome) → IsKept i tokens statements → IsListing name size (stmts_of (map (stmt_of i) statements)) o → IsScriptOutcome name size tokens o
-script_outcome name size i tokens statements (outcome.Listed text) kept h =
-    let built : are_built_stmts kept.items ≡ true = sym (ap are_built_stmts kept.shown ∙ stmts_fill (body_at i) kept.items) ∙ h.0 in
-    (kept.items, record { text = kept.is; built = built }, h.1 ∙ ap (script_text name size) (kept.shown ∙ same_stmts (body_at i) kept.items built))
-script_outcome name size i tokens statements (outcome.Refused refusal.NotBuilt) kept h =
-    record { script = kept.items; text = kept.is; built = sym (ap are_built_stmts kept.shown ∙ stmts_fill (body_at i) kept.items) ∙ h }
-script_outcome name size i tokens statements (outcome.Refused refusal.TooLong) kept h = absurd h
-script_outcome name size i tokens statements (outcome.Refused (refusal.BadUtf8 offset)) kept h = absurd h
-script_outcome name size i tokens statements (outcome.Refused (refusal.Unexpected offset)) kept h = absurd h
-script_outcome name size i tokens statements (outcome.Refused (refusal.TooDeep offset)) kept h = absurd h
+-- and has no fault and no early error
 
--- the same, where the call for the listing sees the statements and the texts as slices
-pub seen_outcome : (name : List ℕ) (size : ℕ) (i : Interpretation) (tokens : List Lexeme) (statements seen_statements : List Stmt) (seen_texts : List (List ℕ)) (o : Outcome) → seen_statements ≡ statements → seen_texts ≡ i.texts → IsKept i tokens statements → IsListing name size (stmts_of (map (stmt_of (record { texts = seen_texts; bodies = i.bodies })) seen_statements)) o → IsScriptOutcome name size tokens o
-seen_outcome name size i tokens statements seen_statements seen_texts o same same_texts kept h =
-    script_outcome name size i tokens statements o kept
-    (subst (λ (ss : List Stmt). IsListing name size (stmts_of (map (stmt_of i) ss)) o) same
-    (subst (λ (ts : List (List ℕ)). IsListing name size (stmts_of (map (stmt_of (record { texts = ts; bodies = i.bodies })) seen_statements)) o) same_texts h))
+valid_no_fault : (ts : List Lexeme) (script : Stmts) (why : Fault) (offset : ℕ) → IsFaultless ts script → IsFaulty ts why offset → ⊥
+valid_no_fault ts script why offset h k = text_no_fault ts script why offset h.text k
 
--- the tokens are those of a file
-pub file_outcome : (name bytes : List ℕ) (tokens : List Lexeme) (o : Outcome) → length bytes ≤ most_bytes → IsUtf8 bytes → tokens ≡ lexemes bytes → IsScriptOutcome name (length bytes) tokens o → IsOutcome name bytes o
-file_outcome name bytes tokens o short utf8 same h = by o (subst (λ (ts : List Lexeme). IsScriptOutcome name (length bytes) ts o) same h)
-  where
-    by : (o : Outcome) → IsScriptOutcome name (length bytes) (lexemes bytes) o → IsOutcome name bytes o
-    by (outcome.Listed text) k = (k.0, (omega (arith, short), utf8, k.1), k.2)
-    by (outcome.Refused (refusal.Unexpected offset)) k = (omega (arith, short), utf8, k)
-    by (outcome.Refused (refusal.TooDeep offset)) k = (omega (arith, short), utf8, k)
-    by (outcome.Refused refusal.NotBuilt) k = (omega (arith, short), utf8, k)
-    by (outcome.Refused refusal.TooLong) k = absurd k
-    by (outcome.Refused (refusal.BadUtf8 offset)) k = absurd k
+none_some : (e : Early) → ◌≡◌ {A = Option Early} None (Some e) → ⊥
+none_some e h = cc
+
+valid_no_early : (ts : List Lexeme) (script : Stmts) (e : Early) → IsFaultless ts script → IsEarly ts e → ⊥
+valid_no_early ts script e h k = none_some e (sym h.faultless ∙ ap early_error (one_text ts script k.script h.text k.text) ∙ k.first)
+
+same_valid : (ts : List Lexeme) (a b : Stmts) → IsFaultless ts a → IsFaultless ts b → a ≡ b
+same_valid ts a b h k = one_text ts a b h.text k.text
+
+some_same : (a b : Early) → ◌≡◌ {A = Option Early} (Some a) (Some b) → a ≡ b
+some_same a b h = cc
+
+one_early : (ts : List Lexeme) (a b : Early) → IsEarly ts a → IsEarly ts b → a ≡ b
+one_early ts a b h k = some_same a b (sym h.first ∙ ap early_error (one_text ts h.script k.script h.text k.text) ∙ k.first)
+
+unbuilt_no_fault : (wanted : Purpose) (ts : List Lexeme) (why : Fault) (offset : ℕ) → IsUnbuiltAs wanted ts → IsFaulty ts why offset → ⊥
+unbuilt_no_fault wanted ts why offset h k = let v = unbuilt_valid wanted ts h in valid_no_fault ts v.0 why offset v.1 k
+
+unbuilt_no_early : (wanted : Purpose) (ts : List Lexeme) (e : Early) → IsUnbuiltAs wanted ts → IsEarly ts e → ⊥
+unbuilt_no_early wanted ts e h k = let v = unbuilt_valid wanted ts h in valid_no_early ts v.0 e v.1 k
+
+early_no_fault : (ts : List Lexeme) (e : Early) (why : Fault) (offset : ℕ) → IsEarly ts e → IsFaulty ts why offset → ⊥
+early_no_fault ts e why offset h k = text_no_fault ts h.script why offset h.text k
+
+refusals_equal : (wanted : Purpose) (before : ℕ) (file : List ℕ) (one two : Refusal) → IsRefusedAs wanted before file one → IsRefusedAs wanted before file two → one ≡ two
+refusals_equal wanted before file refusal.TooLong refusal.TooLong h k = refl
+refusals_equal wanted before file refusal.TooLong (refusal.BadUtf8 offset) h k = absurd (omega (arith, h, k.0))
+refusals_equal wanted before file refusal.TooLong (refusal.Unexpected offset) h k = absurd (omega (arith, h, k.0))
+refusals_equal wanted before file refusal.TooLong (refusal.TooDeep offset) h k = absurd (omega (arith, h, k.0))
+refusals_equal wanted before file refusal.TooLong (refusal.Early offset rule) h k = absurd (omega (arith, h, k.0))
+refusals_equal wanted before file refusal.TooLong refusal.NotBuilt h k = absurd (omega (arith, h, k.0))
+refusals_equal wanted before file (refusal.BadUtf8 offset) refusal.TooLong h k = absurd (omega (arith, h.0, k))
+refusals_equal wanted before file (refusal.BadUtf8 offset) (refusal.BadUtf8 other) h k = ap refusal.BadUtf8 (h.2 ∙ sym k.2)
+refusals_equal wanted before file (refusal.BadUtf8 offset) (refusal.Unexpected other) h k = absurd (h.1 k.1)
+refusals_equal wanted before file (refusal.BadUtf8 offset) (refusal.TooDeep other) h k = absurd (h.1 k.1)
+refusals_equal wanted before file (refusal.BadUtf8 offset) (refusal.Early other rule) h k = absurd (h.1 k.1)
+refusals_equal wanted before file (refusal.BadUtf8 offset) refusal.NotBuilt h k = absurd (h.1 k.1)
+refusals_equal wanted before file (refusal.Unexpected offset) refusal.TooLong h k = absurd (omega (arith, h.0, k))
+refusals_equal wanted before file (refusal.Unexpected offset) (refusal.BadUtf8 other) h k = absurd (k.1 h.1)
+refusals_equal wanted before file (refusal.Unexpected offset) (refusal.Unexpected other) h k = ap refusal.Unexpected (one_offset (lexemes file) Unexpected Unexpected offset other h.2 k.2)
+refusals_equal wanted before file (refusal.Unexpected offset) (refusal.TooDeep other) h k = absurd (unlike (one_kind (lexemes file) Unexpected TooDeep offset other h.2 k.2))
+refusals_equal wanted before file (refusal.Unexpected offset) (refusal.Early other rule) h k = absurd (early_no_fault (lexemes file) _ Unexpected offset k.2 h.2)
+refusals_equal wanted before file (refusal.Unexpected offset) refusal.NotBuilt h k = absurd (unbuilt_no_fault wanted (lexemes file) Unexpected offset k.2 h.2)
+refusals_equal wanted before file (refusal.TooDeep offset) refusal.TooLong h k = absurd (omega (arith, h.0, k))
+refusals_equal wanted before file (refusal.TooDeep offset) (refusal.BadUtf8 other) h k = absurd (k.1 h.1)
+refusals_equal wanted before file (refusal.TooDeep offset) (refusal.Unexpected other) h k = absurd (unlike (one_kind (lexemes file) Unexpected TooDeep other offset k.2 h.2))
+refusals_equal wanted before file (refusal.TooDeep offset) (refusal.TooDeep other) h k = ap refusal.TooDeep (one_offset (lexemes file) TooDeep TooDeep offset other h.2 k.2)
+refusals_equal wanted before file (refusal.TooDeep offset) (refusal.Early other rule) h k = absurd (early_no_fault (lexemes file) _ TooDeep offset k.2 h.2)
+refusals_equal wanted before file (refusal.TooDeep offset) refusal.NotBuilt h k = absurd (unbuilt_no_fault wanted (lexemes file) TooDeep offset k.2 h.2)
+refusals_equal wanted before file (refusal.Early offset rule) refusal.TooLong h k = absurd (omega (arith, h.0, k))
+refusals_equal wanted before file (refusal.Early offset rule) (refusal.BadUtf8 other) h k = absurd (k.1 h.1)
+refusals_equal wanted before file (refusal.Early offset rule) (refusal.Unexpected other) h k = absurd (early_no_fault (lexemes file) _ Unexpected other h.2 k.2)
+refusals_equal wanted before file (refusal.Early offset rule) (refusal.TooDeep other) h k = absurd (early_no_fault (lexemes file) _ TooDeep other h.2 k.2)
+refusals_equal wanted before file (refusal.Early offset rule) (refusal.Early other other_rule) h k =
+    ap (λ (e : Early). refusal.Early e.offset e.rule) (one_early (lexemes file) (record { offset = offset; rule = rule }) (record { offset = other; rule = other_rule }) h.2 k.2)
+refusals_equal wanted before file (refusal.Early offset rule) refusal.NotBuilt h k = absurd (unbuilt_no_early wanted (lexemes file) _ k.2 h.2)
+refusals_equal wanted before file refusal.NotBuilt refusal.TooLong h k = absurd (omega (arith, h.0, k))
+refusals_equal wanted before file refusal.NotBuilt (refusal.BadUtf8 offset) h k = absurd (k.1 h.1)
+refusals_equal wanted before file refusal.NotBuilt (refusal.Unexpected offset) h k = absurd (unbuilt_no_fault wanted (lexemes file) Unexpected offset h.2 k.2)
+refusals_equal wanted before file refusal.NotBuilt (refusal.TooDeep offset) h k = absurd (unbuilt_no_fault wanted (lexemes file) TooDeep offset h.2 k.2)
+refusals_equal wanted before file refusal.NotBuilt (refusal.Early offset rule) h k = absurd (unbuilt_no_early wanted (lexemes file) _ h.2 k.2)
+refusals_equal wanted before file refusal.NotBuilt refusal.NotBuilt h k = refl
+
+-- a script without early errors is refused at most for its form
+never_refused : (wanted : Purpose) (before : ℕ) (file : List ℕ) (script : Stmts) (why : Refusal) → Reads before file (IsFaultless (lexemes file) script) → (IsUnbuiltAs wanted (lexemes file) → ⊥) → IsRefusedAs wanted before file why → ⊥
+never_refused wanted before file script refusal.TooLong h n k = omega (arith, h.0, k)
+never_refused wanted before file script (refusal.BadUtf8 offset) h n k = k.1 h.1
+never_refused wanted before file script (refusal.Unexpected offset) h n k = valid_no_fault (lexemes file) script Unexpected offset h.2 k.2
+never_refused wanted before file script (refusal.TooDeep offset) h n k = valid_no_fault (lexemes file) script TooDeep offset h.2 k.2
+never_refused wanted before file script (refusal.Early offset rule) h n k = valid_no_early (lexemes file) script _ h.2 k.2
+never_refused wanted before file script refusal.NotBuilt h n k = n k.2
+
+listed_built : (wanted : Purpose) (ts : List Lexeme) (script : Stmts) → IsListedAs wanted ts script → IsUnbuiltAs wanted ts → ⊥
+listed_built purpose.Code ts script h k = never_both_built (are_built_stmts script) h.built (ap are_built_stmts (same_valid ts script k.script h.valid k.valid) ∙ k.built)
+listed_built purpose.Check ts script h k = h
+
+fine_built : (wanted : Purpose) (ts : List Lexeme) (script : Stmts) → IsFineAs wanted ts script → IsUnbuiltAs wanted ts → ⊥
+fine_built purpose.Code ts script h k = h
+fine_built purpose.Check ts script h k = k
+
+listed_fine : (wanted : Purpose) (ts : List Lexeme) (one two : Stmts) → IsListedAs wanted ts one → IsFineAs wanted ts two → ⊥
+listed_fine purpose.Code ts one two h k = k
+listed_fine purpose.Check ts one two h k = h
+
+listed_refused : (wanted : Purpose) (before : ℕ) (file : List ℕ) (script : Stmts) (why : Refusal) → IsVerdict wanted before file (IsListed script) → IsRefusedAs wanted before file why → ⊥
+listed_refused wanted before file script why h k = never_refused wanted before file script why (h.0, h.1, listed_valid wanted (lexemes file) script h.2) (listed_built wanted (lexemes file) script h.2) k
+
+fine_refused : (wanted : Purpose) (before : ℕ) (file : List ℕ) (script : Stmts) (why : Refusal) → IsVerdict wanted before file (IsFine script) → IsRefusedAs wanted before file why → ⊥
+fine_refused wanted before file script why h k = never_refused wanted before file script why (h.0, h.1, fine_valid wanted (lexemes file) script h.2) (fine_built wanted (lexemes file) script h.2) k
+
+pub verdicts_equal : (wanted : Purpose) (before : ℕ) (file : List ℕ) (one two : Verdict) → IsVerdict wanted before file one → IsVerdict wanted before file two → one ≡ two
+verdicts_equal wanted before file (IsListed script) (IsListed other) h k = ap IsListed (same_valid (lexemes file) script other (listed_valid wanted (lexemes file) script h.2) (listed_valid wanted (lexemes file) other k.2))
+verdicts_equal wanted before file (IsListed script) (IsFine other) h k = absurd (listed_fine wanted (lexemes file) script other h.2 k.2)
+verdicts_equal wanted before file (IsListed script) (IsRefused why) h k = absurd (listed_refused wanted before file script why h k)
+verdicts_equal wanted before file (IsFine script) (IsListed other) h k = absurd (listed_fine wanted (lexemes file) other script k.2 h.2)
+verdicts_equal wanted before file (IsFine script) (IsFine other) h k = ap IsFine (same_valid (lexemes file) script other (fine_valid wanted (lexemes file) script h.2) (fine_valid wanted (lexemes file) other k.2))
+verdicts_equal wanted before file (IsFine script) (IsRefused why) h k = absurd (fine_refused wanted before file script why h k)
+verdicts_equal wanted before file (IsRefused why) (IsListed script) h k = absurd (listed_refused wanted before file script why k h)
+verdicts_equal wanted before file (IsRefused why) (IsFine script) h k = absurd (fine_refused wanted before file script why k h)
+verdicts_equal wanted before file (IsRefused why) (IsRefused other) h k = ap IsRefused (refusals_equal wanted before file why other h k)
 
 -- Verdicts.
 
-pub settles_long : (name text file : List ℕ) (refused : Bool) (read : Option (Vec ℕ Global)) → read ≡ None → text ≡ refusal_text name refusal.TooLong → refused ≡ true → IsWholeWithin file most_bytes read → Settles name file text refused
-settles_long name text file refused read none printed is_refusal whole = record { verdict = IsRefused refusal.TooLong; is = long; printed = printed; refusal = is_refusal; only = λ other is. verdicts_equal 0 file other (IsRefused refusal.TooLong) is long }
+pub settles_long : (wanted : Purpose) (name text file : List ℕ) (refused : Bool) (read : Option (Vec ℕ Global)) → read ≡ None → text ≡ refusal_text name refusal.TooLong → refused ≡ true → IsWholeWithin file most_bytes read → Settles wanted name file text refused
+settles_long wanted name text file refused read none printed is_refusal whole = record { verdict = IsRefused refusal.TooLong; is = long; printed = printed; refusal = is_refusal; only = λ other is. verdicts_equal wanted 0 file other (IsRefused refusal.TooLong) is long }
   where
     P : Option (Vec ℕ Global) → Type 0
     P r = IsWholeWithin file most_bytes r
 
-    long : IsVerdict 0 file (IsRefused refusal.TooLong)
+    long : IsVerdict wanted 0 file (IsRefused refusal.TooLong)
     long = let beyond : most_bytes < length file = subst P none whole in omega (arith, beyond)
 
 -- the bytes that were read are the file
 whole_of : (file : List ℕ) (read : Option (Vec ℕ Global)) (bytes : Vec ℕ Global) → read ≡ Some bytes → IsWholeWithin file most_bytes read → bytes.items ≡ file
 whole_of file read bytes is whole = let P : Option (Vec ℕ Global) → Type 0 = λ r. IsWholeWithin file most_bytes r in (subst P is whole).0
 
-outcome_whole : (name file seen_bytes : List ℕ) (read : Option (Vec ℕ Global)) (bytes : Vec ℕ Global) (o : Outcome) → read ≡ Some bytes → seen_bytes ≡ bytes.items → IsOutcome name seen_bytes o → IsWholeWithin file most_bytes read → IsOutcome name file o
-outcome_whole name file seen_bytes read bytes o is same comes whole = let P : List ℕ → Type 0 = λ l. IsOutcome name l o in subst P (same ∙ whole_of file read bytes is whole) comes
+outcome_whole : (wanted : Purpose) (name file seen_bytes : List ℕ) (read : Option (Vec ℕ Global)) (bytes : Vec ℕ Global) (o : Outcome) → read ≡ Some bytes → seen_bytes ≡ bytes.items → IsOutcome wanted name seen_bytes o → IsWholeWithin file most_bytes read → IsOutcome wanted name file o
+outcome_whole wanted name file seen_bytes read bytes o is same comes whole = let P : List ℕ → Type 0 = λ l. IsOutcome wanted name l o in subst P (same ∙ whole_of file read bytes is whole) comes
 
-pub settles_listed : (name file seen_bytes : List ℕ) (text : Vec ℕ Global) (read : Option (Vec ℕ Global)) (bytes : Vec ℕ Global) (o : Outcome) → read ≡ Some bytes → seen_bytes ≡ bytes.items → IsOutcome name seen_bytes o → o ≡ outcome.Listed text → IsWholeWithin file most_bytes read → Settles name file text.items false
-settles_listed name file seen_bytes text read bytes o is same comes listed whole =
-    let P : Outcome → Type 0 = λ x. IsOutcome name file x in
-    let got = subst P listed (outcome_whole name file seen_bytes read bytes o is same comes whole) in
-    record { verdict = IsListed got.0; is = got.1; printed = got.2; refusal = refl; only = λ other v. verdicts_equal 0 file other (IsListed got.0) v got.1 }
+pub settles_listed : (wanted : Purpose) (name file seen_bytes : List ℕ) (text : Vec ℕ Global) (read : Option (Vec ℕ Global)) (bytes : Vec ℕ Global) (o : Outcome) → read ≡ Some bytes → seen_bytes ≡ bytes.items → IsOutcome wanted name seen_bytes o → o ≡ outcome.Listed text → IsWholeWithin file most_bytes read → Settles wanted name file text.items false
+settles_listed wanted name file seen_bytes text read bytes o is same comes listed whole =
+    let P : Outcome → Type 0 = λ x. IsOutcome wanted name file x in
+    let got = subst P listed (outcome_whole wanted name file seen_bytes read bytes o is same comes whole) in
+    record { verdict = IsListed got.0; is = got.1; printed = got.2; refusal = refl; only = λ other v. verdicts_equal wanted 0 file other (IsListed got.0) v got.1 }
 
-pub settles_refused : (name text file seen_bytes : List ℕ) (refused : Bool) (why : Refusal) (read : Option (Vec ℕ Global)) (bytes : Vec ℕ Global) (o : Outcome) → read ≡ Some bytes → seen_bytes ≡ bytes.items → IsOutcome name seen_bytes o → o ≡ outcome.Refused why → text ≡ refusal_text name why → refused ≡ true → IsWholeWithin file most_bytes read → Settles name file text refused
-settles_refused name text file seen_bytes refused why read bytes o is same comes refuses printed is_refusal whole =
-    let P : Outcome → Type 0 = λ x. IsOutcome name file x in
-    let got = subst P refuses (outcome_whole name file seen_bytes read bytes o is same comes whole) in
-    record { verdict = IsRefused why; is = got; printed = printed; refusal = is_refusal; only = λ other v. verdicts_equal 0 file other (IsRefused why) v got }
+pub settles_fine : (wanted : Purpose) (name file seen_bytes : List ℕ) (text : Vec ℕ Global) (read : Option (Vec ℕ Global)) (bytes : Vec ℕ Global) (o : Outcome) → read ≡ Some bytes → seen_bytes ≡ bytes.items → IsOutcome wanted name seen_bytes o → o ≡ outcome.Fine text → IsWholeWithin file most_bytes read → Settles wanted name file text.items false
+settles_fine wanted name file seen_bytes text read bytes o is same comes fine whole =
+    let P : Outcome → Type 0 = λ x. IsOutcome wanted name file x in
+    let got = subst P fine (outcome_whole wanted name file seen_bytes read bytes o is same comes whole) in
+    record { verdict = IsFine got.0; is = got.1; printed = got.2; refusal = refl; only = λ other v. verdicts_equal wanted 0 file other (IsFine got.0) v got.1 }
+
+pub settles_refused : (wanted : Purpose) (name text file seen_bytes : List ℕ) (refused : Bool) (why : Refusal) (read : Option (Vec ℕ Global)) (bytes : Vec ℕ Global) (o : Outcome) → read ≡ Some bytes → seen_bytes ≡ bytes.items → IsOutcome wanted name seen_bytes o → o ≡ outcome.Refused why → text ≡ refusal_text name why → refused ≡ true → IsWholeWithin file most_bytes read → Settles wanted name file text refused
+settles_refused wanted name text file seen_bytes refused why read bytes o is same comes refuses printed is_refusal whole =
+    let P : Outcome → Type 0 = λ x. IsOutcome wanted name file x in
+    let got = subst P refuses (outcome_whole wanted name file seen_bytes read bytes o is same comes whole) in
+    record { verdict = IsRefused why; is = got; printed = printed; refusal = is_refusal; only = λ other v. verdicts_equal wanted 0 file other (IsRefused why) v got }

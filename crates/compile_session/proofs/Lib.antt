@@ -1,10 +1,11 @@
 pub mod WordLemmas
+pub mod InternLemmas
 pub mod TokenLemmas
 pub mod EmitLemmas
 pub mod ListLemmas
-pub mod BuiltLemmas
 pub mod TextLemmas
 pub mod ReadLemmas
 pub mod FileLemmas
 pub mod RunLemmas
 pub mod Rows
+pub mod OutcomeLemmas

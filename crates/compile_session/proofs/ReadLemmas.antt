@@ -1,5 +1,5 @@
 -- What is read of the tokens up to the stop of their brackets is what all of them are.
-use Rattle.std.proofs.Common.{◌≡◌, ℕ, suc, ◌≤◌, ◌<◌, List, [], ◌∷◌, map, length, take, true, false, Result, Ok, Err, sym, ap, ◌∙◌, subst, arith, length-append}
+use Rattle.std.proofs.Common.{◌≡◌, ℕ, suc, ◌≤◌, ◌<◌, List, [], ◌∷◌, map, length, take, true, false, Result, Ok, Err, refl, sym, ap, ◌∙◌, subst, arith, length-append}
 use Rattle.std.proofs.lemmas.List.{take-map, map-append, length-take}
 use Rattle.std.specs.Prelude.{Vec, IsErrAnd}
 use Rattle.std.proofs.lemmas.Result.{err_from_is_err_and}
@@ -26,7 +26,11 @@ use Rattle.parse_exprs.proofs.Closing.{ended}
 use Rattle.parse_bodies.specs.Whole.{IsText, IsWhole}
 use Rattle.parse_bodies.specs.declared.whole.Script.{Script}
 use Rattle.parse_handlers.specs.Kept.{IsBody}
-use Rattle.compile_session.specs.Reading.{IsKept, IsReading}
+use Rattle.script_grammar.specs.Braced.{braced_all}
+use Rattle.script_grammar.specs.Shows.{ShowAll}
+use Rattle.pure_parser.specs.Filling.{fill_stmts}
+use Rattle.script_errors.specs.Kept.{given, statements}
+use Rattle.compile_session.specs.Reading.{IsScriptKept, IsReading}
 use Rattle.compile_session.proofs.TextLemmas.{fault_within}
 
 -- The tokens are a text: the last of them, and no other, ends it.
@@ -92,9 +96,19 @@ module _ (i : Interpretation) (ts : List Token) (m : Matching) (s : Source) (get
       let size : length (lexemes s i) ≤ suc m.stop = (let z = ap length front_is in let w = length-take (suc m.stop) all in omega (arith, z, w)) in
       first_fault_of_cut (ScriptPart whole 0) (suc m.stop) all token why (omega (arith, within, size)) (subst (λ (x : List Lexeme). FirstFault (ScriptPart whole 0) x token why) front_is f)
 
-  -- the statements that were read
-  pub read_kept : (script : Script (Vec Stmt Global)) (top : Vec Stmt Global) → IsWhole i (IsBody i) s (Ok script) → top ≡ script.top → IsKept i all top.items
-  read_kept script top w same = subst (λ (v : Vec Stmt Global). IsKept i all v.items) (sym same) (record { items = w.items; is = text_is_all w.items w.is; shown = w.top })
+  shown_bodies : (bs : List (Vec Stmt Global)) (ts : List Stmts) → ShowAll (IsBody i) bs ts → map (statements i) bs ≡ ts
+  shown_bodies [] [] h = refl
+  shown_bodies [] (t ∷ ts) h = absurd h
+  shown_bodies (b ∷ bs) [] h = absurd h
+  shown_bodies (b ∷ bs) (t ∷ ts) h = ap (λ (x : Stmts). x ∷ map (statements i) bs) h.0 ∙ ap (λ (xs : List Stmts). t ∷ xs) (shown_bodies bs ts h.1)
+
+  -- the trees that were read
+  pub read_kept : (script : Script (Vec Stmt Global)) → IsWhole i (IsBody i) s (Ok script) → IsScriptKept i all script.top.items script.bodies.items
+  read_kept script w = record {
+    items = w.items;
+    is = text_is_all w.items w.is;
+    kept = record { script = w.top; braced = shown_bodies script.bodies.items (map (fill_stmts (given i)) (braced_all w.items)) w.bodies };
+  }
 
   -- the fault that was found
   pub read_fault : (e : ParseFault) → IsWhole {B = Vec Stmt Global} i (IsBody i) s (Err e) → IsReading i all (Err e)
@@ -103,7 +117,7 @@ module _ (i : Interpretation) (ts : List Token) (m : Matching) (s : Source) (get
   read_fault faults.NoMemory w = tt
 
 -- an error is handed on
-pub read_on : (i : Interpretation) (tokens : List Lexeme) (e : ParseFault) (r : Result (Vec Stmt Global) ParseFault) → IsErrAnd r (λ y. y ≡ e) → IsReading i tokens (Err e) → IsReading i tokens r
+pub read_on : (i : Interpretation) (tokens : List Lexeme) (e : ParseFault) (r : Result (Script (Vec Stmt Global)) ParseFault) → IsErrAnd r (λ y. y ≡ e) → IsReading i tokens (Err e) → IsReading i tokens r
 read_on i tokens e r h k = let x = err_from_is_err_and r h in subst (IsReading i tokens) (ap Err (sym x.2) ∙ sym x.1) k
 
 -- the kind of a fault

@@ -6,7 +6,8 @@ use Rattle.script_grammar.specs.declared.token.Kind.TheVariants as kind
 use Rattle.script_grammar.specs.declared.token.mark.TheConstants as mark
 use Rattle.script_grammar.specs.Fault.{depth_limit, Unexpected}
 use Rattle.script_grammar.specs.Lexeme.{Lexeme}
-use Rattle.script_grammar.specs.Tree.{Stmts, no_stmts, more_stmts, no_operands, more_operands}
+use Rattle.script_grammar.specs.declared.token.Decl.TheVariants as decl
+use Rattle.script_grammar.specs.Tree.{Stmts, no_stmts, more_stmts, no_operands, more_operands, no_binds, more_binds, no_expr}
 use Rattle.script_grammar.specs.Tree as tree
 use Rattle.pure_parser.specs.Parser.{Reply, Read, turns, loop}
 use Rattle.pure_parser.specs.Exprs.{expect, name_of, more_turn, expr_of, args_next, args_turn, more_args, args_of, item_end, item_turn, array_of, part_end, part_turn, template_of, initializer_of, param_of, param_turn, params_next, params_turn, more_params, listed_params, params_head, function_of, maybe_name, func_of, computed_of, key_of, keyed_of, short_of, getter_of, setter_of, accessor_of, prop_of, props_next, props_turn, more_props, object_of, items_from, doomed_rest, lead_end, lead_item, lead_turn, lead_items, paren_of, prim_of, dot_of, index_of, member_turn, call_of, tail_turn, new_or_prim, new_from, new_args, new_of, left_of, postfix_of, update_of, unary_of, prefix_of, power_turn, power_of, op_turn, level_of, or_from, short_circuit, branches_of, cond_tail, cond_of, is_arrow_head, arrow_param, arrow_rest, doomed_items, arrow_item, arrow_first, arrow_next, arrow_turn, arrow_params, arrow_listed, arrow_head, arrow_mark, arrow_body, arrow_of, assign_tail, plain_of, assign_of, calls, passing}
@@ -16,10 +17,12 @@ use Rattle.pure_parser.proofs.ScriptLaws.{Text, whole_text, read_is_script, scri
 use Rattle.script_scanner.specs.Tokens.{Value, Text as Units, Number, Nothing}
 use Rattle.script_scanner.specs.Lexemes.{lexeme_of}
 use Rattle.parse_bodies.specs.Whole.{IsText}
+use Rattle.parse_track.specs.Notes.{early_error}
 use Rattle.compile_session.specs.declared.refusal.Refusal.TheVariants as refusal
 use Rattle.compile_session.specs.Built.{are_built_stmts}
-use Rattle.compile_session.specs.Verdict.{IsListed, IsRefused, IsBuilt, IsUnbuilt, IsFaulty, file_text}
-use Rattle.compile_session.specs.Words.{files_of}
+use Rattle.compile_session.specs.declared.words.Purpose.TheVariants as purpose
+use Rattle.compile_session.specs.Verdict.{IsListed, IsFine, IsRefused, IsBuilt, IsUnbuilt, IsFaulty, file_text}
+use Rattle.compile_session.specs.Words.{files_of, purpose_of}
 
 abbrev token : Kind → Value → ℕ → ℕ → Lexeme
 token k v start end = lexeme_of (record { kind = k; value = v; start = start; end = end; after_line = false })
@@ -55,7 +58,7 @@ sum_tokens = number_at 1 0 ∷ mark_at mark.PLUS 2 ∷ number_at 2 4 ∷ end_at 
 sum_is_built : IsBuilt sum_tokens sum
 unfolding sum sum_tokens parsed
 sum_is_built = record {
-  text = read_text sum_tokens (end_at 5 ∷ []) sum (record { inner = number_at 1 0 ∷ mark_at mark.PLUS 2 ∷ number_at 2 4 ∷ []; last = end_at 5; split = refl; are_inner = (tt, (tt, (tt, tt))); ends = λ h. h }) refl;
+  valid = record { faultless = refl; text = read_text sum_tokens (end_at 5 ∷ []) sum (record { inner = number_at 1 0 ∷ mark_at mark.PLUS 2 ∷ number_at 2 4 ∷ []; last = end_at 5; split = refl; are_inner = (tt, (tt, (tt, tt))); ends = λ h. h }) refl };
   built = refl;
 }
 
@@ -66,7 +69,7 @@ sum_is_listed = refl
 -- the empty file
 empty_is_built : IsBuilt (end_at 0 ∷ []) no_stmts
 unfolding parsed
-empty_is_built = record { text = read_text (end_at 0 ∷ []) (end_at 0 ∷ []) no_stmts (record { inner = []; last = end_at 0; split = refl; are_inner = tt; ends = λ h. h }) refl; built = refl }
+empty_is_built = record { valid = record { faultless = refl; text = read_text (end_at 0 ∷ []) (end_at 0 ∷ []) no_stmts (record { inner = []; last = end_at 0; split = refl; are_inner = tt; ends = λ h. h }) refl }; built = refl }
 
 empty_is_listed : file_text (codes "a.js") [] (IsListed no_stmts) ≡ codes "file a.js\nscript 0 top 0..0\n  00000 GlobalOrEvalDeclInstantiation 0\n  00005 RetRval\n"
 unfolding digits
@@ -95,7 +98,7 @@ difference_is_unbuilt : IsUnbuilt difference_tokens
 unfolding difference difference_tokens parsed
 difference_is_unbuilt = record {
   script = difference;
-  text = read_text difference_tokens (end_at 5 ∷ []) difference (record { inner = name_at (codes "a") 0 ∷ mark_at mark.MINUS 2 ∷ name_at (codes "b") 4 ∷ []; last = end_at 5; split = refl; are_inner = (tt, (tt, (tt, tt))); ends = λ h. h }) refl;
+  valid = record { faultless = refl; text = read_text difference_tokens (end_at 5 ∷ []) difference (record { inner = name_at (codes "a") 0 ∷ mark_at mark.MINUS 2 ∷ name_at (codes "b") 4 ∷ []; last = end_at 5; split = refl; are_inner = (tt, (tt, (tt, tt))); ends = λ h. h }) refl };
   built = refl;
 }
 
@@ -123,7 +126,24 @@ unfinished_is_faulty = record {
   place = refl;
 }
 
+-- a script is checked
+sum_is_fine : file_text (codes "a.js") (codes "1 + 2") (IsFine sum) ≡ codes "a.js: ok, 0 functions\n"
+unfolding sum digits
+sum_is_fine = refl
+
+-- `let a; let a`: the second name is an error by the first rule
+twice : Stmts
+twice = more_stmts (tree.Binding decl.Let (more_binds (record { text = codes "a"; at = 4 }) no_expr no_binds) true) (more_stmts (tree.Binding decl.Let (more_binds (record { text = codes "a"; at = 11 }) no_expr no_binds) false) no_stmts)
+
+twice_is_early : early_error twice ≡ Some (record { offset = 11; rule = 1 })
+unfolding twice
+twice_is_early = refl
+
 -- refusals
+early_is_told : file_text (codes "a.js") [] (IsRefused (refusal.Early 11 1)) ≡ codes "a.js:11: early error 1\n"
+unfolding digits
+early_is_told = refl
+
 long_is_told : file_text (codes "a.js") [] (IsRefused refusal.TooLong) ≡ codes "a.js: too long\n"
 long_is_told = refl
 
@@ -146,8 +166,17 @@ other_is_told = refl
 code_is_a_command : files_of (codes "code" ∷ codes "a.js" ∷ []) ≡ Some (codes "a.js" ∷ [])
 code_is_a_command = refl
 
-check_is_none_yet : files_of (codes "check" ∷ codes "a.js" ∷ []) ≡ None
-check_is_none_yet = refl
+code_wants_a_listing : purpose_of (codes "code" ∷ codes "a.js" ∷ []) ≡ purpose.Code
+code_wants_a_listing = refl
+
+check_is_a_command : files_of (codes "check" ∷ codes "a.js" ∷ []) ≡ Some (codes "a.js" ∷ [])
+check_is_a_command = refl
+
+check_wants_a_check : purpose_of (codes "check" ∷ codes "a.js" ∷ []) ≡ purpose.Check
+check_wants_a_check = refl
+
+scopes_is_none_yet : files_of (codes "scopes" ∷ codes "a.js" ∷ []) ≡ None
+scopes_is_none_yet = refl
 
 code_alone_is_none : files_of (codes "code" ∷ []) ≡ None
 code_alone_is_none = refl

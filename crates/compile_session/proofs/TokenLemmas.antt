@@ -1,5 +1,5 @@
 -- The tokens that the scanner answers are those of the file, as a parser takes them.
-use Rattle.std.proofs.Common.{◌≡◌, ℕ, zero, suc, ◌+◌, ◌^◌, ◌<◌, ◌≤◌, List, [], ◌∷◌, ◌++◌, map, length, drop, filter, Bool, true, false, refl, sym, ◌∙◌, ap, subst, arith, slice_index_or, length-append, length-drop, inl, inr}
+use Rattle.std.proofs.Common.{◌≡◌, ℕ, zero, suc, ◌^◌, ◌<◌, ◌≤◌, List, [], ◌∷◌, ◌++◌, map, length, drop, filter, Bool, true, false, refl, sym, ◌∙◌, ap, subst, arith, slice_index_or, length-append, length-drop}
 use Rattle.std.specs.Prelude.{Option, Some, None, ◌||◌, ◌&&◌, slice_get, nat_eq, nat_le, nat_lt, if◌then◌else◌}
 use Rattle.std.proofs.lemmas.Bool.{eqb-true, eq-eqb}
 use Rattle.std.proofs.lemmas.Option.{get_or_from_slice_get}
@@ -10,13 +10,13 @@ use Rattle.script_grammar.specs.declared.token.Kind.TheVariants as kind
 use Rattle.script_grammar.specs.declared.token.Token.{Token}
 use Rattle.script_grammar.specs.Lexeme.{Lexeme, Role, get_role, set_role, no_role, get_text, set_text, same_text, role_of, role_of_text, role_at, text_of, number_of}
 use Rattle.script_grammar.specs.Lexeme as token
-use Rattle.parser_atoms.specs.Places.{AreWithoutEquals, Interns}
+use Rattle.parser_atoms.specs.Places.{AreWithoutEquals}
 use Rattle.parse_exprs.specs.Source.{has_atom, HasAtom, ends_all, IsScanned}
 use Rattle.script_scanner.specs.declared.braces.Brace.{Brace}
 use Rattle.script_scanner.specs.declared.blanks.Blank.{Blank}
 use Rattle.script_scanner.specs.Blanks.{blank_at, first_line_length}
 use Rattle.script_scanner.specs.Braces.{in_substitution}
-use Rattle.script_scanner.specs.Stands.{HasValue, StandsFor, StandFor, Keeps, is_last, AreNoLast, HasOneLast}
+use Rattle.script_scanner.specs.Stands.{HasValue, StandsFor, StandFor, is_last, AreNoLast, HasOneLast}
 use Rattle.script_scanner.specs.Tokens.{Value, Text, Number, Nothing, Piece, Lexed, Front, IsBlank, IsToken, IsNeither, front_of, front_at, token_at, then_tokens, tokens_within, tokens, last_token, part, without_first_line, braces_after}
 use Rattle.script_scanner.proofs.KindLemmas.{IsText, IsNumber, IsNothing, Suits, PieceSuits, token_suits}
 use Rattle.script_scanner.specs.Lexemes.{text_in, number_in, lexeme_of, lexemes}
@@ -201,33 +201,6 @@ module _ (texts : List (List ℕ)) (get set : ℕ) (knows : KnowsWords texts get
   tokens_same (t ∷ ts) [] all stand = absurd stand
   tokens_same (t ∷ ts) (l ∷ ls) all stand =
       ap (λ (x : Lexeme). x ∷ map (token.lexeme_of get set texts) ts) (token_same t l all.0 stand.0) ∙ ap (λ (xs : List Lexeme). lexeme_of l ∷ xs) (tokens_same ts ls all.1 stand.1)
-
--- What was interned stays.
-
-get_more : (texts more : List (List ℕ)) (n : ℕ) (text : List ℕ) → slice_get texts n ≡ Some text → slice_get (texts ++ more) n ≡ Some text
-get_more [] more n text h = absurd (cc)
-get_more (t ∷ texts) more zero text h = h
-get_more (t ∷ texts) more (suc n) text h = get_more texts more n text h
-
-get_last : (texts : List (List ℕ)) (text : List ℕ) → slice_get (texts ++ text ∷ []) (length texts) ≡ Some text
-get_last [] text = refl
-get_last (t ∷ texts) text = get_last texts text
-
-pub interned : (before after : List (List ℕ)) (text : List ℕ) (atom : ℕ) → Interns before after text atom → slice_get after atom ≡ Some text
-interned before after text atom (inl h) = ap (λ (ts : List (List ℕ)). slice_get ts atom) h.1 ∙ h.0
-interned before after text atom (inr h) = ap (λ (ts : List (List ℕ)). slice_get ts atom) h.2 ∙ ap (slice_get (before ++ text ∷ [])) h.1 ∙ get_last before text
-
-pub still_interned : (before after : List (List ℕ)) (text other : List ℕ) (atom n : ℕ) → Interns before after text atom → slice_get before n ≡ Some other → slice_get after n ≡ Some other
-still_interned before after text other atom n (inl h) is = ap (λ (ts : List (List ℕ)). slice_get ts n) h.1 ∙ is
-still_interned before after text other atom n (inr h) is = ap (λ (ts : List (List ℕ)). slice_get ts n) h.2 ∙ get_more before (text ∷ []) n other is
-
-pub still_kept : (before after : List (List ℕ)) (other : List ℕ) (n : ℕ) → Keeps before after → slice_get before n ≡ Some other → slice_get after n ≡ Some other
-still_kept before after other n k is = ap (λ (ts : List (List ℕ)). slice_get ts n) k.1 ∙ get_more before k.0 n other is
-
--- at most one more text
-pub interned_few : (before after : List (List ℕ)) (text : List ℕ) (atom : ℕ) → Interns before after text atom → length after ≤ length before + 1
-interned_few before after text atom (inl h) = let e = ap length h.1 in omega (arith, e)
-interned_few before after text atom (inr h) = let e = ap length h.2 ∙ length-append before (text ∷ []) in omega (arith, e)
 
 -- The atoms fit four bytes.
 

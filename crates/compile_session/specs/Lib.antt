@@ -1,3 +1,4 @@
+pub mod Known
 pub mod Tokens
 pub mod Built
 pub mod Words

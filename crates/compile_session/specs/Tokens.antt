@@ -1,7 +1,23 @@
 -- The tokens of a file as the grammar of scripts sees them.
 use Rattle.std.specs.Prelude.{List, map}
 use Rattle.script_grammar.specs.Lexeme.{Lexeme, lexeme_of}
+use Rattle.parser_atoms.specs.Places.{AreWithoutEquals}
+use Rattle.script_scanner.specs.Stands.{HasOneLast}
+use Rattle.function_starts.specs.Own.{TokensRise}
+use Rattle.renamed_names.specs.Texts.{NamesAreFull}
+use Rattle.parse_exprs.specs.Source.{IsScanned}
 use Rattle.compile_session.specs.declared.file_tokens.FileTokens.{FileTokens}
+use Rattle.compile_session.specs.Known.{HasWords}
 
 abbrev pub tokens_in : FileTokens → List Lexeme
-tokens_in file = map (lexeme_of file.get file.set file.texts.items) file.tokens.items
+tokens_in file = map (lexeme_of file.known.get file.known.set file.texts.items) file.tokens.items
+
+-- What is known of the tokens of a file: as many as a parser takes, the last of them End or Bad and no other, from rising
+-- offsets on, without empty names; the texts have no equals, and the known words are among them.
+pub record IsSound (file : FileTokens) : Type 0 where
+  pub scanned : IsScanned file.tokens.items
+  pub last : HasOneLast file.tokens.items
+  pub rise : TokensRise 0 (tokens_in file)
+  pub names : NamesAreFull (tokens_in file)
+  pub apart : AreWithoutEquals file.texts.items
+  pub words : HasWords file.texts.items file.known

@@ -8,7 +8,7 @@ ghost use Rattle.compile_session.specs.Verdict.{FollowsFront, IsAnswer, IsBefore
 
 use crate::file::{MOST_BYTES, answer_of};
 use crate::status::Status;
-use crate::words::file_of;
+use crate::words::{file_of, purpose_of};
 use outside::{Gate, Shelf, ShelfRefusal, Sink, SinkRefusal, Tally, read_file, write_bytes};
 use std::alloc::Global;
 use std::sync::Wait;
@@ -64,7 +64,7 @@ pub fn run<R: Threads + Wait, L: Shelf, K: Sink, G: Gate, T: Tally>(
         Err(ShelfRefusal::Failed) => return Status::ReadFault,
         Err(ShelfRefusal::NoMemory) => return Status::NoMemory,
     };
-    let answer = match answer_of(alloc, name, &bytes) {
+    let answer = match answer_of(alloc, purpose_of(words), name, &bytes) {
         Ok(answer) => answer,
         Err(_) => return Status::NoMemory,
     };

@@ -4,10 +4,10 @@ ghost use Rattle.std.specs.Prelude.{◌≡◌, ◌≤◌, length, IfOk, IfErr, O
 ghost use Rattle.std.specs.Str.{IsUtf8};
 ghost use Rattle.unit_text.specs.Faults.{IsFaultOf};
 ghost use Rattle.script_scanner.specs.Lexemes.{lexemes};
-ghost use Rattle.script_scanner.specs.Stands.{HasOneLast};
-ghost use Rattle.parse_exprs.specs.Source.{IsScanned};
-ghost use Rattle.compile_session.specs.Tokens.{tokens_in};
+ghost use Rattle.compile_session.specs.Tokens.{tokens_in, IsSound};
 
+use crate::known::known_words;
+use parse_track::region::Known;
 use parser_atoms::Atoms;
 use script_grammar::token::Token;
 use script_scanner::scan;
@@ -15,19 +15,12 @@ use std::alloc::Global;
 use stencil_data::Text;
 use unit_text::{DecodeFault, decode};
 
-/// The word `get`, in UTF-16 units.
-const GET: [u16; 3] = [103, 101, 116];
-
-/// The word `set`, in UTF-16 units.
-const SET: [u16; 3] = [115, 101, 116];
-
-/// The tokens of a file, and the texts that their atoms index; `get` and `set` are the atoms of these words.
+/// The tokens of a file, and the texts that their atoms index; `known` has the atoms of the known words.
 #[derive(Drop)]
 pub struct FileTokens {
     pub tokens: Vec<Token>,
     pub texts: Vec<Text>,
-    pub get: u32,
-    pub set: u32,
+    pub known: Known,
 }
 
 /// The tokens of a file, the last of them End or Bad.
@@ -35,20 +28,17 @@ pub(crate) fn tokens_of(alloc: Global, bytes: &[u8]) -> Result<FileTokens, Decod
     requires { length bytes.now ≤ 16777215 }
     ensures utf8 { OnOk result (IsUtf8 bytes.now) }
     ensures tokens { IfOk result (λ file. tokens_in file ≡ lexemes bytes.now) }
-    ensures scanned { IfOk result (λ file. IsScanned file.tokens.items) }
-    ensures last { IfOk result (λ file. HasOneLast file.tokens.items) }
+    ensures sound { IfOk result IsSound }
     ensures fault { IfErr result (IsFaultOf bytes.now) }
 {
     let points = decode(alloc, bytes)?;
     let mut atoms = Atoms::new(alloc);
-    let get = atoms.intern(alloc, &GET)?;
-    let set = atoms.intern(alloc, &SET)?;
+    let known = known_words(alloc, &mut atoms)?;
     let tokens = scan(alloc, &points, 0, bytes.len() as u32, &mut atoms)?;
     let texts = atoms.into_texts();
     Ok(FileTokens {
         tokens,
         texts,
-        get,
-        set,
+        known,
     })
 }

@@ -16,6 +16,7 @@ mod command;
 mod emitter;
 mod file;
 mod file_tokens;
+mod known;
 mod op_names;
 mod printer;
 mod reading;

@@ -3,10 +3,8 @@
 ghost use Rattle.std.specs.Prelude.{ℕ};
 ghost use Rattle.script_grammar.specs.Interpretation.{Interpretation};
 ghost use Rattle.script_grammar.specs.Tree.{Stmts};
-ghost use Rattle.script_scanner.specs.Stands.{HasOneLast};
-ghost use Rattle.parse_exprs.specs.Source.{IsScanned};
 ghost use Rattle.compile_session.specs.Reading.{IsReading};
-ghost use Rattle.compile_session.specs.Tokens.{tokens_in};
+ghost use Rattle.compile_session.specs.Tokens.{tokens_in, IsSound};
 
 use crate::file_tokens::FileTokens;
 use parse_bodies::whole::{Script, whole};
@@ -18,14 +16,13 @@ use script_grammar::brackets::Brackets;
 use script_grammar::tree::Stmt;
 use std::alloc::Global;
 
-/// The statements of the script that the tokens are, or the first fault of these.
-pub(crate) fn statements_of(alloc: Global, file: &FileTokens) -> Result<Vec<Stmt>, ParseFault>
-    requires scanned { IsScanned file.now.tokens.items }
-    requires last { HasOneLast file.now.tokens.items }
+/// The trees of the script that the tokens are, or the first fault of these.
+pub(crate) fn script_of(alloc: Global, file: &FileTokens) -> Result<Script<Vec<Stmt>>, ParseFault>
+    requires { IsSound file.now }
     ensures { (bodies : ℕ → Stmts) → IsReading (record { texts = file.now.texts.items; bodies = bodies }) (tokens_in file.now) result }
 {
     let brackets = Brackets::of(alloc, &file.tokens)?;
-    let source = Source::new(&file.tokens, &brackets, file.get, file.set);
+    let source = Source::new(&file.tokens, &brackets, file.known.get, file.known.set);
     let mut state = State {
         place: Place {
             at: 0,
@@ -46,6 +43,6 @@ pub(crate) fn statements_of(alloc: Global, file: &FileTokens) -> Result<Vec<Stmt
         get: _,
         set: _,
     } = source;
-    let Script { top, bodies: _ } = read?;
-    Ok(top)
+    let script = read?;
+    Ok(script)
 }

@@ -20,6 +20,13 @@ pub enum Refusal {
         /// Where the token starts, in bytes.
         offset: u32,
     },
-    /// The script is not of the form that is built.
+    /// The script has an early error of ECMA-262, and no token of it is too deep.
+    Early {
+        /// Where the first of them stands, in bytes.
+        offset: u32,
+        /// The number of its rule, 1 to 14.
+        rule: u8,
+    },
+    /// The script has no early error, and is not of the form that is built: its code cannot be listed.
     NotBuilt,
 }

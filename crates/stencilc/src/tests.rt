@@ -24,7 +24,11 @@ script 0 top 0..6
 ";
 
 /// One file of this name.
-fn file(alloc: Global, name: &str, text: &[u8]) -> Result<Vec<(String, Vec<u8>)>, AllocError> {
+pub(crate) fn file(
+    alloc: Global,
+    name: &str,
+    text: &[u8],
+) -> Result<Vec<(String, Vec<u8>)>, AllocError> {
     let name = String::from_str(alloc, name)?;
     let bytes = Vec::from_slice(alloc, text)?;
     let mut files = Vec::new(alloc);
@@ -32,7 +36,8 @@ fn file(alloc: Global, name: &str, text: &[u8]) -> Result<Vec<(String, Vec<u8>)>
     Ok(files)
 }
 
-fn status_of<R: Threads + Wait, L: Shelf, K: Sink>(
+/// The status of this command over the file `a.js` of the shelf.
+pub(crate) fn status_of<R: Threads + Wait, L: Shelf, K: Sink>(
     rt: &R,
     alloc: Global,
     command: &str,
@@ -200,6 +205,21 @@ fn refuses_an_unexpected_token(rt: HostRuntime) -> Result<(), Fail> {
     Ok(())
 }
 
+#[test]
+fn refuses_an_early_error_before_what_is_not_built(rt: HostRuntime) -> Result<(), Fail> {
+    let alloc = rt.alloc();
+    assert!(rt; refuses(&rt, alloc, b"let a; let a", b"a.js:11: early error 1\n")?);
+    assert!(rt;
+        refuses(
+            &rt,
+            alloc,
+            b"function f(){ let x; { var x } }",
+            b"a.js:27: early error 2\n"
+        )?
+    );
+    Ok(())
+}
+
 /// Texts that are no script, each with the line for its first fault.
 const FAULTS: [(&[u8], &[u8]); 26] = [
     (b"(]", b"a.js:1: unexpected\n"),
@@ -263,7 +283,7 @@ fn reads_what_is_not_built(rt: HostRuntime) -> Result<(), Fail> {
 }
 
 /// So many times this byte.
-fn many(alloc: Global, byte: u8, count: usize) -> Result<Vec<u8>, AllocError> {
+pub(crate) fn many(alloc: Global, byte: u8, count: usize) -> Result<Vec<u8>, AllocError> {
     vec![in alloc; byte; count]
 }
 
@@ -317,7 +337,7 @@ fn knows_no_other_command(rt: HostRuntime) -> Result<(), Fail> {
     let alloc = rt.alloc();
     let mut shelf = MapShelf::new(alloc, file(alloc, "a.js", SUM)?, Vec::new(alloc));
     let mut sink = FirmSink::new(alloc);
-    let status = status_of(&rt, alloc, "check", &mut shelf, &mut sink)?;
+    let status = status_of(&rt, alloc, "scopes", &mut shelf, &mut sink)?;
     assert!(rt; status == Status::BadWords);
     assert!(rt; sink.bytes().is_empty());
     Ok(())

@@ -1,11 +1,12 @@
 use Rattle.script_grammar.specs.Tree.{no_stmts}
 use Rattle.compile_session.specs.Tokens.{tokens_in}
-use Rattle.compile_session.proofs.FileLemmas.{seen_outcome, starts_same}
+use Rattle.compile_session.proofs.FileLemmas.{starts_same}
+use Rattle.compile_session.proofs.OutcomeLemmas.{kept_script}
 use Rattle.compile_session.proofs.ReadLemmas.{read_unexpected, read_too_deep}
 use Rattle.compile_session.proofs.file.script_outcome.Goals as goal
 
-pub returns-in_ok-listing_of-in-Ok : goal.returns-in_ok-listing_of-in-Ok
-returns-in_ok-listing_of-in-Ok c = seen_outcome c.args.name.now c.args.size (record { texts = c.args.file.now.texts.items; bodies = λ n. no_stmts }) (tokens_in c.args.file.now) c.in-Ok.statements.items c.deref.result.now c.deref-in-Ok.result.now c.in_ok-listing_of-in-Ok.field-0 c.deref.ensures.value c.deref-in-Ok.ensures.value (c.in-Ok.ensures (λ n. no_stmts)) (c.in_ok-listing_of-in-Ok.ensures (λ n. no_stmts))
+pub returns-in_ok-kept_outcome-in-Ok : goal.returns-in_ok-kept_outcome-in-Ok
+returns-in_ok-kept_outcome-in-Ok c = kept_script c.args.wanted c.args.name.now c.args.size c.args.file.now c.in-Ok.script c.in_ok-kept_outcome-in-Ok.field-0 c.requires c.in-Ok.ensures c.in_ok-kept_outcome-in-Ok.ensures
 
 pub returns-in-Err-Unexpected : goal.returns-in-Err-Unexpected
 returns-in-Err-Unexpected c =
@@ -13,7 +14,7 @@ returns-in-Err-Unexpected c =
     record {
       token = c.in-Err-Unexpected.token;
       first = read_unexpected (record { texts = file.texts.items; bodies = λ n. no_stmts }) (tokens_in file) c.in-Err-Unexpected.field-0 c.in-Err-Unexpected.token c.in-Err-Unexpected.field-0-is (c.in-Err-Unexpected.ensures (λ n. no_stmts));
-      place = starts_same file.get file.set file.texts.items file.tokens.items c.deref-in-Err-Unexpected.result.now c.in-Err-Unexpected.token _ c.start_of-offset.result c.deref-in-Err-Unexpected.ensures.value c.in-Err-Unexpected.token-is (c.start_of-offset.ensures file.get file.set file.texts.items);
+      place = starts_same file.known.get file.known.set file.texts.items file.tokens.items c.deref.result.now c.in-Err-Unexpected.token _ c.start_of-offset.result c.deref.ensures.value c.in-Err-Unexpected.token-is (c.start_of-offset.ensures file.known.get file.known.set file.texts.items);
     }
 
 pub returns-in-Err-TooDeep : goal.returns-in-Err-TooDeep
@@ -22,5 +23,5 @@ returns-in-Err-TooDeep c =
     record {
       token = c.in-Err-TooDeep.token;
       first = read_too_deep (record { texts = file.texts.items; bodies = λ n. no_stmts }) (tokens_in file) c.in-Err-TooDeep.field-0 c.in-Err-TooDeep.token c.in-Err-TooDeep.field-0-is (c.in-Err-TooDeep.ensures (λ n. no_stmts));
-      place = starts_same file.get file.set file.texts.items file.tokens.items c.deref-in-Err-TooDeep.result.now c.in-Err-TooDeep.token _ c.start_of-offset-in-Err-TooDeep.result c.deref-in-Err-TooDeep.ensures.value c.in-Err-TooDeep.token-is (c.start_of-offset-in-Err-TooDeep.ensures file.get file.set file.texts.items);
+      place = starts_same file.known.get file.known.set file.texts.items file.tokens.items c.deref-in-Err-TooDeep.result.now c.in-Err-TooDeep.token _ c.start_of-offset-in-Err-TooDeep.result c.deref-in-Err-TooDeep.ensures.value c.in-Err-TooDeep.token-is (c.start_of-offset-in-Err-TooDeep.ensures file.known.get file.known.set file.texts.items);
     }

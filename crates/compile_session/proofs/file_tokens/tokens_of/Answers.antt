@@ -1,16 +1,26 @@
-use Rattle.std.proofs.Common.{ℕ, ◌<◌, ◌^◌, List, length, refl, ap, subst, arith}
-use Rattle.script_grammar.specs.Lexeme.{get_text, set_text}
-use Rattle.compile_session.proofs.TokenLemmas.{KnowsWords, file_tokens, file_scanned, interned, still_interned, still_kept}
+use Rattle.std.proofs.Common.{ℕ, ◌<◌, ◌^◌, List, length, refl, sym, ap, subst, arith}
+use Rattle.parser_atoms.specs.Places.{AreWithoutEquals}
+use Rattle.function_starts.specs.Own.{TokensRise}
+use Rattle.renamed_names.specs.Texts.{NamesAreFull}
+use Rattle.token_starts.proofs.Rising.{lexemes_rise}
+use Rattle.token_names.proofs.FullNames.{names_are_full}
+use Rattle.compile_session.specs.Known.{HasWords}
+use Rattle.compile_session.proofs.InternLemmas.{words_kept}
+use Rattle.compile_session.proofs.TokenLemmas.{KnowsWords, file_tokens, file_scanned}
 use Rattle.compile_session.proofs.file_tokens.tokens_of.Goals as goal
 
 pub returns-clause-tokens : goal.returns-clause-tokens
 returns-clause-tokens c =
-    let knows : KnowsWords c.scan.new.atoms c.in_ok-get.get c.in_ok-set.set = record {
-      apart = c.into_texts-texts.ensures.apart;
-      get_is = still_kept c.intern-2.new.self c.scan.new.atoms get_text c.in_ok-get.get c.in_ok-tokens.ensures.keeps (still_interned c.intern.new.self c.intern-2.new.self set_text get_text c.in_ok-set.set c.in_ok-get.get c.in_ok-set.ensures.ok (interned c.new-atoms.result c.intern.new.self get_text c.in_ok-get.get c.in_ok-get.ensures.ok));
-      set_is = still_kept c.intern-2.new.self c.scan.new.atoms set_text c.in_ok-set.set c.in_ok-tokens.ensures.keeps (interned c.intern.new.self c.intern-2.new.self set_text c.in_ok-set.set c.in_ok-set.ensures.ok);
-    } in
-    file_tokens c.args.bytes.now c.in_ok-points.points.items c.deref.result.now (length c.args.bytes.now) c.scan.new.atoms c.into_texts-texts.result.items c.in_ok-tokens.tokens.items c.in_ok-get.get c.in_ok-set.set c.in_ok-points.ensures.value c.deref.ensures.value refl knows c.in_ok-tokens.ensures.tokens c.into_texts-texts.ensures.list
+    let words = words_kept c.known_words.new.atoms c.scan.new.atoms c.in_ok-known.known c.in_ok-tokens.ensures.keeps c.in_ok-known.ensures.words in
+    let knows : KnowsWords c.scan.new.atoms c.in_ok-known.known.get c.in_ok-known.known.set = record { apart = c.into_texts-texts.ensures.apart; get_is = words.get; set_is = words.set } in
+    file_tokens c.args.bytes.now c.in_ok-points.points.items c.deref.result.now (length c.args.bytes.now) c.scan.new.atoms c.into_texts-texts.result.items c.in_ok-tokens.tokens.items c.in_ok-known.known.get c.in_ok-known.known.set c.in_ok-points.ensures.value c.deref.ensures.value refl knows c.in_ok-tokens.ensures.tokens c.into_texts-texts.ensures.list
 
-pub returns-clause-scanned : goal.returns-clause-scanned
-returns-clause-scanned c = file_scanned c.deref.result.now (length c.args.bytes.now) c.scan.new.atoms c.in_ok-tokens.tokens.items (subst (λ (ts : List (List ℕ)). length ts < 2 ^ 32) c.atoms-3.view_is c.atoms-3.invariant.few) (omega (arith, ap length c.deref.ensures.value, c.in_ok-points.ensures.few, c.requires)) c.in_ok-tokens.ensures.tokens c.in_ok-tokens.ensures.last
+pub returns-clause-sound : goal.returns-clause-sound
+returns-clause-sound c = record {
+  scanned = file_scanned c.deref.result.now (length c.args.bytes.now) c.scan.new.atoms c.in_ok-tokens.tokens.items (subst (λ (ts : List (List ℕ)). length ts < 2 ^ 32) c.atoms-2.view_is c.atoms-2.invariant.few) (omega (arith, ap length c.deref.ensures.value, c.in_ok-points.ensures.few, c.requires)) c.in_ok-tokens.ensures.tokens c.in_ok-tokens.ensures.last;
+  last = c.in_ok-tokens.ensures.last;
+  rise = subst (TokensRise 0) (sym (returns-clause-tokens c)) (lexemes_rise c.args.bytes.now);
+  names = subst NamesAreFull (sym (returns-clause-tokens c)) (names_are_full c.args.bytes.now);
+  apart = subst AreWithoutEquals (sym c.into_texts-texts.ensures.list) c.into_texts-texts.ensures.apart;
+  words = subst (λ (ts : List (List ℕ)). HasWords ts c.in_ok-known.known) (sym c.into_texts-texts.ensures.list) (words_kept c.known_words.new.atoms c.scan.new.atoms c.in_ok-known.known c.in_ok-tokens.ensures.keeps c.in_ok-known.ensures.words);
+}

@@ -1,0 +1,3 @@
+pub mod Own
+pub mod Words
+pub mod Checks

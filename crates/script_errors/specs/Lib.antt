@@ -1,0 +1,2 @@
+-- A script whose trees are kept.
+pub mod Kept

@@ -37,8 +37,3 @@ pub use properties::Defines;
 pub use site::Site;
 pub use targets::Target;
 pub use uses::Use;
-
-#[cfg(test)]
-mod expr_tests;
-#[cfg(test)]
-mod tests;

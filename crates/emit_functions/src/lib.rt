@@ -19,6 +19,3 @@ pub mod stencils;
 pub mod tops;
 
 pub use stencils::function;
-
-#[cfg(test)]
-mod function_tests;

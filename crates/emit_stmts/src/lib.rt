@@ -39,6 +39,3 @@ pub mod valued;
 pub use draft::Draft;
 pub use frames::Frame;
 pub use stmt_site::StmtSite;
-
-#[cfg(test)]
-mod stmt_tests;

@@ -16,6 +16,3 @@ mod statements;
 mod wanted;
 
 pub use functions::scopes;
-
-#[cfg(test)]
-mod tests;

@@ -6,7 +6,6 @@ pub mod Quiet
 pub mod Refills
 pub mod Refusals
 pub mod Rooms
-pub mod Scanned
 pub mod Spine
 pub mod Suffixes
 pub mod Takes

@@ -14,5 +14,3 @@
 pub mod bodies;
 pub mod exprs;
 pub mod functions;
-#[cfg(test)]
-mod tests;

@@ -17,6 +17,4 @@ mod offsets;
 pub mod region;
 mod rules;
 mod scopes;
-#[cfg(test)]
-mod tests;
 pub mod track;

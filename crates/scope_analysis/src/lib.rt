@@ -21,6 +21,3 @@ mod toplevel;
 pub use functions::{OwnUses, scopes_using};
 pub use resolving::resolve;
 pub use toplevel::top_scopes;
-
-#[cfg(test)]
-mod tests;

@@ -12,6 +12,4 @@ mod limits;
 mod names;
 mod noted;
 mod targets;
-#[cfg(test)]
-mod tests;
 mod walk;

@@ -6,6 +6,4 @@
 //! braced bodies of a script's functions, the track is told what the script tells.
 #![tactic(auto)]
 
-#[cfg(test)]
-mod tests;
 pub mod walk;

@@ -1,5 +1,5 @@
 use Rattle.std.specs.Prelude.{IsSome}
-use Rattle.parse_track.proofs.tests.declare_names.Given as goal
+use Rattle.parser_cases.proofs.track_cases.use_names.Given as goal
 
 abbrev pub invariant-loop-atom : goal.invariant-loop-atom
 invariant-loop-atom l = IsSome l.track.present

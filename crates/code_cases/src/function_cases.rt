@@ -4,7 +4,7 @@ ghost use Rattle.stencil_data.specs.Fits.{NamesFit};
 ghost use Rattle.stencil_data.specs.StandsFor.{named_bindings};
 ghost use Rattle.emit_exprs.specs.Rising.{Rises};
 
-use crate::function;
+use emit_functions::function;
 use bytecode_buf::Op;
 use script_grammar::build;
 use script_grammar::token::{Decl, FuncForm};

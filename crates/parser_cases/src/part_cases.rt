@@ -3,9 +3,9 @@
 ghost use Rattle.std.specs.Prelude.{◌≡◌, ◌<◌, [], length, IsTrue};
 ghost use Rattle.parse_exprs.specs.Source.{IsScanned, ends_all};
 
-use crate::bodies::body;
-use crate::exprs::{assignment, expression};
-use crate::functions::{alone, head};
+use parse_parts::bodies::body;
+use parse_parts::exprs::{assignment, expression};
+use parse_parts::functions::{alone, head};
 use parse_bodies::part::BodyNode;
 use parse_exprs::place::{ParseFault, Pending, Place};
 use parse_exprs::source::Source;

@@ -4,7 +4,7 @@ use Rattle.stencil_data.specs.Fits.{NamesFit}
 use Rattle.stencil_data.specs.StandsFor.{named_bindings, named_scope}
 use Rattle.stencil_data.specs.Views.{ScopeView}
 use Rattle.stencil_data.specs.declared.scopes.Binding.{Binding}
-use Rattle.emit_stmts.proofs.stmt_tests.caught_in_a_slot.Goals as goal
+use Rattle.code_cases.proofs.stmt_cases.environment_for_each_turn.Goals as goal
 
 pub code_with-requires-clause-slots : goal.code_with-requires-clause-slots
 code_with-requires-clause-slots g c = λ texts.

@@ -2,7 +2,7 @@
 ghost use Rattle.std.specs.Prelude.{◌≡◌, ◌+◌, length, IfOk};
 ghost use Rattle.stencil_data.specs.Fits.{LinksFit};
 
-use crate::{OwnUses, resolve, scopes_using, top_scopes};
+use scope_analysis::{OwnUses, resolve, scopes_using, top_scopes};
 use script_grammar::token::{Decl, FuncForm};
 use script_grammar::tree::{Bind, Func, FuncBody, Ident, Param, Stmt};
 use std::alloc::{AllocError, Global};

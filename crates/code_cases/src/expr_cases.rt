@@ -3,7 +3,7 @@ ghost use Rattle.std.specs.Prelude.{◌^◌, ◌<◌, length};
 ghost use Rattle.stencil_data.specs.Fits.{ChainFits};
 ghost use Rattle.emit_exprs.specs.Rising.{Rises};
 
-use crate::{Emit, expr};
+use emit_exprs::{Emit, expr};
 use bytecode_buf::{CodeBuf, Op};
 use script_grammar::build;
 use script_grammar::token::{FuncForm, mark};

@@ -5,9 +5,9 @@ ghost use Rattle.scope_analysis.specs.Walked.{ScopesFit};
 ghost use Rattle.emit_exprs.specs.Rising.{Rises};
 ghost use Rattle.emit_stmts.specs.Frames.{global_link};
 
-use crate::scripts::top;
-use crate::stmts::emit_stmt;
-use crate::{Draft, StmtSite};
+use emit_stmts::scripts::top;
+use emit_stmts::stmts::emit_stmt;
+use emit_stmts::{Draft, StmtSite};
 use bytecode_buf::{CodeBuf, Op};
 use emit_exprs::Site;
 use script_grammar::build;

@@ -1,6 +1,6 @@
 use Rattle.std.proofs.Common.{arith}
-use Rattle.parse_parts.proofs.Scanned.{all_scanned, scanned_here, scanned_more, no_empty}
-use Rattle.parse_parts.proofs.tests.is_scanned.Goals as goal
+use Rattle.parser_cases.proofs.Scanned.{all_scanned, scanned_here, scanned_more, no_empty}
+use Rattle.parser_cases.proofs.part_cases.is_scanned.Goals as goal
 
 pub loop-at-preserved : goal.loop-at-preserved
 loop-at-preserved c = scanned_more c.args.tokens.now c.loop-at.at c.loop-at.invariant (scanned_here c.args.tokens.now c.loop-at.at _ c.ends.result c.loop-at-test.true c.if-token.false c.ends.ensures c.if-ends-at.false)

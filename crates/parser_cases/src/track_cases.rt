@@ -1,7 +1,7 @@
 ghost use Rattle.std.specs.Prelude.{IsSome, OnOk};
 
-use crate::region::{ClosedAt, Declare, Early, Jump, Known, Region, Tracked};
-use crate::track::Track;
+use parse_track::region::{ClosedAt, Declare, Early, Jump, Known, Region, Tracked};
+use parse_track::track::Track;
 use script_grammar::tree::Ident;
 use std::alloc::{AllocError, Global};
 use std::test::Fail;

@@ -1,4 +1,4 @@
-use crate::walk::tell_script;
+use tree_track::walk::tell_script;
 use parse_track::region::{ClosedAt, Early, Known, Tracked};
 use parse_track::track::Track;
 use script_grammar::token::{Decl, FuncForm};

@@ -1,5 +1,5 @@
 // Cases from outside: `this` and `arguments` in a body, under an inner function, and in a parameter's initializer.
-use crate::scopes;
+use function_scopes::scopes;
 use script_grammar::token::FuncForm;
 use script_grammar::tree::{Expr, Func, FuncBody, Ident, Param, Stmt};
 use std::alloc::{AllocError, Global};

@@ -1,6 +1,6 @@
 //! Scripts with their first early errors, by the rules.
 
-use crate::first::first_note;
+use tree_notes::first::first_note;
 use parse_track::region::{Early, Known};
 use script_grammar::build;
 use script_grammar::token::{Decl, FuncForm, word};

@@ -1,5 +1,5 @@
 // Cases from outside: the instructions of names at some places.
-use crate::{Emit, base, init, read, write};
+use emit_exprs::{Emit, base, init, read, write};
 use bytecode_buf::{CodeBuf, Op};
 use std::test::Fail;
 use stencil_data::{BindKind, Place};

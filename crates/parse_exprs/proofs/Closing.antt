@@ -1,5 +1,5 @@
 -- The tokens up to the stop of their brackets are a text that no text begins with whose brackets match.
-use Rattle.std.proofs.Common.{◌≡◌, ◌∙◌, ℕ, suc, ◌<◌, ◌≤◌, List, [], ◌∷◌, ◌++◌, map, drop, take, length, refl, sym, ap, subst, arith, get_or, Bool, true, false, Option, Some, None, ◌⊎◌, inl, inr}
+use Rattle.std.proofs.Common.{◌≡◌, ◌∙◌, ℕ, suc, List, [], ◌∷◌, ◌++◌, take, length, refl, sym, ap, arith, get_or, Bool, true, false, Option, Some, None, ◌⊎◌, inl, inr}
 use Rattle.std.proofs.Math.Seq.{drop-cons}
 use Rattle.std.proofs.Math.ListN.{drop_of_length-le}
 use Rattle.std.proofs.lemmas.List.{take-append-drop, take-append-le, take-map, length-map}
@@ -11,7 +11,7 @@ use Rattle.script_grammar.specs.Lexeme.{Lexeme}
 use Rattle.script_grammar.specs.Matching.{part_of, part_at, next_open, all_open}
 use Rattle.script_grammar.specs.Pieces.{Opener, open_behind, open_at_end}
 use Rattle.pure_parser.specs.Parser.{end_lexeme}
-use Rattle.pure_parser.proofs.Bracketed.{kinds, openers, IsInner, AllInner, open_behind-next}
+use Rattle.pure_parser.proofs.Bracketed.{kinds, openers, AllInner, open_behind-next}
 use Rattle.pure_parser.proofs.Closed.{Ended}
 use Rattle.pure_parser.proofs.Nested.{open_step, open_append}
 use Rattle.parse_exprs.specs.declared.source.Source.{Source}

@@ -1,5 +1,6 @@
 -- What the parser on lists of lexemes finds behind an opening bracket of the tokens, by the bracket's partner.
-use Rattle.std.proofs.Common.{◌≡◌, ◌∙◌, ℕ, zero, suc, ◌<◌, ◌≤◌, List, [], ◌∷◌, ◌++◌, map, drop, take, length, refl, sym, ap, subst, arith, get_or, true, false, Some, None, ◌⊎◌, inl, inr}
+use Rattle.std.proofs.Common.{◌≡◌, ◌∙◌, ℕ, zero, suc, ◌<◌, ◌≤◌, List, [], ◌∷◌, ◌++◌, map, drop, take, length, refl, sym, ap, subst, arith, get_or, Bool, true, false, not, ◌||◌, nat_eq, nat_lt, if◌then◌else◌, Option, Some, None, ◌⊎◌, inl, inr, ◌+◌, add-one}
+use Rattle.std.proofs.lemmas.Bool.{eqb-true, ltb-true, lt-ltb}
 use Rattle.std.proofs.Math.Seq.{drop-cons}
 use Rattle.std.proofs.Math.ListN.{get_or-append}
 use Rattle.std.proofs.lemmas.List.{length-map, get_or-map, map-append, take-append-le, drop-append-le, append_cancel_right, nil_from_length, length-append}
@@ -8,23 +9,26 @@ use Rattle.script_grammar.specs.declared.token.Kind.{Kind}
 use Rattle.script_grammar.specs.declared.token.Kind.TheVariants as kind
 use Rattle.script_grammar.specs.declared.token.mark.TheConstants as mark
 use Rattle.script_grammar.specs.declared.brackets.Bracket.{Bracket}
-use Rattle.script_grammar.specs.declared.brackets.Bracket.TheVariants.{Paren, Brace}
-use Rattle.script_grammar.specs.declared.brackets.BracketPart.TheVariants.{Opening}
+use Rattle.script_grammar.specs.declared.brackets.Bracket.TheVariants.{Paren, Square, Brace}
+use Rattle.script_grammar.specs.declared.brackets.BracketPart.TheVariants.{Opening, Closing, Other}
 use Rattle.script_grammar.specs.Interpretation.{Interpretation}
 use Rattle.script_grammar.specs.Kinds.{is_mark}
 use Rattle.script_grammar.specs.Lexeme.{Lexeme, lexeme_of}
 use Rattle.script_grammar.specs.Matching.{kinds_of, part_of, part_at, next_open, opened_by, closed_by, IsBalanced, Pairs, IsMatching, partner_of}
 use Rattle.script_grammar.specs.Pieces.{paren, brace}
+use Rattle.script_grammar.specs.Tree.{no_stmts}
 use Rattle.pure_parser.specs.Parser.{Recorded, Reply, Read, Bad, Deep, head_of, rest_of, end_lexeme}
-use Rattle.pure_parser.specs.Exprs.{pass_over, arrow_behind, is_arrow}
+use Rattle.pure_parser.specs.Exprs.{pass_over, arrow_behind, is_arrow, only_params, begins_param}
 use Rattle.pure_parser.proofs.Bracketed.{kinds, IsInner, AllInner}
 use Rattle.pure_parser.proofs.Local.{Same, out, kept, grown, grown_records}
 use Rattle.pure_parser.proofs.LocalRace.{behind_local, runs_false}
-use Rattle.pure_parser.proofs.Partnered.{walk-paired, pass_over-walks, arrow_behind-walks, pass_over-alone, arrow_behind-alone}
+use Rattle.pure_parser.proofs.Strides.{Striding, strides_init, strides_stop, strides_end, strides_step, strides_jump}
+use Rattle.pure_parser.proofs.Partnered.{inner-take, part-read, walk-paired, pass_over-walks, arrow_behind-walks, pass_over-alone, arrow_behind-alone}
 use Rattle.pure_parser.proofs.Tests.{mark_known}
 use Rattle.parse_exprs.specs.declared.source.Source.{Source}
 use Rattle.parse_exprs.specs.Source.{IsSource, lexemes, front, ends_all}
 use Rattle.parse_exprs.specs.Ends.{no_token}
+use Rattle.parse_exprs.specs.Strides.{stride}
 use Rattle.pure_parser.proofs.PassingLaws.{pass_local}
 
 pub true_false : true ≡ false → ⊥
@@ -86,6 +90,47 @@ same_bad q us r s (kept e) h n = shrunk r (sym e ∙ h)
     shrunk (Read a rs ts) e = absurd (cc)
     shrunk (Bad rs ts) e = let f : grown_records q rs ≡ [] = cc in let g : ts ++ q ≡ us ++ q = cc in ap (λ x. Bad x ts) (no_records rs f) ∙ ap (Bad []) (append_cancel_right ts us q g)
     shrunk (Deep rs ts) e = absurd (cc)
+
+-- a token that closes a parenthesis, and one that opens a bracket
+
+paren_kind : (k : Kind) → closed_by (part_of k) ≡ Some Paren → k ≡ kind.Mark mark.CLOSE_PAREN
+paren_kind kind.Name e = absurd (cc)
+paren_kind kind.Number e = absurd (cc)
+paren_kind kind.Str e = absurd (cc)
+paren_kind kind.TemplateWhole e = absurd (cc)
+paren_kind kind.TemplateHead e = absurd (cc)
+paren_kind kind.TemplateMiddle e = absurd (cc)
+paren_kind kind.TemplateTail e = absurd (cc)
+paren_kind (kind.Word i) e = absurd (cc)
+paren_kind (kind.Mark i) e = ap kind.Mark (eqb-true i mark.CLOSE_PAREN (by (nat_eq i mark.OPEN_PAREN) (nat_eq i mark.CLOSE_PAREN) (nat_eq i mark.OPEN_BRACKET) (nat_eq i mark.CLOSE_BRACKET) (nat_eq i mark.OPEN_BRACE) (nat_eq i mark.CLOSE_BRACE) e))
+  where
+    by : (a b c d f g : Bool) → closed_by (if a then Opening Paren else (if b then Closing Paren else (if c then Opening Square else (if d then Closing Square else (if f then Opening Brace else (if g then Closing Brace else Other)))))) ≡ Some Paren → b ≡ true
+    by true b c d f g h = absurd (cc)
+    by false true c d f g h = refl
+    by false false true d f g h = absurd (cc)
+    by false false false true f g h = absurd (cc)
+    by false false false false true g h = absurd (cc)
+    by false false false false false true h = absurd (cc)
+    by false false false false false false h = absurd (cc)
+paren_kind kind.Bad e = absurd (cc)
+paren_kind kind.End e = absurd (cc)
+
+opens_no_comma : (k : Kind) (b : Bracket) → opened_by (part_of k) ≡ Some b → is_mark mark.COMMA k ≡ false
+opens_no_comma k b e = by (is_mark mark.COMMA k) refl
+  where
+    by : (c : Bool) → is_mark mark.COMMA k ≡ c → is_mark mark.COMMA k ≡ false
+    by true h = absurd (no_some (sym (ap (λ j. opened_by (part_of j)) (mark_known mark.COMMA k h)) ∙ e))
+      where
+        no_some : {A : Type 0} {x : A} → None ≡ Some x → ⊥
+        no_some k = cc
+    by false h = h
+
+ltb-not : (n q : ℕ) → q ≤ n → nat_lt n q ≡ false
+ltb-not n q l = by (nat_lt n q) refl
+  where
+    by : (b : Bool) → nat_lt n q ≡ b → nat_lt n q ≡ false
+    by true e = absurd (omega (arith, ltb-true n q e, l))
+    by false e = e
 
 module _ (s : Source) (h : IsSource s) (i : Interpretation) where
   f : Token → Lexeme
@@ -193,6 +238,19 @@ module _ (s : Source) (h : IsSource s) (i : Interpretation) where
       part : (n : ℕ) → n < length ls → get_or (kinds (ls ++ more)) n kind.End ≡ get_or (kinds ls) n kind.End
       part n k = ap (λ ks. get_or ks n kind.End) (map-append (λ (t : Lexeme). t.kind) ls more) ∙ get_or-append (kinds ls) (kinds more) kind.End n (let z = length-map ls (λ (t : Lexeme). t.kind) in omega arith)
 
+  same_kind : (n : ℕ) → n < length ls → get_or (kinds (ls ++ more)) n kind.End ≡ get_or (kinds ls) n kind.End
+  same_kind n k = ap (λ ks. get_or ks n kind.End) (map-append (λ (t : Lexeme). t.kind) ls more) ∙ get_or-append (kinds ls) (kinds more) kind.End n (let z = length-map ls (λ (t : Lexeme). t.kind) in omega arith)
+
+  -- and among all
+  pairs_back : (a p : ℕ) → p < length ls → Pairs (kinds ls) a p → Pairs (kinds (ls ++ more)) a p
+  pairs_back a p l x = record {
+    before = x.before;
+    bracket = x.bracket;
+    opened = ap (λ k. opened_by (part_of k)) (same_kind a (let b = x.before in omega arith)) ∙ x.opened;
+    closed = ap (λ k. closed_by (part_of k)) (same_kind p l) ∙ x.closed;
+    balanced = subst (λ ks. IsBalanced (drop (suc a) ks)) (sym (ap (take p) (map-append (λ (t : Lexeme). t.kind) ls more) ∙ take-append-le p (kinds ls) (kinds more) (let z = length-map ls (λ (t : Lexeme). t.kind) in omega arith))) x.balanced;
+  }
+
   opens_here : (m a : ℕ) (b : Bracket) → part_of (kind.Mark m) ≡ Opening b → is_mark m (head_of (front s i a)).kind ≡ true → part_at (kinds ls) a ≡ Opening b
   opens_here m a b p e = let x = stands m a e in ap part_of (get_or-map (λ (t : Lexeme). t.kind) ls a end_lexeme kind.End x.0 ∙ x.1) ∙ p
 
@@ -263,3 +321,91 @@ module _ (s : Source) (h : IsSource s) (i : Interpretation) where
         | inl same ↦ sym same ∙ ap (arrow_behind (paren ∷ [])) (sym (cut (suc a) (let w = within in omega (arith, l)))) ∙ arrow_behind-alone (ls ++ more) s.brackets.now a matches inner_whole ends (opens mark.OPEN_PAREN a Paren refl e) l g
         | inr runs ↦ runs_false paren [] (drop (suc a) ls) runs
       ]
+
+  -- The walk over a parenthesis from each bracket to its partner.
+  module _ (a p : ℕ) (e : is_mark mark.OPEN_PAREN (head_of (front s i a)).kind ≡ true) (g : partner_of s.brackets.now a ≡ Some p) where
+    pairing : (p < s.brackets.now.stop) × Pairs (kinds ls) a p
+    pairing = partner_pairs mark.OPEN_PAREN a p Paren refl e g
+
+    pub closes_behind : a < p
+    closes_behind = pairing.1.before
+
+    closes_within : p < length ls
+    closes_within = let w = within in let l = pairing.0 in omega arith
+
+    closes_inner : AllInner (take (suc p) ls)
+    closes_inner = inner-take ls (suc p) s.brackets.now.stop (let l = pairing.0 in omega arith) inner
+
+    abbrev Strides : ℕ → Bool → Type 0
+    Strides n starts = Striding (lexemes s i) a p n starts
+
+    pub striding_init : Strides (a + 1) true
+    unfolding ls
+    striding_init = subst (λ n. Striding ls a p n true) (sym (add-one a)) (strides_init ls a p end_lexeme closes_within closes_inner pairing.1)
+
+    lexeme_at : (n : ℕ) → n < p → get_or ls n end_lexeme ≡ head_of (front s i n)
+    lexeme_at n l = front_head n (let w = closes_within in omega arith)
+
+    begins_at : (n : ℕ) → n < p → begins_param (get_or ls n end_lexeme) (head_of (drop (suc n) ls)) ≡ begins_param (head_of (front s i n)) (head_of (rest_of (front s i n)))
+    begins_at n l = ap (λ t. begins_param t (head_of (drop (suc n) ls))) (lexeme_at n l) ∙ ap (λ ts. begins_param (head_of (front s i n)) (head_of ts)) (sym (front_rest n))
+
+    same_walk : only_params true (paren ∷ []) (drop (suc a) ls) ≡ only_params true (paren ∷ []) (rest_of (front s i a))
+    same_walk = ap (only_params true (paren ∷ [])) (sym (front_rest a))
+
+    pub striding_stop : (n : ℕ) → n < p → Strides n true → begins_param (head_of (front s i n)) (head_of (rest_of (front s i n))) ≡ false → false ≡ only_params true (paren ∷ []) (rest_of (front s i a))
+    unfolding ls
+    striding_stop n l h b = sym (strides_stop ls a p end_lexeme closes_within closes_inner pairing.1 n l h (begins_at n l ∙ b)) ∙ same_walk
+
+    pub striding_end : (n : ℕ) (starts : Bool) → p ≤ n → Strides n starts → true ≡ only_params true (paren ∷ []) (rest_of (front s i a))
+    unfolding ls
+    striding_end n starts l h = strides_end ls a p end_lexeme closes_within closes_inner pairing.1 n starts l h closing ∙ same_walk
+      where
+        same : pairing.1.bracket ≡ Paren
+        same = some_eq (sym (sym (ap opened_by (opens_here mark.OPEN_PAREN a Paren refl e)) ∙ pairing.1.opened))
+          where
+            some_eq : {A : Type 0} {x y : A} → Some x ≡ Some y → x ≡ y
+            some_eq k = cc
+
+        closing : (get_or ls p end_lexeme).kind ≡ kind.Mark mark.CLOSE_PAREN
+        closing = paren_kind (get_or ls p end_lexeme).kind (ap closed_by (sym (part-read ls p end_lexeme closes_within)) ∙ pairing.1.closed ∙ ap Some same)
+
+    no_some : {A : Type 0} {x : A} → None ≡ Some x → ⊥
+    no_some k = cc
+
+    -- a token that opens nothing has no partner behind it
+    stride_one : (n : ℕ) (o : Option ℕ) → n < p → partner_of s.brackets.now n ≡ o → opened_by (part_at (kinds ls) n) ≡ None → stride o n ≡ suc n
+    stride_one n None l k z = refl
+    stride_one n (Some q) l k z = elim (matches.partner n q k).pairs [
+      | inl x ↦ absurd (no_some (sym z ∙ ap (λ j. opened_by (part_of j)) (sym (same_kind n (let w = closes_within in omega arith))) ∙ x.opened))
+      | inr x ↦ ap (λ b. if b then q else suc n) (ltb-not n q (let b = x.1.before in omega arith))
+    ]
+
+    -- and one that opens a bracket has the one that closes it
+    stride_jump : (n q : ℕ) → q < p → Pairs (kinds ls) n q → stride (partner_of s.brackets.now n) n ≡ q
+    stride_jump n q l x =
+        let y : partner_of s.brackets.now n ≡ Some q = matches.only n q (record { token = (let b = x.before in let w = pairing.0 in omega arith); partner = (let w = pairing.0 in omega arith); pairs = inl (pairs_back n q (let w = closes_within in omega arith) x) }) in
+        ap (λ o. stride o n) y ∙ ap (λ b. if b then q else suc n) (lt-ltb n q x.before)
+
+    pub striding_next : (n : ℕ) (starts : Bool) → n < p → Strides n starts → (not starts || begins_param (head_of (front s i n)) (head_of (rest_of (front s i n)))) ≡ true → Strides (stride (partner_of s.brackets.now n) n) (is_mark mark.COMMA (head_of (front s i n)).kind)
+    unfolding ls
+    striding_next n starts l h b = by (opened_by (part_at (kinds ls) n)) refl
+      where
+        fits : (not starts || begins_param (get_or ls n end_lexeme) (head_of (drop (suc n) ls))) ≡ true
+        fits = ap (λ x. not starts || x) (begins_at n l) ∙ b
+
+        by : (o : Option Bracket) → opened_by (part_at (kinds ls) n) ≡ o → Striding ls a p (stride (partner_of s.brackets.now n) n) (is_mark mark.COMMA (head_of (front s i n)).kind)
+        by None o =
+            subst (λ x. Striding ls a p x (is_mark mark.COMMA (head_of (front s i n)).kind)) (sym (stride_one n (partner_of s.brackets.now n) l refl o))
+            (subst (λ (t : Lexeme). Striding ls a p (suc n) (is_mark mark.COMMA t.kind)) (lexeme_at n l) (strides_step ls a p end_lexeme closes_within closes_inner pairing.1 n starts l h fits o))
+        by (Some c) o =
+            let j = strides_jump ls a p end_lexeme closes_within closes_inner pairing.1 n starts c l h fits o in
+            subst (λ x. Striding ls a p x (is_mark mark.COMMA (head_of (front s i n)).kind)) (sym (stride_jump n j.to j.below j.pairs))
+            (subst (Striding ls a p j.to) (sym (opens_no_comma (head_of (front s i n)).kind c (ap (λ (t : Lexeme). opened_by (part_of t.kind)) (sym (lexeme_at n l)) ∙ ap opened_by (sym (part-read ls n end_lexeme (let w = closes_within in omega arith))) ∙ o))) j.behind)
+
+-- some interpretation, for what is so under each
+any_texts : Interpretation
+any_texts = record { texts = []; bodies = λ start. no_stmts }
+
+-- the partner of a parenthesis that opens stands behind it
+pub opens_before : (s : Source) → IsSource s → (a p : ℕ) → ((i : Interpretation) → is_mark mark.OPEN_PAREN (head_of (front s i a)).kind ≡ true) → partner_of s.brackets.now a ≡ Some p → a < p
+opens_before s h a p e g = closes_behind s h any_texts a p (e any_texts) g

@@ -6,3 +6,4 @@ pub mod Means
 pub mod Ranks
 pub mod Simple
 pub mod Source
+pub mod Strides

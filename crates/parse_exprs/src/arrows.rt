@@ -40,7 +40,7 @@ impl<H: Handler> State<H> {
     }
 
     #[cycle(exprs)]
-    #[tactic(auto, unfolding(pure_parser::specs::Exprs::arrow_first, pure_parser::specs::Exprs::arrow_item, pure_parser::specs::Exprs::doomed_items))]
+    #[tactic(auto, unfolding(pure_parser::specs::Exprs::arrow_first))]
     fn arrow_first(
         &mut self,
         source: &Source,
@@ -53,12 +53,8 @@ impl<H: Handler> State<H> {
             let name = self.rest_call(source, depth)?;
             return Ok(Turned::Last(ParamsEnd::Rest(name)));
         }
-        if self.place.is_param_form(source) {
-            let param = self.param_call(source, depth)?;
-            return Ok(Turned::Next(param));
-        }
-        self.items(source, depth)?;
-        Err(self.place.doomed(source))
+        let param = self.param_call(source, depth)?;
+        Ok(Turned::Next(param))
     }
 
     #[cycle(exprs)]

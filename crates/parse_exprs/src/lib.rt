@@ -25,6 +25,7 @@ pub mod arrows;
 pub mod chains;
 pub mod exprs;
 pub mod functions;
+pub mod heads;
 pub mod kinds;
 pub mod lists;
 pub mod nodes;

@@ -1,9 +1,11 @@
 //! Where a parser stands.
 
-ghost use Rattle.std.specs.Prelude.{ℕ, List, if◌then◌else◌, ◌≡◌, ◌<◌, ◌≤◌, ◌^◌, length, true};
+ghost use Rattle.std.specs.Prelude.{ℕ, List, if◌then◌else◌, ◌≡◌, ◌<◌, ◌≤◌, ◌^◌, length, true, Some};
+ghost use Rattle.script_grammar.specs.Matching.{partner_of};
 ghost use Rattle.script_grammar.specs.Interpretation.{Interpretation, named};
 ghost use Rattle.script_grammar.specs.Lexeme.{lexeme_of};
 ghost use Rattle.script_grammar.specs.Kinds as test;
+ghost use Rattle.script_grammar.specs.declared.token.mark.TheConstants as marks;
 ghost use Rattle.pure_parser.specs.Parser.{head_of, rest_of, Turn};
 ghost use Rattle.pure_parser.specs.Exprs as pure;
 ghost use Rattle.parse_exprs.specs.declared.place.ParseFault.TheVariants.{NoMemory as OutOfMemory, TooDeep as TooDeepAt, Unexpected as UnexpectedAt};
@@ -12,11 +14,10 @@ ghost use Rattle.parse_exprs.specs.Answers.{Reads, Refuses, records};
 ghost use Rattle.parse_exprs.specs.Ends.{end_before, end_of};
 ghost use Rattle.parse_exprs.specs.Env.{env_at};
 ghost use Rattle.script_grammar.specs.Tree.{Expr};
-ghost use Rattle.script_grammar.specs.TreeLists as part;
 ghost use Rattle.parse_exprs.specs.Means.{Itself, NameOf, MaybeNameOf, PassedOf};
 
 use crate::source::Source;
-use crate::{kinds, token};
+use crate::{heads, kinds, token};
 use script_grammar::token::{FuncForm, Kind, Token, mark};
 use script_grammar::tree::Ident;
 use std::alloc::{AllocError, AllocFailed};
@@ -200,27 +201,14 @@ impl Place {
         requires { IsSource source.now }
         ensures { (i : Interpretation) → result ≡ pure.is_param_form (head_of (front source.now i self.now.at)) (head_of (rest_of (front source.now i self.now.at))) }
     {
-        let next = self.next_kind(source);
-        self.is_name(source)
-            && (kinds::is_mark(next, mark::COMMA)
-                || kinds::is_mark(next, mark::CLOSE_PAREN)
-                || kinds::is_mark(next, mark::ASSIGN))
-    }
-
-    /// The kind of the token behind the present one.
-    fn next_kind(&self, source: &Source) -> Kind
-        requires { IsSource source.now }
-        ensures { (i : Interpretation) → result ≡ (head_of (rest_of (front source.now i self.now.at))).kind }
-    {
-        source.token(self.at as usize + 1).kind
+        heads::is_param_form(source, self.at)
     }
 
     /// The fault at what is not a closing parenthesis and an arrow's mark, where only these can stand but no arrow is.
     #[tactic(auto, unfolding(pure_parser::specs::Exprs::expect))]
     pub fn doomed(&mut self, source: &Source) -> ParseFault
         requires { IsSource source.now }
-        ensures items { (i : Interpretation) → Refuses {A = Turn Expr (List Expr)} source.now i self.new result (records source.now i self.old) (pure.doomed (front source.now i self.old.at)) }
-        ensures params { (i : Interpretation) → Refuses {A = Turn part.Param pure.ParamsEnd} source.now i self.new result (records source.now i self.old) (pure.doomed (front source.now i self.old.at)) }
+        ensures { (i : Interpretation) → Refuses {A = Turn Expr (List Expr)} source.now i self.new result (records source.now i self.old) (pure.doomed (front source.now i self.old.at)) }
     {
         if self.is_mark(source, mark::CLOSE_PAREN) {
             self.step(source);
@@ -228,7 +216,7 @@ impl Place {
         ParseFault::Unexpected { token: self.at }
     }
 
-    /// Whether an arrow begins here: a name and the mark, or a parenthesis behind whose partner it stands.
+    /// Whether an arrow begins here: a name and the mark, or a parenthesis with an arrow's parameters.
     pub fn is_arrow_head(&self, source: &Source) -> bool
         requires { IsSource source.now }
         ensures { (i : Interpretation) → result ≡ pure.is_arrow_head (front source.now i self.now.at) }
@@ -240,9 +228,23 @@ impl Place {
             return false;
         }
         match source.brackets.partner(self.at) {
-            Some(close) => Self::arrow_at(source, close as usize + 1),
+            Some(close) => self.opens_arrow(source, close),
             None => false,
         }
+    }
+
+    /// Whether an arrow's parameters stand between the parenthesis here and its partner, and the mark behind.
+    fn opens_arrow(&self, source: &Source, close: u32) -> bool
+        requires source { IsSource source.now }
+        requires opens { (i : Interpretation) → test.is_mark marks.OPEN_PAREN (head_of (front source.now i self.now.at)).kind ≡ true }
+        requires partner { partner_of source.now.brackets.now self.now.at ≡ Some close }
+        requires before { self.now.at < close }
+        ensures { (i : Interpretation) → result ≡ pure.arrow_opens (rest_of (front source.now i self.now.at)) }
+    {
+        if !Self::arrow_at(source, close as usize + 1) {
+            return false;
+        }
+        heads::only_params(source, self.at, close)
     }
 
     /// Whether an arrow's mark stands at this token, on the line of what is before it.

@@ -1,7 +1,7 @@
 -- From what the code answers beside the parser on lists of lexemes to the words of the grammar.
-use Rattle.std.proofs.Common.{◌≡◌, ◌∙◌, ℕ, ◌+◌, ◌-◌, ◌<◌, ◌≤◌, List, [], ◌∷◌, drop, take, length, refl, sym, ap, subst, arith, Bool, Option, Result, Ok, Err}
+use Rattle.std.proofs.Common.{◌≡◌, ◌∙◌, ℕ, zero, suc, ◌+◌, ◌-◌, ◌<◌, ◌≤◌, List, [], ◌∷◌, ◌++◌, drop, take, length, refl, sym, ap, subst, arith, Bool, Option, Result, Ok, Err, inl, inr}
 use Rattle.std.specs.Prelude.{IsErrAnd}
-use Rattle.std.proofs.lemmas.List.{length-map, length-drop, length-append}
+use Rattle.std.proofs.lemmas.List.{length-map, length-drop, length-append, take-append-drop}
 use Rattle.std.proofs.lemmas.Result.{err_from_is_err_and}
 use Rattle.script_grammar.specs.declared.node.NodeFunc.{NodeFunc}
 use Rattle.script_grammar.specs.declared.token.FuncForm.{FuncForm}
@@ -20,7 +20,9 @@ use Rattle.pure_parser.proofs.Closed.{Closed}
 use Rattle.pure_parser.proofs.ClosedParts.{Balanced, Matches, leaves_some, balanced_matches, assign_balanced, expression_balanced, body_balanced, head_balanced}
 use Rattle.pure_parser.proofs.Complete.{bare, bare_noted}
 use Rattle.pure_parser.proofs.CompleteFunctions.{PlainForm}
+use Rattle.pure_parser.proofs.Exact.{FaultsAt, assign_is_exact, expression_is_exact}
 use Rattle.pure_parser.proofs.FirstFaults.{Decides}
+use Rattle.pure_parser.proofs.PartLaws.{NoneDeep}
 use Rattle.pure_parser.proofs.PassedBodies.{pass_braced, body_decides}
 use Rattle.pure_parser.proofs.PassedHeads as heads
 use Rattle.pure_parser.proofs.PassedHeads.{pass_head, head_decides}
@@ -40,9 +42,9 @@ use Rattle.parse_bodies.specs.Blocks.{stmts_at, all_at}
 use Rattle.parse_bodies.specs.Means.{BodyOf}
 use Rattle.parse_bodies.specs.declared.part.BodyNode.{BodyNode}
 use Rattle.parse_bodies.proofs.Parts.{func_read}
-use Rattle.parse_parts.specs.Answers.{IsRefused, IsAssignment, IsExpression, IsHeaded, IsBraced}
-use Rattle.parse_parts.specs.Parts.{HeadPart, NoAssign, NoExpression, NoHead, NoBody, Taken}
-use Rattle.parse_parts.proofs.Present.{ReadsNothing, no_assign, no_expression, no_head, no_body}
+use Rattle.parse_parts.specs.Answers.{IsRefused, IsUnread, IsAssignment, IsExpression, IsHeaded, IsBraced}
+use Rattle.parse_parts.specs.Parts.{HeadPart, NoneWhole, NoHead, NoBody, Taken}
+use Rattle.parse_parts.proofs.Present.{ReadsNothing, no_head, no_body}
 use Rattle.parse_parts.proofs.Refusals.{some_left, bad_refused, deep_refused, renamed}
 use Rattle.parse_parts.proofs.Suffixes.{suffix_closed}
 use Rattle.parse_parts.proofs.Takes.{given, takes_assign, takes_expression, takes_head, takes_body}
@@ -80,6 +82,22 @@ plain_form form.Getter n m = tt
 plain_form form.Setter n m = tt
 plain_form form.Script n m = absurd (n refl)
 plain_form form.Arrow n m = absurd (m refl)
+
+-- the tokens from one place on, cut at a later one
+parted : (start k : ℕ) (xs : List Lexeme) → start ≤ k → drop start xs ≡ take (k - start) (drop start xs) ++ drop k xs
+parted start k xs l = sym (take-append-drop (k - start) (drop start xs)) ∙ ap (λ y. take (k - start) (drop start xs) ++ y) (later start (k - start) xs ∙ ap (λ n. drop n xs) (let e : start + (k - start) ≡ k = omega (arith, l) in e))
+  where
+    none : (n : ℕ) → drop {A = Lexeme} n [] ≡ []
+    none n = nil n
+      where
+        nil : (n : ℕ) → drop {A = Lexeme} n [] ≡ []
+        nil zero = refl
+        nil (suc n) = refl
+
+    later : (n j : ℕ) (xs : List Lexeme) → drop j (drop n xs) ≡ drop (n + j) xs
+    later zero j xs = let e : j ≡ 0 + j = omega arith in ap (λ m. drop m xs) e
+    later (suc n) j [] = none j ∙ sym (none (suc n + j))
+    later (suc n) j (x ∷ xs) = let e : suc (n + j) ≡ suc n + j = omega arith in later n j xs ∙ ap (λ m. drop m (x ∷ xs)) e
 
 module _ (s : Source) (h : IsSource s) (i : Interpretation) where
   -- the tokens from one of the text on
@@ -126,6 +144,17 @@ module _ (s : Source) (h : IsSource s) (i : Interpretation) where
   fault_is P f d o none start n l (faults.TooDeep k) e = (deep_refused P f d (lexemes s i) start k e, n (reads_no_deep f (drop start (lexemes s i)) (drop k (lexemes s i)) e))
   fault_is P f d o none start n l faults.NoMemory e = tt
 
+  -- Where no part that is all of the tokens before a fault is read so, they are none.
+  unread : {A : Type 0} (P : Part) (f : Parser A) → ((w us : List Lexeme) (deep : List ℕ) → P w deep → NoneDeep deep → FaultsAt f (w ++ us) us → ⊥) → (start k : ℕ) → start ≤ k → FaultsAt f (front s i start) (front s i k) → NoneWhole P (front s i start) (k - start)
+  unfolding front
+  unread P f x start k l e = record { none = λ deep p h. x (take (k - start) (drop start (lexemes s i))) (drop k (lexemes s i)) deep p h (subst (λ y. FaultsAt f y (drop k (lexemes s i))) (parted start k (lexemes s i) l) e) }
+
+  pub unread_is : {A : Type 0} (P : Part) (f : Parser A) → Decides P f → Matches P → ((w us : List Lexeme) (deep : List ℕ) → P w deep → NoneDeep deep → FaultsAt f (w ++ us) us → ⊥) → (start : ℕ) → start < length s.tokens.now → (e : ParseFault) → Faults s i e (bare (f (front s i start))) → IsUnread P i s start e
+  unfolding front
+  unread_is P f d o x start l (faults.Unexpected k) e = let r = bad_refused P f d o (lexemes s i) start k (closed_at start l) e in (r, unread P f x start k r.not_before (inl e))
+  unread_is P f d o x start l (faults.TooDeep k) e = let r = deep_refused P f d (lexemes s i) start k e in (r, unread P f x start k r.not_before (inr e))
+  unread_is P f d o x start l faults.NoMemory e = tt
+
   module _ (d : ℕ) (low : d ≤ depth_limit) (start : ℕ) (l : start < length s.tokens.now) (p : Place) (rs : List Recorded) where
     room : depth_limit - d + d ≡ depth_limit
     room = omega (arith, low)
@@ -144,7 +173,7 @@ module _ (s : Source) (h : IsSource s) (i : Interpretation) where
 
       pub assignment_refused : (e : ParseFault) → Refuses s i p e rs ((env_at i d).sub (AnAssign w) (front s i start)) → IsAssignment {E = E} i shows s w d start p.at (Err e)
       assignment_refused e a =
-          fault_is (AssignPart passed w d) (pass_assign (body_at i) (given i) (depth_limit - d) w) (assign_decides (body_at i) (given i) (depth_limit - d) d room w) (balanced_matches (AssignPart passed w d) (assign_balanced passed w d)) (NoAssign w d (front s i start)) start (no_assign i (depth_limit - d) d room (front s i start) w) l e
+          unread_is (AssignPart passed w d) (pass_assign (body_at i) (given i) (depth_limit - d) w) (assign_decides (body_at i) (given i) (depth_limit - d) d room w) (balanced_matches (AssignPart passed w d) (assign_balanced passed w d)) (assign_is_exact (body_at i) (given i) (depth_limit - d) d room w) start l e
           (subst (λ (f : Parser Expr). Faults s i e (bare (f (front s i start)))) assign_here (fault_bare s i p e rs _ a))
 
     -- an Expression
@@ -160,7 +189,7 @@ module _ (s : Source) (h : IsSource s) (i : Interpretation) where
 
       pub expression_refused : (e : ParseFault) → Refuses s i p e rs (expr_of (env_at i d) w (front s i start)) → IsExpression {E = E} i shows s w d start p.at (Err e)
       expression_refused e a =
-          fault_is (ExpressionPart passed w d) (pass_expression (body_at i) (given i) (depth_limit - d) w) (expression_decides (body_at i) (given i) (depth_limit - d) d room w) (balanced_matches (ExpressionPart passed w d) (expression_balanced passed w d)) (NoExpression w d (front s i start)) start (no_expression i (depth_limit - d) d room (front s i start) w) l e
+          unread_is (ExpressionPart passed w d) (pass_expression (body_at i) (given i) (depth_limit - d) w) (expression_decides (body_at i) (given i) (depth_limit - d) d room w) (balanced_matches (ExpressionPart passed w d) (expression_balanced passed w d)) (expression_is_exact (body_at i) (given i) (depth_limit - d) d room w) start l e
           (subst (λ (f : Parser Expr). Faults s i e (bare (f (front s i start)))) expression_here (fault_bare s i p e rs _ a))
 
     -- a function that is no arrow

@@ -1,30 +1,26 @@
 -- A part that stands in front of the tokens behind it is read, where no token of it is too deep. So there is none where the
 -- parser faults.
-use Rattle.std.proofs.Common.{◌≡◌, ◌∙◌, ℕ, suc, ◌+◌, List, [], ◌++◌, sym, ap, subst, Bool, true, false, Option, None, ◌⊎◌, inl, inr}
+use Rattle.std.proofs.Common.{◌≡◌, ◌∙◌, ℕ, suc, ◌+◌, List, [], ◌++◌, sym, ap, subst, Bool, Option, None}
 use Rattle.script_grammar.specs.declared.token.FuncForm.{FuncForm}
 use Rattle.script_grammar.specs.declared.token.Kind.TheVariants as kind
-use Rattle.script_grammar.specs.Endings.{ending}
-use Rattle.script_grammar.specs.Fault.{depth_limit, AssignPart, ExpressionPart}
+use Rattle.script_grammar.specs.Fault.{depth_limit}
 use Rattle.script_grammar.specs.Interpretation.{Interpretation}
 use Rattle.script_grammar.specs.Kinds.{is_end}
 use Rattle.script_grammar.specs.Lexeme.{Lexeme}
 use Rattle.script_grammar.specs.Pieces.{passed, depths}
-use Rattle.script_grammar.specs.Print.{print, print_function}
-use Rattle.script_grammar.specs.Script.{IsAssign, IsExpression, IsFunction, IsBody, print_braced, print_alone}
-use Rattle.script_grammar.specs.Tree.{Named, Expr, Stmts, Function}
+use Rattle.script_grammar.specs.Print.{print_function}
+use Rattle.script_grammar.specs.Script.{IsFunction, IsBody, print_braced, print_alone}
+use Rattle.script_grammar.specs.Tree.{Named, Stmts, Function}
 use Rattle.pure_parser.specs.Parser.{Read, Parser, head_of}
 use Rattle.pure_parser.specs.Exprs.{BodyRead}
-use Rattle.pure_parser.specs.Follow.{continues_assign, continues_expr}
 use Rattle.pure_parser.proofs.Complete.{bare}
 use Rattle.pure_parser.proofs.CompleteFunctions.{PlainForm}
 use Rattle.pure_parser.proofs.PartLaws.{NoneDeep}
 use Rattle.pure_parser.proofs.PassedBodies.{pass_braced, body_is_passed}
 use Rattle.pure_parser.proofs.PassedFunctions.{pass_alone, function_is_passed}
 use Rattle.pure_parser.proofs.PassedHeads.{pass_head, head_is_passed}
-use Rattle.pure_parser.proofs.PassedParts.{pass_assign, pass_expression, assign_is_passed, expression_is_passed}
-use Rattle.pure_parser.proofs.Tests.{bool_cases}
 use Rattle.parse_exprs.specs.Env.{body_at}
-use Rattle.parse_parts.specs.Parts.{IsHead, Taken, NoAssign, NoExpression, NoHead, NoBody, NoFunction}
+use Rattle.parse_parts.specs.Parts.{IsHead, Taken, NoHead, NoBody, NoFunction}
 use Rattle.parse_parts.proofs.Takes.{given}
 
 -- a parser reads nothing from these
@@ -32,31 +28,6 @@ abbrev pub ReadsNothing : {A : Type 0} → Parser A → List Lexeme → Type 0
 ReadsNothing {A} f from = (a : A) (us : List Lexeme) → bare (f from) ≡ Read a [] us → ⊥
 
 module _ (i : Interpretation) (room d : ℕ) (q : room + d ≡ depth_limit) (from : List Lexeme) where
-  module _ (w : Bool) where
-    pub no_assign : ReadsNothing (pass_assign (body_at i) (given i) room w) from → NoAssign w d from
-    no_assign n = record { goes_on = λ rest t e. by rest t e (bool_cases (continues_assign w (ending t.part.tree) (head_of rest))) }
-      where
-        reads : (u rest : List Lexeme) (tree : Expr) (next : Lexeme) → next ≡ head_of rest → continues_assign w (ending tree) (head_of rest) ≡ false → (is : IsAssign passed w d u next tree) → NoneDeep (depths (print passed (suc d) tree) u next is.fits) → (a : Expr) × (bare (pass_assign (body_at i) (given i) room w (u ++ rest)) ≡ Read a [] rest)
-        reads u rest tree next e g =
-            subst (λ x. (is : IsAssign passed w d u x tree) → NoneDeep (depths (print passed (suc d) tree) u x is.fits) → (a : Expr) × (bare (pass_assign (body_at i) (given i) room w (u ++ rest)) ≡ Read a [] rest)) (sym e)
-            (λ is h. (_, assign_is_passed (body_at i) (given i) room d q w u rest tree is h g))
-
-        by : (rest : List Lexeme) (t : Taken (AssignPart passed w d) from rest) → t.part.next ≡ head_of rest → (continues_assign w (ending t.part.tree) (head_of rest) ≡ true) ⊎ (continues_assign w (ending t.part.tree) (head_of rest) ≡ false) → continues_assign w (ending t.part.tree) (head_of rest) ≡ true
-        by rest t e (inl g) = g
-        by rest t e (inr g) = let r = reads t.tokens rest t.part.tree t.part.next e g t.part.is (subst NoneDeep t.part.deep_is t.shallow) in absurd (n r.0 rest (ap (λ x. bare (pass_assign (body_at i) (given i) room w x)) t.split ∙ r.1))
-
-    pub no_expression : ReadsNothing (pass_expression (body_at i) (given i) room w) from → NoExpression w d from
-    no_expression n = record { goes_on = λ rest t e. by rest t e (bool_cases (continues_expr w (ending t.part.tree) (head_of rest))) }
-      where
-        reads : (u rest : List Lexeme) (tree : Expr) (next : Lexeme) → next ≡ head_of rest → continues_expr w (ending tree) (head_of rest) ≡ false → (is : IsExpression passed w d u next tree) → NoneDeep (depths (print passed (suc d) tree) u next is.fits) → (a : Expr) × (bare (pass_expression (body_at i) (given i) room w (u ++ rest)) ≡ Read a [] rest)
-        reads u rest tree next e g =
-            subst (λ x. (is : IsExpression passed w d u x tree) → NoneDeep (depths (print passed (suc d) tree) u x is.fits) → (a : Expr) × (bare (pass_expression (body_at i) (given i) room w (u ++ rest)) ≡ Read a [] rest)) (sym e)
-            (λ is h. (_, expression_is_passed (body_at i) (given i) room d q w u rest tree is h g))
-
-        by : (rest : List Lexeme) (t : Taken (ExpressionPart passed w d) from rest) → t.part.next ≡ head_of rest → (continues_expr w (ending t.part.tree) (head_of rest) ≡ true) ⊎ (continues_expr w (ending t.part.tree) (head_of rest) ≡ false) → continues_expr w (ending t.part.tree) (head_of rest) ≡ true
-        by rest t e (inl g) = g
-        by rest t e (inr g) = let r = reads t.tokens rest t.part.tree t.part.next e g t.part.is (subst NoneDeep t.part.deep_is t.shallow) in absurd (n r.0 rest (ap (λ x. bare (pass_expression (body_at i) (given i) room w x)) t.split ∙ r.1))
-
   pub no_body : (f : FuncForm) (start : ℕ) (simple : Bool) → ReadsNothing (pass_braced (body_at i) (given i) room f start simple) from → NoBody d from
   no_body f start simple n = record { none = λ rest t e. let r = reads t.tokens rest t.part.end t.part.items t.part.next e t.part.is (subst NoneDeep t.part.deep_is t.shallow) in n r.0 rest (ap (λ x. bare (pass_braced (body_at i) (given i) room f start simple x)) t.split ∙ r.1) }
     where

@@ -2,7 +2,7 @@
 --
 -- Everywhere here `from` are the tokens of the text from the place on where a call began, and `behind` those from the place on
 -- where it stands afterwards. Braced bodies of functions are passed over: they are looked at as tokens whose brackets match.
-use Rattle.std.specs.Prelude.{ℕ, ◌≤◌, ◌-◌, ◌≡◌, List, [], ◌∷◌, ◌++◌, get_or, Bool, true, Option, None}
+use Rattle.std.specs.Prelude.{ℕ, ◌≤◌, ◌-◌, ◌≡◌, List, [], ◌∷◌, ◌++◌, get_or, take, Bool, Option, None}
 use Rattle.script_grammar.specs.declared.token.Kind.TheVariants as kind
 use Rattle.script_grammar.specs.declared.token.FuncForm.{FuncForm}
 use Rattle.script_grammar.specs.declared.node.NodeFunc.{NodeFunc}
@@ -16,9 +16,7 @@ use Rattle.script_grammar.specs.Print.{print_function}
 use Rattle.script_grammar.specs.Proper.{ProperFunction}
 use Rattle.script_grammar.specs.Script.{IsOf}
 use Rattle.script_grammar.specs.Fault.{depth_limit, Part, Begins, Refusal, FirstFault, AssignPart, ExpressionPart, BodyPart, FunctionPart}
-use Rattle.script_grammar.specs.Endings.{ending}
 use Rattle.pure_parser.specs.Parser.{head_of}
-use Rattle.pure_parser.specs.Follow.{continues_assign, continues_expr}
 use Rattle.pure_parser.specs.Filling.{fill, fill_params, fill_stmts, fill_function}
 use Rattle.parse_exprs.specs.Env.{body_at}
 
@@ -94,17 +92,13 @@ pub record TakesAlone {E B : Type 0} (i : Interpretation) (shows : E → Expr �
   pub ends : (head_of behind).kind ≡ kind.End
   pub shown : ShowFunc i shows shows_body node (fill_inside (body_at i) taken.part.tree)
 
--- Where there is no such part, as far as the token behind it tells: wherever one stands there, with no token too deep, the token
--- behind it goes on with it, as a member, a call, an operator or `=>` on its line does.
+-- The first tokens of these, so many, are no such part whole, or one of them is too deep. Where they are the most that begin
+-- such a part, it is read nowhere: the longest list of tokens that begins one is none.
+pub record NoneWhole (P : Part) (from : List Lexeme) (count : ℕ) : Type 0 where
+  pub none : (deep : List ℕ) → P (take count from) deep → ((j : ℕ) → get_or deep j 0 ≤ depth_limit) → ⊥
 
-pub record NoAssign (with_in : Bool) (depth : ℕ) (from : List Lexeme) : Type 0 where
-  pub goes_on : (behind : List Lexeme) (there : Taken (AssignPart passed with_in depth) from behind) → there.part.next ≡ head_of behind → continues_assign with_in (ending there.part.tree) (head_of behind) ≡ true
-
-pub record NoExpression (with_in : Bool) (depth : ℕ) (from : List Lexeme) : Type 0 where
-  pub goes_on : (behind : List Lexeme) (there : Taken (ExpressionPart passed with_in depth) from behind) → there.part.next ≡ head_of behind → continues_expr with_in (ending there.part.tree) (head_of behind) ≡ true
-
--- And where no token behind it matters there is none: what ends with a brace stands nowhere, and a function not in front of the
--- End token.
+-- Where no token behind a part matters there is none at all: what ends with a brace stands nowhere, and a function not in front
+-- of the End token.
 
 pub record NoHead (form : FuncForm) (name : Option Named) (depth : ℕ) (from : List Lexeme) : Type 0 where
   pub none : (behind : List Lexeme) (there : Taken (HeadPart passed form name depth) from behind) → there.part.next ≡ head_of behind → ⊥

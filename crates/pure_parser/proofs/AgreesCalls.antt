@@ -15,7 +15,7 @@ use Rattle.pure_parser.specs.Exprs.{Env, Call, Calls, AnAssign, APrefix, ANew, A
 use Rattle.pure_parser.proofs.Agrees.{Verdict, fine, bad_at, deep_at, judged, records, MeetsAt, Agrees, TurnK, agrees_bind, agrees_ret, agrees_bad, agrees_peek, agrees_step, agrees_when, agrees_if, agrees_made, agrees_loop, agrees_no_room}
 use Rattle.pure_parser.proofs.Alike.{AnyK, SameK, OptionK, ExprK, BodyK, OperandK, ParamK, HeadK, list_last, head_alike, function_alike, binary_alike}
 use Rattle.pure_parser.specs.Filling.{fill}
-use Rattle.pure_parser.proofs.AgreesExprs.{CallK, AgreesEnv, ParamTurn, ParamsK, done, agrees_two, expect_agrees, own_body_agrees, name_agrees, param_agrees, params_led_agrees, items_agrees, doomed_agrees, new_agrees, unary_agrees, prefix_agrees}
+use Rattle.pure_parser.proofs.AgreesExprs.{CallK, AgreesEnv, ParamTurn, ParamsK, done, expect_agrees, own_body_agrees, name_agrees, param_agrees, params_led_agrees, new_agrees, unary_agrees, prefix_agrees}
 
 module _ (bodies : ℕ → Body) where
   abbrev pub PowerTurn : Turn Operand (Option Operand) → Turn Operand (Option Operand) → Type 0
@@ -133,17 +133,9 @@ module _ (bodies : ℕ → Body) where
 
       -- arrows
 
-      doomed_items_agrees : {A B : Type 0} (K : A → B → Type 0) → Agrees judge K (parser.doomed_items {A = A} v) (parser.doomed_items {A = B} u)
-      unfolding parser.doomed_items
-      doomed_items_agrees K = agrees_bind judge (items_agrees bodies judge v u s) (λ _ _ _. doomed_agrees bodies judge v u s K)
-
-      arrow_item_agrees : Agrees judge (ParamTurn bodies) (parser.arrow_item v) (parser.arrow_item u)
-      unfolding parser.arrow_item
-      arrow_item_agrees = agrees_two bodies judge (λ t x. agrees_when judge (parser.is_param_form t x) (agrees_made judge Again Again (s.sub AParam) (λ a b k. k)) (doomed_items_agrees (ParamTurn bodies)))
-
       arrow_first_agrees : Agrees judge (ParamTurn bodies) (parser.arrow_first v) (parser.arrow_first u)
       unfolding parser.arrow_first
-      arrow_first_agrees = agrees_peek judge (λ t. agrees_when judge (is_mark mark.ELLIPSIS t.kind) (agrees_made judge (λ n. Stop (Rest n)) (λ n. Stop (Rest n)) (s.sub ARest) (λ a b k. k)) arrow_item_agrees)
+      arrow_first_agrees = agrees_peek judge (λ t. agrees_when judge (is_mark mark.ELLIPSIS t.kind) (agrees_made judge (λ n. Stop (Rest n)) (λ n. Stop (Rest n)) (s.sub ARest) (λ a b k. k)) (agrees_made judge Again Again (s.sub AParam) (λ a b k. k)))
 
       arrow_next_agrees : Agrees judge (ParamTurn bodies) (parser.arrow_next v) (parser.arrow_next u)
       unfolding parser.arrow_next

@@ -15,7 +15,7 @@ use Rattle.script_grammar.specs.Endings.{ending}
 use Rattle.script_grammar.specs.Print.{print, print_params, print_tails, print_operands, print_body, first_kind}
 use Rattle.script_grammar.specs.Proper.{rank, HasTails, HasOperands, operands_level, first_rank}
 use Rattle.pure_parser.specs.Parser.{head_of}
-use Rattle.pure_parser.specs.Exprs.{is_arrow, is_arrow_head, arrow_behind, closed_case}
+use Rattle.pure_parser.specs.Exprs.{is_arrow, is_arrow_head, arrow_opens, arrow_behind, closed_case, only_params}
 use Rattle.pure_parser.specs.Follow.{continues_assign}
 use Rattle.pure_parser.proofs.Friendly.{first_of}
 use Rattle.pure_parser.proofs.Fitting.{head_first}
@@ -25,6 +25,7 @@ use Rattle.pure_parser.proofs.Complete.{joined}
 use Rattle.pure_parser.proofs.Completes.{Leads, at_kind, lead_at}
 use Rattle.pure_parser.proofs.Nested.{Nested, deeper_behind, nested_append, comma_nested}
 use Rattle.pure_parser.proofs.NestedTrees.{nested_expr, nested_params}
+use Rattle.pure_parser.proofs.ParamsBegin.{params_begin}
 use Rattle.pure_parser.proofs.ExprFronts.{Opens, opens_first, opens_some, update_is}
 use Rattle.pure_parser.proofs.CompletePlain.{IsArrow}
 use Rattle.pure_parser.proofs.ProperIn.{Mode, of_expr, of_params, Proper}
@@ -49,9 +50,9 @@ behind_close t r h = ap (λ k. closed_case (open_behind k (paren ∷ [])) (is_ar
 
 -- the first lexeme
 
-at_paren : (t : Lexeme) (ts : List Lexeme) → t.kind ≡ kind.Mark mark.OPEN_PAREN → is_arrow_head (t ∷ ts) ≡ arrow_behind (paren ∷ []) ts
+at_paren : (t : Lexeme) (ts : List Lexeme) → t.kind ≡ kind.Mark mark.OPEN_PAREN → is_arrow_head (t ∷ ts) ≡ arrow_opens ts
 unfolding is_arrow_head
-at_paren t ts e = at_kind (λ u. is_arrow_head (u ∷ ts) ≡ arrow_behind (paren ∷ []) ts) (kind.Mark mark.OPEN_PAREN) t e refl
+at_paren t ts e = at_kind (λ u. is_arrow_head (u ∷ ts) ≡ arrow_opens ts) (kind.Mark mark.OPEN_PAREN) t e refl
 
 at_name : (t : Lexeme) (ts : List Lexeme) → t.kind ≡ kind.Name → is_arrow_head (t ∷ ts) ≡ is_arrow (head_of ts)
 unfolding is_arrow_head
@@ -64,14 +65,13 @@ neither false false x y h k = refl
 
 at_other : (t : Lexeme) (ts : List Lexeme) → is_name t.kind ≡ false → is_mark mark.OPEN_PAREN t.kind ≡ false → is_arrow_head (t ∷ ts) ≡ false
 unfolding is_arrow_head
-at_other t ts h k = neither (is_name t.kind) (is_mark mark.OPEN_PAREN t.kind) (is_arrow (head_of ts)) (arrow_behind (paren ∷ []) ts) h k
+at_other t ts h k = neither (is_name t.kind) (is_mark mark.OPEN_PAREN t.kind) (is_arrow (head_of ts)) (arrow_opens ts) h k
 
 -- behind what stands in parentheses: what stands behind the closing one
-paren_group : (at d : ℕ) (inner qs : List Piece) → Nested inner → (w : List Marked) (rest : List Lexeme) → Stands (placed (kind.Mark mark.OPEN_PAREN) at d ∷ (inner ++ (mark_piece mark.CLOSE_PAREN d ∷ qs))) w (head_of rest) → (b : Bool) → ((v : List Marked) → Stands qs v (head_of rest) → is_arrow (head_of (lexemes v ++ rest)) ≡ b) → is_arrow_head (lexemes w ++ rest) ≡ b
-paren_group at d inner qs n [] rest h b f = absurd h
-paren_group at d inner qs n (x ∷ w) rest h b f =
-    let p = stands_split inner (mark_piece mark.CLOSE_PAREN d ∷ qs) w (head_of rest) h.2 in
-    at_paren x.lexeme (lexemes w ++ rest) h.0.kind ∙ close_at p.front p.back p.split p.first p.second
+paren_group : (at d : ℕ) (inner qs : List Piece) → Nested inner → (w : List Marked) (rest : List Lexeme) → Stands (inner ++ (mark_piece mark.CLOSE_PAREN d ∷ qs)) w (head_of rest) → (b : Bool) → ((v : List Marked) → Stands qs v (head_of rest) → is_arrow (head_of (lexemes v ++ rest)) ≡ b) → arrow_behind (paren ∷ []) (lexemes w ++ rest) ≡ b
+paren_group at d inner qs n w rest h b f =
+    let p = stands_split inner (mark_piece mark.CLOSE_PAREN d ∷ qs) w (head_of rest) h in
+    close_at p.front p.back p.split p.first p.second
   where
     close_at : (u v : List Marked) → w ≡ u ++ v → Stands inner u (first_of (lexemes v) (head_of rest)) → Stands (mark_piece mark.CLOSE_PAREN d ∷ qs) v (head_of rest) → arrow_behind (paren ∷ []) (lexemes w ++ rest) ≡ b
     close_at u [] e i k = absurd k
@@ -97,8 +97,16 @@ arrow_found m d at start end name ps comma false b h w rest k =
     let behind : List Piece = glued_mark mark.ARROW d ∷ print_body m.look d end b in
     let params : List Piece = print_params m.look (suc d) d ps in
     let close : List Piece = mark_piece mark.CLOSE_PAREN d ∷ [] in
-    let same : (params ++ (comma_piece comma d ++ close)) ++ behind ≡ (params ++ comma_piece comma d) ++ (mark_piece mark.CLOSE_PAREN d ∷ behind) = append_assoc params (comma_piece comma d ++ close) behind ∙ ap (λ x. params ++ x) (append_assoc (comma_piece comma d) close behind) ∙ sym (append_assoc params (comma_piece comma d) (mark_piece mark.CLOSE_PAREN d ∷ behind)) in
-    paren_group start d (params ++ comma_piece comma d) behind (nested_append (nested_params m.look (suc d) d ps (of_params m ps h.1.3)) (comma_nested comma d)) w rest (subst (λ x. Stands (placed (kind.Mark mark.OPEN_PAREN) start d ∷ x) w (head_of rest)) same k) true (λ v q. mark_found d (print_body m.look d end b) v rest q)
+    let inner : List Piece = comma_piece comma d ++ (mark_piece mark.CLOSE_PAREN d ∷ behind) in
+    let one : (params ++ (comma_piece comma d ++ close)) ++ behind ≡ params ++ inner = append_assoc params (comma_piece comma d ++ close) behind ∙ ap (λ x. params ++ x) (append_assoc (comma_piece comma d) close behind) in
+    let two : params ++ inner ≡ (params ++ comma_piece comma d) ++ (mark_piece mark.CLOSE_PAREN d ∷ behind) = sym (append_assoc params (comma_piece comma d) (mark_piece mark.CLOSE_PAREN d ∷ behind)) in
+    open_found (params ++ inner) w (subst (λ x. Stands (placed (kind.Mark mark.OPEN_PAREN) start d ∷ x) w (head_of rest)) one k)
+    (λ v q. paren_group start d (params ++ comma_piece comma d) behind (nested_append (nested_params m.look (suc d) d ps (of_params m ps h.1.3)) (comma_nested comma d)) v rest (subst (λ x. Stands x v (head_of rest)) two q) true (λ v q. mark_found d (print_body m.look d end b) v rest q))
+    (λ v q. params_begin m.look (suc d) d comma behind rest ps h.1.0 (of_params m ps h.1.3) (lexemes v) (head_of rest) (stands_fit (params ++ inner) v (head_of rest) q))
+  where
+    open_found : (ps : List Piece) (w : List Marked) → Stands (placed (kind.Mark mark.OPEN_PAREN) start d ∷ ps) w (head_of rest) → ((v : List Marked) → Stands ps v (head_of rest) → arrow_behind (paren ∷ []) (lexemes v ++ rest) ≡ true) → ((v : List Marked) → Stands ps v (head_of rest) → only_params true (paren ∷ []) (lexemes v ++ rest) ≡ true) → is_arrow_head (lexemes w ++ rest) ≡ true
+    open_found ps [] h f g = absurd h
+    open_found ps (x ∷ w) h f g = at_paren x.lexeme (lexemes w ++ rest) h.0.kind ∙ and_both (arrow_behind (paren ∷ []) (lexemes w ++ rest)) (only_params true (paren ∷ []) (lexemes w ++ rest)) (f w h.2) (g w h.2)
 arrow_found m d at start end name no_params comma true b h w rest k = absurd h.1.2
 arrow_found m d at start end name (more_params n (some_expr e) r ps) comma true b h w rest k = absurd h.1.2
 arrow_found m d at start end name (more_params n no_expr true ps) comma true b h w rest k = absurd h.1.2
@@ -143,11 +151,17 @@ of_name n d = record { at = none }
     none (x ∷ y ∷ w) rest h g = absurd h.2
 
 of_paren : (m : Mode) (d at : ℕ) (inner : Expr) → Proper m inner → NoHead (print m.look d (tree.Paren at inner)) NotArrow
-of_paren m d at inner p = record { at = λ w rest h g. paren_group at d (print m.look (suc d) inner) [] (nested_expr m.look (suc d) inner (of_expr m inner p)) w rest h false (λ v k. none v rest k g) }
+of_paren m d at inner p = record { at = none }
   where
-    none : (v : List Marked) (rest : List Lexeme) → Stands [] v (head_of rest) → NotArrow (head_of rest) → is_arrow (head_of (lexemes v ++ rest)) ≡ false
-    none [] rest h g = g
-    none (x ∷ v) rest h g = absurd h
+    last : (v : List Marked) (rest : List Lexeme) → Stands [] v (head_of rest) → NotArrow (head_of rest) → is_arrow (head_of (lexemes v ++ rest)) ≡ false
+    last [] rest h g = g
+    last (x ∷ v) rest h g = absurd h
+
+    none : (w : List Marked) (rest : List Lexeme) → Stands (print m.look d (tree.Paren at inner)) w (head_of rest) → NotArrow (head_of rest) → is_arrow_head (lexemes w ++ rest) ≡ false
+    none [] rest h g = absurd h
+    none (x ∷ w) rest h g =
+        at_paren x.lexeme (lexemes w ++ rest) h.0.kind
+        ∙ ap (λ b. b && only_params true (paren ∷ []) (lexemes w ++ rest)) (paren_group at d (print m.look (suc d) inner) [] (nested_expr m.look (suc d) inner (of_expr m inner p)) w rest h.2 false (λ v k. last v rest k g))
 
 of_from : (n : ℕ) (ps : List Piece) (F : Lexeme → Type 0) → NoHead ps F → NoHead (from n ps) F
 of_from n ps F x = record { at = λ w rest h g. x.at w rest (unfrom ps w (head_of rest) h) g }

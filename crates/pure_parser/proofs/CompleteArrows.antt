@@ -3,19 +3,19 @@ use Rattle.std.proofs.Common.{◌≡◌, ℕ, suc, ◌≤◌, ◌<◌, List, [],
 use Rattle.script_grammar.specs.declared.token.Kind.TheVariants as kind
 use Rattle.script_grammar.specs.declared.token.mark.TheConstants as mark
 use Rattle.script_grammar.specs.Lexeme.{Lexeme}
-use Rattle.script_grammar.specs.Kinds.{is_mark, is_name}
+use Rattle.script_grammar.specs.Kinds.{is_mark}
 use Rattle.script_grammar.specs.Tree.{Named, Expr, MaybeExpr, no_expr, some_expr, Params, no_params, more_params}
 use Rattle.script_grammar.specs.TreeLists.{Param, maybe_expr_of}
 use Rattle.script_grammar.specs.Pieces.{Piece, mark_piece, name_piece, comma_piece}
 use Rattle.script_grammar.specs.Print.{print_params, print_more_params, print_initializer}
 use Rattle.script_grammar.specs.Proper.{AreParams}
-use Rattle.pure_parser.specs.Parser.{Read, head_of, rest_of, ret, bind, step, when, Turn, Again, Stop, loop, stopped, begun, Many}
+use Rattle.pure_parser.specs.Parser.{Read, head_of, ret, bind, step, when, Turn, Again, Stop, loop, stopped, begun, Many}
 use Rattle.pure_parser.specs.Exprs as parser
 use Rattle.pure_parser.specs.Exprs.{Env, AParam, ARest, expect, param, ParamsEnd, Plain, Trailing, Rest, Head, head_case, is_param_form}
 use Rattle.pure_parser.proofs.Friendly.{first_of}
-use Rattle.pure_parser.proofs.Tests.{true_false, and_both, or_left, or_right, or_cases, mark_known}
+use Rattle.pure_parser.proofs.Tests.{true_false, or_cases, mark_known}
 use Rattle.pure_parser.proofs.Stands.{Marked, lexemes, Stands}
-use Rattle.pure_parser.proofs.Complete.{Parses, bare}
+use Rattle.pure_parser.proofs.Complete.{bare}
 use Rattle.pure_parser.proofs.Completes.{Completes, Leads, Any, lead_none, lead_at, lead_any, lead_map, c_ret, c_bind, c_made, c_at, c_front, c_look, c_weaken, c_pieces, c_mark}
 use Rattle.pure_parser.proofs.CompleteLoops.{c_loop, LastLeads}
 use Rattle.pure_parser.proofs.CompleteStmts.{c_value}
@@ -52,29 +52,8 @@ module _ (limit : ℕ) (m : Mode) (d : ℕ) (low : d ≤ limit) (v : Env) (c : C
   abbrev param_places : Named → MaybeExpr → List Piece
   param_places n o = name_piece n (suc d) ∷ print_initializer m.look (suc d) o
 
-  abbrev by_form : List Lexeme → Bool
-  by_form ts = is_param_form (head_of ts) (head_of (rest_of ts))
-
-  param_form : (n : Named) (o : MaybeExpr) (w : List Marked) (rest : List Lexeme) → Stands (param_places n o) w (head_of rest) → Behind (head_of rest) → by_form (lexemes w ++ rest) ≡ true
-  param_form n no_expr [] rest h k = absurd h
-  param_form n no_expr (x ∷ []) rest h k = and_both (is_name x.lexeme.kind) (is_mark mark.COMMA (head_of rest).kind || is_mark mark.CLOSE_PAREN (head_of rest).kind || is_mark mark.ASSIGN (head_of rest).kind) (ap is_name h.0.kind) (or_left (is_mark mark.COMMA (head_of rest).kind || is_mark mark.CLOSE_PAREN (head_of rest).kind) (is_mark mark.ASSIGN (head_of rest).kind) k)
-  param_form n no_expr (x ∷ y ∷ w) rest h k = absurd h.2
-  param_form n (some_expr e) [] rest h k = absurd h
-  param_form n (some_expr e) (x ∷ []) rest h k = absurd h.2
-  param_form n (some_expr e) (x ∷ y ∷ w) rest h k = and_both (is_name x.lexeme.kind) (is_mark mark.COMMA y.lexeme.kind || is_mark mark.CLOSE_PAREN y.lexeme.kind || is_mark mark.ASSIGN y.lexeme.kind) (ap is_name h.0.kind) (or_right (is_mark mark.COMMA y.lexeme.kind || is_mark mark.CLOSE_PAREN y.lexeme.kind) (is_mark mark.ASSIGN y.lexeme.kind) (ap (is_mark mark.ASSIGN) h.2.0.kind))
-
-  item_case : (ts : List Lexeme) → by_form ts ≡ true → parser.arrow_item v ts ≡ bind (v.sub AParam) parser.again ts
-  unfolding parser.arrow_item
-  item_case ts h = ap (λ b. when b (bind (v.sub AParam) parser.again) (parser.doomed_items v) ts) h
-
   called : (n : Named) (o : MaybeExpr) → ProperMaybe m o → Completes limit {A = Turn Param ParamsEnd} (param_places n o) Behind (bind (v.sub AParam) parser.again) (Again (param n (option_of o)))
   called n o h = c_made limit Again (c_weaken limit (λ t g. behind_follows o t g) (subst (λ x. Completes limit (name_piece n (suc d) ∷ print_initializer m.look (suc d) x) (ParamFollow x) (v.sub AParam) (param n (option_of o))) (of_maybe o) (c.calls.param (param n (option_of o)) refl (subst (ProperMaybe m) (sym (of_maybe o)) h))))
-
-  item_complete : (n : Named) (o : MaybeExpr) → ProperMaybe m o → Completes limit (param_places n o) Behind (parser.arrow_item v) (Again (param n (option_of o)))
-  item_complete n o h = record { at = read }
-    where
-      read : (w : List Marked) (rest : List Lexeme) → Stands (param_places n o) w (head_of rest) → Behind (head_of rest) → Parses limit (parser.arrow_item v) w rest (Again (param n (option_of o)))
-      read w rest k g = record { by = ap bare (item_case (lexemes w ++ rest) (param_form n o w rest k g)) ∙ ((called n o h).at w rest k g).by }
 
   name_some : (n : Named) (ps : List Piece) (w : List Marked) (x : Lexeme) → Stands (name_piece n (suc d) ∷ ps) w x → 0 < length (lexemes w)
   name_some n ps [] x h = absurd h
@@ -86,16 +65,16 @@ module _ (limit : ℕ) (m : Mode) (d : ℕ) (low : d ≤ limit) (v : Env) (c : C
 
   -- a parameter, or a rest parameter
 
-  first_item : (t : Lexeme) (ts : List Lexeme) → is_mark mark.ELLIPSIS t.kind ≡ false → parser.arrow_first v (t ∷ ts) ≡ parser.arrow_item v (t ∷ ts)
+  first_item : (t : Lexeme) (ts : List Lexeme) → is_mark mark.ELLIPSIS t.kind ≡ false → parser.arrow_first v (t ∷ ts) ≡ bind (v.sub AParam) parser.again (t ∷ ts)
   unfolding parser.arrow_first
-  first_item t ts h = ap (λ b. when b (bind (v.sub ARest) parser.rest_stop) (parser.arrow_item v) (t ∷ ts)) h
+  first_item t ts h = ap (λ b. when b (bind (v.sub ARest) parser.rest_stop) (bind (v.sub AParam) parser.again) (t ∷ ts)) h
 
   first_rest : (t : Lexeme) (ts : List Lexeme) → is_mark mark.ELLIPSIS t.kind ≡ true → parser.arrow_first v (t ∷ ts) ≡ bind (v.sub ARest) parser.rest_stop (t ∷ ts)
   unfolding parser.arrow_first
-  first_rest t ts h = ap (λ b. when b (bind (v.sub ARest) parser.rest_stop) (parser.arrow_item v) (t ∷ ts)) h
+  first_rest t ts h = ap (λ b. when b (bind (v.sub ARest) parser.rest_stop) (bind (v.sub AParam) parser.again) (t ∷ ts)) h
 
   one_complete : (n : Named) (o : MaybeExpr) → ProperMaybe m o → Completes limit (param_places n o) Behind (parser.arrow_first v) (Again (param n (option_of o)))
-  one_complete n o h = c_front limit (parser.arrow_item v) (λ x w rest q g. first_item x.lexeme (lexemes w ++ rest) (ap (is_mark mark.ELLIPSIS) q.0.kind)) (name_some n (print_initializer m.look (suc d) o)) (item_complete n o h)
+  one_complete n o h = c_front limit (bind (v.sub AParam) parser.again) (λ x w rest q g. first_item x.lexeme (lexemes w ++ rest) (ap (is_mark mark.ELLIPSIS) q.0.kind)) (name_some n (print_initializer m.look (suc d) o)) (called n o h)
 
   rest_complete : (n : Named) → Completes limit (mark_piece mark.ELLIPSIS (suc d) ∷ name_piece n (suc d) ∷ []) Any (parser.arrow_first v) (Stop (Rest n))
   rest_complete n = c_front limit (bind (v.sub ARest) parser.rest_stop) (λ x w rest q g. first_rest x.lexeme (lexemes w ++ rest) (ap (is_mark mark.ELLIPSIS) q.0.kind)) (mark_some mark.ELLIPSIS (suc d) (name_piece n (suc d) ∷ [])) (c_made limit (λ x. Stop (Rest x)) (c.calls.rest n))

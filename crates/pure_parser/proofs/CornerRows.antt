@@ -3,7 +3,7 @@ use Rattle.std.proofs.Common.{◌≡◌, [], ◌∷◌, true, false, refl}
 use Rattle.script_grammar.specs.declared.token.Kind.TheVariants as kind
 use Rattle.script_grammar.specs.declared.token.mark.TheConstants as mark
 use Rattle.script_grammar.specs.declared.token.word.TheConstants as word
-use Rattle.pure_parser.proofs.Rows.{Accepted, Unexpected, answer, name_at, number_at, text_at, word_at, mark_at, bad_at, end_at}
+use Rattle.pure_parser.proofs.Rows.{Accepted, Unexpected, Leaves, answer, answer_expression, name_at, number_at, text_at, word_at, mark_at, bad_at, end_at}
 
 -- `function f(){}()`
 row_0 : answer 12 ((word_at word.FUNCTION (102 ∷ 117 ∷ 110 ∷ 99 ∷ 116 ∷ 105 ∷ 111 ∷ 110 ∷ []) 0 8 false) ∷ (name_at (102 ∷ []) 9 10 false) ∷ (mark_at mark.OPEN_PAREN 10 11 false) ∷ (mark_at mark.CLOSE_PAREN 11 12 false) ∷ (mark_at mark.OPEN_BRACE 12 13 false) ∷ (mark_at mark.CLOSE_BRACE 13 14 false) ∷ (mark_at mark.OPEN_PAREN 14 15 false) ∷ (mark_at mark.CLOSE_PAREN 15 16 false) ∷ (end_at 16 false) ∷ []) ≡ Unexpected 16
@@ -654,3 +654,60 @@ row_128 = refl
 row_129 : answer 12 ((word_at word.BREAK (98 ∷ 114 ∷ 101 ∷ 97 ∷ 107 ∷ []) 0 5 false) ∷ (name_at (97 ∷ []) 6 7 true) ∷ (end_at 7 false) ∷ []) ≡ Accepted
 unfolding answer
 row_129 = refl
+
+-- Expressions that are read alone, up to the lexeme that does not go on with them.
+
+-- `(a.b) => 1`
+alone_0 : answer_expression 12 ((mark_at mark.OPEN_PAREN 0 1 false) ∷ (name_at (97 ∷ []) 1 2 false) ∷ (mark_at mark.DOT 2 3 false) ∷ (name_at (98 ∷ []) 3 4 false) ∷ (mark_at mark.CLOSE_PAREN 4 5 false) ∷ (mark_at mark.ARROW 6 8 false) ∷ (number_at 1 9 10 false) ∷ (end_at 10 false) ∷ []) ≡ Leaves 6
+unfolding answer_expression
+alone_0 = refl
+
+-- `(a, b.c) => d`
+alone_1 : answer_expression 12 ((mark_at mark.OPEN_PAREN 0 1 false) ∷ (name_at (97 ∷ []) 1 2 false) ∷ (mark_at mark.COMMA 2 3 false) ∷ (name_at (98 ∷ []) 4 5 false) ∷ (mark_at mark.DOT 5 6 false) ∷ (name_at (99 ∷ []) 6 7 false) ∷ (mark_at mark.CLOSE_PAREN 7 8 false) ∷ (mark_at mark.ARROW 9 11 false) ∷ (name_at (100 ∷ []) 12 13 false) ∷ (end_at 13 false) ∷ []) ≡ Leaves 9
+unfolding answer_expression
+alone_1 = refl
+
+-- `(a = 1, b.c) => d`
+alone_2 : answer_expression 12 ((mark_at mark.OPEN_PAREN 0 1 false) ∷ (name_at (97 ∷ []) 1 2 false) ∷ (mark_at mark.ASSIGN 3 4 false) ∷ (number_at 1 5 6 false) ∷ (mark_at mark.COMMA 6 7 false) ∷ (name_at (98 ∷ []) 8 9 false) ∷ (mark_at mark.DOT 9 10 false) ∷ (name_at (99 ∷ []) 10 11 false) ∷ (mark_at mark.CLOSE_PAREN 11 12 false) ∷ (mark_at mark.ARROW 13 15 false) ∷ (name_at (100 ∷ []) 16 17 false) ∷ (end_at 17 false) ∷ []) ≡ Leaves 13
+unfolding answer_expression
+alone_2 = refl
+
+-- `((a)) => b`
+alone_3 : answer_expression 12 ((mark_at mark.OPEN_PAREN 0 1 false) ∷ (mark_at mark.OPEN_PAREN 1 2 false) ∷ (name_at (97 ∷ []) 2 3 false) ∷ (mark_at mark.CLOSE_PAREN 3 4 false) ∷ (mark_at mark.CLOSE_PAREN 4 5 false) ∷ (mark_at mark.ARROW 6 8 false) ∷ (name_at (98 ∷ []) 9 10 false) ∷ (end_at 10 false) ∷ []) ≡ Leaves 6
+unfolding answer_expression
+alone_3 = refl
+
+-- `(a, b) => c`
+alone_4 : answer_expression 12 ((mark_at mark.OPEN_PAREN 0 1 false) ∷ (name_at (97 ∷ []) 1 2 false) ∷ (mark_at mark.COMMA 2 3 false) ∷ (name_at (98 ∷ []) 4 5 false) ∷ (mark_at mark.CLOSE_PAREN 5 6 false) ∷ (mark_at mark.ARROW 7 9 false) ∷ (name_at (99 ∷ []) 10 11 false) ∷ (end_at 11 false) ∷ []) ≡ Leaves 11
+unfolding answer_expression
+alone_4 = refl
+
+-- `(a = [b, 1].c, d) => e`
+alone_5 : answer_expression 12 ((mark_at mark.OPEN_PAREN 0 1 false) ∷ (name_at (97 ∷ []) 1 2 false) ∷ (mark_at mark.ASSIGN 3 4 false) ∷ (mark_at mark.OPEN_BRACKET 5 6 false) ∷ (name_at (98 ∷ []) 6 7 false) ∷ (mark_at mark.COMMA 7 8 false) ∷ (number_at 1 9 10 false) ∷ (mark_at mark.CLOSE_BRACKET 10 11 false) ∷ (mark_at mark.DOT 11 12 false) ∷ (name_at (99 ∷ []) 12 13 false) ∷ (mark_at mark.COMMA 13 14 false) ∷ (name_at (100 ∷ []) 15 16 false) ∷ (mark_at mark.CLOSE_PAREN 16 17 false) ∷ (mark_at mark.ARROW 18 20 false) ∷ (name_at (101 ∷ []) 21 22 false) ∷ (end_at 22 false) ∷ []) ≡ Leaves 22
+unfolding answer_expression
+alone_5 = refl
+
+-- `(a, 1) => b`
+alone_6 : answer_expression 12 ((mark_at mark.OPEN_PAREN 0 1 false) ∷ (name_at (97 ∷ []) 1 2 false) ∷ (mark_at mark.COMMA 2 3 false) ∷ (number_at 1 4 5 false) ∷ (mark_at mark.CLOSE_PAREN 5 6 false) ∷ (mark_at mark.ARROW 7 9 false) ∷ (name_at (98 ∷ []) 10 11 false) ∷ (end_at 11 false) ∷ []) ≡ Leaves 7
+unfolding answer_expression
+alone_6 = refl
+
+-- `(a.b,) => c`
+alone_7 : answer_expression 12 ((mark_at mark.OPEN_PAREN 0 1 false) ∷ (name_at (97 ∷ []) 1 2 false) ∷ (mark_at mark.DOT 2 3 false) ∷ (name_at (98 ∷ []) 3 4 false) ∷ (mark_at mark.COMMA 4 5 false) ∷ (mark_at mark.CLOSE_PAREN 5 6 false) ∷ (mark_at mark.ARROW 7 9 false) ∷ (name_at (99 ∷ []) 10 11 false) ∷ (end_at 11 false) ∷ []) ≡ Unexpected 5
+unfolding answer_expression
+alone_7 = refl
+
+-- `() => 1`
+alone_8 : answer_expression 12 ((mark_at mark.OPEN_PAREN 0 1 false) ∷ (mark_at mark.CLOSE_PAREN 1 2 false) ∷ (mark_at mark.ARROW 3 5 false) ∷ (number_at 1 6 7 false) ∷ (end_at 7 false) ∷ []) ≡ Leaves 7
+unfolding answer_expression
+alone_8 = refl
+
+-- `(a, ...b) => 1`
+alone_9 : answer_expression 12 ((mark_at mark.OPEN_PAREN 0 1 false) ∷ (name_at (97 ∷ []) 1 2 false) ∷ (mark_at mark.COMMA 2 3 false) ∷ (mark_at mark.ELLIPSIS 4 7 false) ∷ (name_at (98 ∷ []) 7 8 false) ∷ (mark_at mark.CLOSE_PAREN 8 9 false) ∷ (mark_at mark.ARROW 10 12 false) ∷ (number_at 1 13 14 false) ∷ (end_at 14 false) ∷ []) ≡ Leaves 14
+unfolding answer_expression
+alone_9 = refl
+
+-- `a = (b.c) => 1`
+alone_10 : answer_expression 12 ((name_at (97 ∷ []) 0 1 false) ∷ (mark_at mark.ASSIGN 2 3 false) ∷ (mark_at mark.OPEN_PAREN 4 5 false) ∷ (name_at (98 ∷ []) 5 6 false) ∷ (mark_at mark.DOT 6 7 false) ∷ (name_at (99 ∷ []) 7 8 false) ∷ (mark_at mark.CLOSE_PAREN 8 9 false) ∷ (mark_at mark.ARROW 10 12 false) ∷ (number_at 1 13 14 false) ∷ (end_at 14 false) ∷ []) ≡ Leaves 10
+unfolding answer_expression
+alone_10 = refl

@@ -36,10 +36,12 @@ pub mod CompleteSwitch
 pub mod CompleteUnary
 pub mod Completes
 pub mod DeepFronts
+pub mod Exact
 pub mod ExprEnds
 pub mod ExprFronts
 pub mod FillLaws
 pub mod FirstFaults
+pub mod Flat
 pub mod Fitting
 pub mod Friendly
 pub mod FunctionAlone
@@ -57,6 +59,7 @@ pub mod Lone
 pub mod Nested
 pub mod NestedTrees
 pub mod OnePassed
+pub mod ParamsBegin
 pub mod PartLaws
 pub mod PassedAlone
 pub mod PassedBodies
@@ -97,9 +100,12 @@ pub mod SoundStmts
 pub mod SoundSwitch
 pub mod Spanned
 pub mod Stands
+pub mod Steady
+pub mod SteadyCalls
 pub mod StmtFitting
 pub mod StmtFronts
 pub mod StmtNext
 pub mod Stops
+pub mod Strides
 pub mod Tests
 pub mod Verdicts

@@ -1,20 +1,15 @@
 -- The heads and bodies of arrows look at no lexeme behind the place where they stop, where the calls that count for the
 -- depth do not.
-use Rattle.std.proofs.Common.{◌≡◌, ℕ, List, [], ◌∷◌, length, refl, sym, ap, ◌∙◌, subst, arith, Bool, true, false}
+use Rattle.std.proofs.Common.{ℕ, Bool}
 use Rattle.script_grammar.specs.declared.token.FuncForm.TheVariants as form
 use Rattle.script_grammar.specs.declared.token.mark.TheConstants as mark
-use Rattle.script_grammar.specs.Lexeme.{Lexeme}
 use Rattle.script_grammar.specs.Kinds.{is_mark, is_name}
-use Rattle.script_grammar.specs.Tree.{Expr}
-use Rattle.script_grammar.specs.TreeLists.{Param}
-use Rattle.pure_parser.specs.Parser.{Deep, Parser, head_of, after, ret, bind, step, when, Turn, Again, Stop, stopped, loop}
+use Rattle.pure_parser.specs.Parser.{ret, bind, step, when, Again, Stop, stopped}
 use Rattle.pure_parser.specs.Exprs
 use Rattle.pure_parser.specs.Exprs.{Env, AnAssign, AParam, ARest, ParamsEnd, Plain, Trailing, Rest, Head, expect, name_of, again, is_param_form, is_arrow, bare_head, is_simple, short_body, spanned}
-use Rattle.pure_parser.proofs.Tests.{and_left}
-use Rattle.pure_parser.proofs.Local.{Local, Same, out, kept, left, grown, after_shorter, local_ret, local_bad, local_bind, local_peek, local_when, local_step, local_loop, Gains, gains_peek, gains_step, moves_when}
+use Rattle.pure_parser.proofs.Local.{Local, local_ret, local_bad, local_bind, local_peek, local_when, local_step, Gains, gains_peek, gains_step, moves_when}
 use Rattle.pure_parser.proofs.Spanned.{local_spanned}
-use Rattle.pure_parser.proofs.LocalStmts.{local_two}
-use Rattle.pure_parser.proofs.LocalExprs.{LocalEnv, NameEnd, deep_end, read_end, expect_local, name_of_local, param_local, items_local, doomed_local, params_led_local, more_turn_local, more_turn_gains, no_form}
+use Rattle.pure_parser.proofs.LocalExprs.{LocalEnv, expect_local, name_of_local, param_local, params_led_local}
 
 pub arrow_rest_local : Local Exprs.arrow_rest
 unfolding Exprs.arrow_rest
@@ -29,48 +24,9 @@ module _ (v : Env) (l : LocalEnv v) where
   unfolding Exprs.arrow_param
   arrow_param_local = param_local v l
 
-  pub doomed_items_local : {A : Type 0} → Local (Exprs.doomed_items {A = A} v)
-  unfolding Exprs.doomed_items
-  doomed_items_local = local_bind (items_local v l) (λ es. doomed_local v l)
-
-  -- a name behind which no lexeme is: as an item, and as a parameter with more lexemes behind it
-
-  param_again : Parser (Turn Param ParamsEnd)
-  param_again = bind (v.sub AParam) again
-
-  param_again_local : Local param_again
-  unfolding param_again
-  param_again_local = local_bind (l.at AParam) (λ p. local_ret (Again p))
-
-  items_end : (t : Lexeme) → length (left (v.sub (AnAssign true) (t ∷ []))) ≡ 0 → length (left (Exprs.doomed_items {A = Turn Param ParamsEnd} v (t ∷ []))) ≡ 0
-  unfolding Exprs.doomed_items Exprs.items_from
-  items_end t h =
-      let more = λ (e : Expr). bind (loop (Exprs.more_turn v true)) (λ m. ret (e ∷ m.items)) in
-      let more_is = λ (e : Expr). local_bind (local_loop (more_turn_local v l true) (more_turn_gains v l true)) (λ m. local_ret (e ∷ m.items)) in
-      let gone : Parser (Turn Param ParamsEnd) = Exprs.doomed in
-      omega (arith, h, after_shorter (λ es. gone) (λ es. doomed_local v l) (after (v.sub (AnAssign true) (t ∷ [])) more), after_shorter more more_is (v.sub (AnAssign true) (t ∷ [])))
-
-  items_deep : (t : Lexeme) → v.sub (AnAssign true) (t ∷ []) ≡ Deep [] (t ∷ []) → Exprs.doomed_items {A = Turn Param ParamsEnd} v (t ∷ []) ≡ Deep [] (t ∷ [])
-  unfolding Exprs.doomed_items Exprs.items_from
-  items_deep t h = ap (λ r. after (after r (λ e. bind (loop (Exprs.more_turn v true)) (λ m. ret (e ∷ m.items)))) (λ es. Exprs.doomed)) h
-
-  param_end : (t : Lexeme) (q : List Lexeme) → NameEnd v t → Same q (Exprs.doomed_items v (t ∷ [])) (param_again (t ∷ q))
-  unfolding param_again
-  param_end t q (deep_end h k) = kept (ap (λ r. after r (again {A = Param} {B = ParamsEnd})) (k q) ∙ sym (ap (λ r. grown q r) (items_deep t (h []))))
-  param_end t q (read_end h k) = out (items_end t h) (omega (arith, k q, after_shorter (again {A = Param} {B = ParamsEnd}) (λ p. local_ret (Again p)) (v.sub AParam (t ∷ q))))
-
-  arrow_item_same : (t : Lexeme) (q : List Lexeme) (b : Bool) → is_param_form t (head_of q) ≡ b → Same q (Exprs.doomed_items v (t ∷ [])) (when b param_again (Exprs.doomed_items v) (t ∷ q))
-  arrow_item_same t q true h = param_end t q (l.name t (and_left (is_name t.kind) _ h))
-  arrow_item_same t q false h = doomed_items_local.same (t ∷ []) q
-
-  pub arrow_item_local : Local (Exprs.arrow_item v)
-  unfolding Exprs.arrow_item param_again
-  arrow_item_local = local_two (λ t u. local_when (is_param_form t u) param_again_local doomed_items_local)
-      (λ t q. subst (λ b. Same q (when b param_again (Exprs.doomed_items v) (t ∷ [])) (when (is_param_form t (head_of q)) param_again (Exprs.doomed_items v) (t ∷ q))) (sym (no_form v l t)) (arrow_item_same t q (is_param_form t (head_of q)) refl))
-
   pub arrow_first_local : Local (Exprs.arrow_first v)
   unfolding Exprs.arrow_first
-  arrow_first_local = local_peek (λ t. local_when (is_mark mark.ELLIPSIS t.kind) (local_bind (l.at ARest) (λ n. local_ret (Stop (Rest n)))) arrow_item_local)
+  arrow_first_local = local_peek (λ t. local_when (is_mark mark.ELLIPSIS t.kind) (local_bind (l.at ARest) (λ n. local_ret (Stop (Rest n)))) (local_bind (l.at AParam) (λ p. local_ret (Again p))))
 
   pub arrow_next_local : Local (Exprs.arrow_next v)
   unfolding Exprs.arrow_next

@@ -12,9 +12,9 @@ use Rattle.script_grammar.specs.Tree as tree
 use Rattle.script_grammar.specs.Pieces.{Bodies, paren}
 use Rattle.pure_parser.specs.Parser.{Reply, Read, Bad, Deep, Parser, head_of, after, ret, bad, deep, bind, step, when, no_room, turns, loop}
 use Rattle.pure_parser.specs.Exprs
-use Rattle.pure_parser.specs.Exprs.{Env, Call, BodyParser, AnAssign, APrefix, ANew, AParam, ARest, calls, call_case, no_calls, begins_call, named, param, is_param_form, is_arrow, is_update_expr, binary_case, with_last, name_of, arrow_behind}
+use Rattle.pure_parser.specs.Exprs.{Env, Call, BodyParser, AnAssign, APrefix, ANew, AParam, ARest, calls, call_case, no_calls, begins_call, named, param, is_param_form, is_arrow, is_update_expr, binary_case, with_last, name_of, arrow_behind, only_params}
 use Rattle.pure_parser.proofs.Friendly.{AtFront}
-use Rattle.pure_parser.proofs.Tests.{mark_known, name_known, bool_cases}
+use Rattle.pure_parser.proofs.Tests.{mark_known, name_known, bool_cases, and_right}
 use Rattle.pure_parser.proofs.Local.{Local, Same, out, kept, left, grown_records, after_shorter, local_ret, local_bind, local_when, local_loop, local_no_room, Eats, Ate, eats_bind, eats_no_room, eats_peek, ate_when, ate_step}
 use Rattle.pure_parser.proofs.Sound.{Leads, Outcome, Sound}
 use Rattle.pure_parser.proofs.Sound as sound
@@ -23,7 +23,7 @@ use Rattle.pure_parser.proofs.SoundCalls.{calls_sound, case_sound}
 use Rattle.pure_parser.proofs.Lone.{of_kind, lone_assign, form_name, form_cases}
 use Rattle.pure_parser.proofs.LocalExprs.{LocalEnv, deep_end, read_end, name_of_local, initializer_local, chain_local, tail_turn_local, tail_turn_gains, postfix_local, power_turn_local, power_turn_gains, operands_local, level_local, cond_tail_local, assign_tail_local, plain_local, prefix_local, new_local, short_behind_local, after_noted}
 use Rattle.pure_parser.proofs.LocalArrows.{arrow_local, arrow_behind_local, arrow_param_local, arrow_rest_local}
-use Rattle.pure_parser.proofs.LocalRace.{RunsOut, behind_local, runs_false, Race, race_same, race_left, race_right}
+use Rattle.pure_parser.proofs.LocalRace.{RunsOut, opens_local, opens_false, Race, race_same, race_left, race_right}
 use Rattle.pure_parser.proofs.LocalHeads.{Pair, pair_out, pair_bad, pair_deep, pair_read, read_noted, paren_race}
 
 known : (k : Kind) (t : Lexeme) → t.kind ≡ k → of_kind k t ≡ t
@@ -40,7 +40,7 @@ plain_end v w t e = subst (λ x. length (left (Exprs.plain_of v w (x ∷ []))) �
 
 pub assign_end : (v : Env) (w : Bool) (t : Lexeme) → is_name t.kind ≡ true → length (left (Exprs.assign_of v w (t ∷ []))) ≡ 0
 unfolding Exprs.assign_of Exprs.is_arrow_head
-assign_end v w t e = ap (λ b. length (left (when b (Exprs.arrow_of v w) (Exprs.plain_of v w) (t ∷ [])))) (ap (λ k. if is_name k then is_arrow (head_of []) else (is_mark mark.OPEN_PAREN k && arrow_behind (paren ∷ []) [])) (name_known t.kind e)) ∙ plain_end v w t e
+assign_end v w t e = ap (λ b. length (left (when b (Exprs.arrow_of v w) (Exprs.plain_of v w) (t ∷ [])))) (ap (λ k. if is_name k then is_arrow (head_of []) else (is_mark mark.OPEN_PAREN k && Exprs.arrow_opens [])) (name_known t.kind e)) ∙ plain_end v w t e
 
 -- what is read at the front is not nothing
 
@@ -61,17 +61,17 @@ module _ (v : Env) (l : LocalEnv v) (m : Bodies) (d : ℕ) (s : SoundEnv m d v)
   open_lexeme : Lexeme → Lexeme
   open_lexeme t = of_kind (kind.Mark mark.OPEN_PAREN) t
 
-  head_race : (q us : List Lexeme) (t : Lexeme) → RunsOut (paren ∷ []) us → (w : Bool) → Race q (Exprs.paren_of v true t.start us) (Exprs.arrow_of v w (open_lexeme t ∷ (us ++ q)))
+  head_race : (q us : List Lexeme) (t : Lexeme) → RunsOut (paren ∷ []) us → only_params true (paren ∷ []) (us ++ q) ≡ true → (w : Bool) → Race q (Exprs.paren_of v true t.start us) (Exprs.arrow_of v w (open_lexeme t ∷ (us ++ q)))
   unfolding Exprs.arrow_of Exprs.arrow_head open_lexeme
-  head_race q us t r w = race_right q (Exprs.paren_of v true t.start us) (Exprs.arrow_listed v t.start (us ++ q)) (λ h. bind Exprs.arrow_mark (λ _. bind (Exprs.arrow_body v w h) (λ b. ret (Exprs.arrow_case h b)))) (arrow_behind_local v l w) (paren_race v l q m d s (pair q) t.start us r)
+  head_race q us t r f w = race_right q (Exprs.paren_of v true t.start us) (Exprs.arrow_listed v t.start (us ++ q)) (λ h. bind Exprs.arrow_mark (λ _. bind (Exprs.arrow_body v w h) (λ b. ret (Exprs.arrow_case h b)))) (arrow_behind_local v l w) (paren_race v l q m d s (pair q) t.start us r f)
 
-  module _ (q us : List Lexeme) (t : Lexeme) (w : Bool) (r : RunsOut (paren ∷ []) us) where
+  module _ (q us : List Lexeme) (t : Lexeme) (w : Bool) (r : RunsOut (paren ∷ []) us) (f : only_params true (paren ∷ []) (us ++ q) ≡ true) where
     arrowed : Reply Expr
     arrowed = Exprs.arrow_of v w (open_lexeme t ∷ (us ++ q))
 
     left_race : Race q (Exprs.left_of v true (open_lexeme t ∷ us)) arrowed
     unfolding Exprs.left_of Exprs.new_or_prim Exprs.prim_of open_lexeme arrowed
-    left_race = race_left q (Exprs.paren_of v true t.start us) arrowed (Exprs.chain_of (Exprs.tail_turn v)) (chain_local v l (tail_turn_local v l) (tail_turn_gains v l)) (head_race q us t r w)
+    left_race = race_left q (Exprs.paren_of v true t.start us) arrowed (Exprs.chain_of (Exprs.tail_turn v)) (chain_local v l (tail_turn_local v l) (tail_turn_gains v l)) (head_race q us t r f w)
 
     unary_race : Race q (Exprs.unary_of v true (open_lexeme t ∷ us)) arrowed
     unfolding Exprs.unary_of Exprs.update_of open_lexeme
@@ -93,9 +93,9 @@ module _ (v : Env) (l : LocalEnv v) (m : Bodies) (d : ℕ) (s : SoundEnv m d v)
         (race_left q (Exprs.short_circuit v w true (open_lexeme t ∷ us)) arrowed (Exprs.cond_tail v w) (cond_tail_local v l w)
         (race_left q (Exprs.level_of v w 8 true (open_lexeme t ∷ us)) arrowed _ (short_behind_local v l w) (level_race 8 (omega arith))))
 
-  race_at : (q us : List Lexeme) (t : Lexeme) (w : Bool) → is_mark mark.OPEN_PAREN t.kind ≡ true → RunsOut (paren ∷ []) us → Race q (Exprs.plain_of v w (t ∷ us)) (Exprs.arrow_of v w (t ∷ (us ++ q)))
+  race_at : (q us : List Lexeme) (t : Lexeme) (w : Bool) → is_mark mark.OPEN_PAREN t.kind ≡ true → RunsOut (paren ∷ []) us → only_params true (paren ∷ []) (us ++ q) ≡ true → Race q (Exprs.plain_of v w (t ∷ us)) (Exprs.arrow_of v w (t ∷ (us ++ q)))
   unfolding arrowed open_lexeme
-  race_at q us t w e r = subst (λ x. Race q (Exprs.plain_of v w (x ∷ us)) (Exprs.arrow_of v w (x ∷ (us ++ q)))) (known (kind.Mark mark.OPEN_PAREN) t (mark_known mark.OPEN_PAREN t.kind e)) (plain_race q us t w r)
+  race_at q us t w e r f = subst (λ x. Race q (Exprs.plain_of v w (x ∷ us)) (Exprs.arrow_of v w (x ∷ (us ++ q)))) (known (kind.Mark mark.OPEN_PAREN) t (mark_known mark.OPEN_PAREN t.kind e)) (plain_race q us t w r f)
 
   -- the choice between an arrow and another expression
 
@@ -134,21 +134,21 @@ module _ (v : Env) (l : LocalEnv v) (m : Bodies) (d : ℕ) (s : SoundEnv m d v)
   name_same w t [] q e = out (assign_end v w t e) (either_name w (Exprs.is_arrow_head (t ∷ q)) t q e)
   name_same w t (u ∷ us) q e = same_branch w (t ∷ u ∷ us) q (Exprs.is_arrow_head (t ∷ u ∷ us)) (Exprs.is_arrow_head (t ∷ u ∷ (us ++ q))) (head_name t u us (us ++ q) e)
 
-  head_other : (t : Lexeme) (us : List Lexeme) → is_name t.kind ≡ false → Exprs.is_arrow_head (t ∷ us) ≡ (is_mark mark.OPEN_PAREN t.kind && arrow_behind (paren ∷ []) us)
+  head_other : (t : Lexeme) (us : List Lexeme) → is_name t.kind ≡ false → Exprs.is_arrow_head (t ∷ us) ≡ (is_mark mark.OPEN_PAREN t.kind && Exprs.arrow_opens us)
   unfolding Exprs.is_arrow_head
   head_other t us e = rw e refl
 
   -- a parenthesis in which the lexemes end
   open_same : (w : Bool) (t : Lexeme) (us q : List Lexeme) → is_name t.kind ≡ false → is_mark mark.OPEN_PAREN t.kind ≡ true → RunsOut (paren ∷ []) us → (c : Bool) → Exprs.is_arrow_head (t ∷ (us ++ q)) ≡ c → Same q (when (Exprs.is_arrow_head (t ∷ us)) (Exprs.arrow_of v w) (Exprs.plain_of v w) (t ∷ us)) (when c (Exprs.arrow_of v w) (Exprs.plain_of v w) (t ∷ (us ++ q)))
   open_same w t us q n e r true k =
-      subst (λ b. Same q (when b (Exprs.arrow_of v w) (Exprs.plain_of v w) (t ∷ us)) (Exprs.arrow_of v w (t ∷ (us ++ q)))) (sym (head_other t us n ∙ ap (λ b. is_mark mark.OPEN_PAREN t.kind && b) (runs_false paren [] us r) ∙ none (is_mark mark.OPEN_PAREN t.kind)))
-      (race_same q (Exprs.plain_of v w (t ∷ us)) (Exprs.arrow_of v w (t ∷ (us ++ q))) (race_at q us t w e r))
+      subst (λ b. Same q (when b (Exprs.arrow_of v w) (Exprs.plain_of v w) (t ∷ us)) (Exprs.arrow_of v w (t ∷ (us ++ q)))) (sym (head_other t us n ∙ ap (λ b. is_mark mark.OPEN_PAREN t.kind && b) (opens_false us r) ∙ none (is_mark mark.OPEN_PAREN t.kind)))
+      (race_same q (Exprs.plain_of v w (t ∷ us)) (Exprs.arrow_of v w (t ∷ (us ++ q))) (race_at q us t w e r (and_right (arrow_behind (paren ∷ []) (us ++ q)) (only_params true (paren ∷ []) (us ++ q)) (and_right (is_mark mark.OPEN_PAREN t.kind) (Exprs.arrow_opens (us ++ q)) (sym (head_other t (us ++ q) n) ∙ k)))))
     where
       none : (b : Bool) → (b && false) ≡ false
       none true = refl
       none false = refl
   open_same w t us q n e r false k =
-      subst (λ b. Same q (when b (Exprs.arrow_of v w) (Exprs.plain_of v w) (t ∷ us)) (Exprs.plain_of v w (t ∷ (us ++ q)))) (sym (head_other t us n ∙ ap (λ b. is_mark mark.OPEN_PAREN t.kind && b) (runs_false paren [] us r) ∙ none (is_mark mark.OPEN_PAREN t.kind)))
+      subst (λ b. Same q (when b (Exprs.arrow_of v w) (Exprs.plain_of v w) (t ∷ us)) (Exprs.plain_of v w (t ∷ (us ++ q)))) (sym (head_other t us n ∙ ap (λ b. is_mark mark.OPEN_PAREN t.kind && b) (opens_false us r) ∙ none (is_mark mark.OPEN_PAREN t.kind)))
       ((plain_local v l w).same (t ∷ us) q)
     where
       none : (b : Bool) → (b && false) ≡ false
@@ -157,8 +157,8 @@ module _ (v : Env) (l : LocalEnv v) (m : Bodies) (d : ℕ) (s : SoundEnv m d v)
 
   other_same : (w : Bool) (t : Lexeme) (us q : List Lexeme) → is_name t.kind ≡ false → (o : Bool) → is_mark mark.OPEN_PAREN t.kind ≡ o → Same q (Exprs.assign_of v w (t ∷ us)) (Exprs.assign_of v w (t ∷ (us ++ q)))
   unfolding Exprs.assign_of
-  other_same w t us q n false o = same_branch w (t ∷ us) q (Exprs.is_arrow_head (t ∷ us)) (Exprs.is_arrow_head (t ∷ (us ++ q))) (head_other t (us ++ q) n ∙ ap (λ b. b && arrow_behind (paren ∷ []) (us ++ q)) o ∙ sym (head_other t us n ∙ ap (λ b. b && arrow_behind (paren ∷ []) us) o))
-  other_same w t us q n true o = elim (behind_local paren [] us q) [
+  other_same w t us q n false o = same_branch w (t ∷ us) q (Exprs.is_arrow_head (t ∷ us)) (Exprs.is_arrow_head (t ∷ (us ++ q))) (head_other t (us ++ q) n ∙ ap (λ b. b && Exprs.arrow_opens (us ++ q)) o ∙ sym (head_other t us n ∙ ap (λ b. b && Exprs.arrow_opens us) o))
+  other_same w t us q n true o = elim (opens_local us q) [
     | inl e ↦ same_branch w (t ∷ us) q (Exprs.is_arrow_head (t ∷ us)) (Exprs.is_arrow_head (t ∷ (us ++ q))) (head_other t (us ++ q) n ∙ ap (λ b. is_mark mark.OPEN_PAREN t.kind && b) e ∙ sym (head_other t us n))
     | inr r ↦ open_same w t us q n o r (Exprs.is_arrow_head (t ∷ (us ++ q))) refl
   ]

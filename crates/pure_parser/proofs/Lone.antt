@@ -1,11 +1,10 @@
 -- A name that stands alone as an item: behind it a comma, a closing parenthesis or `=`.
-use Rattle.std.proofs.Common.{◌≡◌, List, [], ◌∷◌, refl, sym, ap, ◌∙◌, subst, Bool, true, false, ◌&&◌, ◌||◌, if◌then◌else◌}
+use Rattle.std.proofs.Common.{◌≡◌, List, ◌∷◌, refl, sym, ap, ◌∙◌, subst, Bool, true, false, ◌&&◌, ◌||◌, if◌then◌else◌}
 use Rattle.script_grammar.specs.declared.token.Kind.{Kind}
 use Rattle.script_grammar.specs.declared.token.Kind.TheVariants as kind
 use Rattle.script_grammar.specs.declared.token.mark.TheConstants as mark
 use Rattle.script_grammar.specs.Lexeme.{Lexeme}
 use Rattle.script_grammar.specs.Kinds.{is_mark, is_name}
-use Rattle.script_grammar.specs.Pieces.{paren}
 use Rattle.script_grammar.specs.Tree as tree
 use Rattle.pure_parser.specs.Parser.{when, turns, loop}
 use Rattle.pure_parser.specs.Exprs
@@ -63,7 +62,7 @@ no_arrow t u h = form_cases t u h (λ e. rw e refl) (λ e. rw e refl) (λ e. rw 
 
 no_head : (t u : Lexeme) (ts : List Lexeme) → is_param_form t u ≡ true → Exprs.is_arrow_head (t ∷ u ∷ ts) ≡ false
 unfolding Exprs.is_arrow_head
-no_head t u ts h = ap (λ k. if is_name k then Exprs.is_arrow u else (is_mark mark.OPEN_PAREN k && Exprs.arrow_behind (paren ∷ []) (u ∷ ts))) (form_name t u h) ∙ no_arrow t u h
+no_head t u ts h = ap (λ k. if is_name k then Exprs.is_arrow u else (is_mark mark.OPEN_PAREN k && Exprs.arrow_opens (u ∷ ts))) (form_name t u h) ∙ no_arrow t u h
 
 pub lone_assign : (v : Env) (w : Bool) (t u : Lexeme) (ts : List Lexeme) → is_param_form t u ≡ true → Exprs.assign_of v w (t ∷ u ∷ ts) ≡ Exprs.assign_tail v w (tree.Name (named t)) (u ∷ ts)
 unfolding Exprs.assign_of

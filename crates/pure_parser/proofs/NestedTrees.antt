@@ -114,7 +114,7 @@ mutual
   nested_parts m d (more_parts value behind no_parts) p = parts_append (nested_expr m (suc d) value p.0) (tail_behind behind d)
   nested_parts m d (more_parts value behind (more_parts v b r)) p = parts_append (nested_expr m (suc d) value p.0) (middle_behind behind d _ (nested_parts m d (more_parts v b r) p.1))
 
-  nested_items : (m : Bodies) (d : ℕ) (is : Items) → ProperItems m is → Nested (Print.print_items m d is)
+  pub nested_items : (m : Bodies) (d : ℕ) (is : Items) → ProperItems m is → Nested (Print.print_items m d is)
   nested_items m d no_items p = nested_none
   nested_items m d (more_items i is) p = nested_append (nested_maybe m (suc d) i p.0) (nested_more_items m d is p.1)
 
@@ -148,7 +148,7 @@ mutual
   nested_prop m d (tree.Get key f) p = name_cons _ _ refl (nested_append (nested_key m d key p.0) (nested_function m d f p.2))
   nested_prop m d (tree.Set key f) p = name_cons _ _ refl (nested_append (nested_key m d key p.0) (nested_function m d f p.2))
 
-  nested_props : (m : Bodies) (d : ℕ) (ps : Props) → ProperProps m ps → Nested (Print.print_props m d ps)
+  pub nested_props : (m : Bodies) (d : ℕ) (ps : Props) → ProperProps m ps → Nested (Print.print_props m d ps)
   nested_props m d no_props p = nested_none
   nested_props m d (more_props x xs) p = nested_append (nested_prop m d x p.0) (nested_more_props m d xs p.1)
 

@@ -17,28 +17,28 @@ use Rattle.pure_parser.specs.Parser.{Read, Bad, head_of}
 use Rattle.pure_parser.specs.Exprs.{pass_case, pass_over, closed_case, arrow_behind, is_arrow}
 use Rattle.pure_parser.proofs.Bracketed.{opener_of, openers, kinds, IsInner, AllInner, open_behind-next, walk_case, IsWalk, next_open-under, walk-done, walk-misfit}
 
-kinds-between : (ls : List Lexeme) (a p : ℕ) → kinds (drop (suc a) (take p ls)) ≡ between (kinds ls) a p
+pub kinds-between : (ls : List Lexeme) (a p : ℕ) → kinds (drop (suc a) (take p ls)) ≡ between (kinds ls) a p
 kinds-between ls a p = sym (ap (drop (suc a)) (take-map (λ t. t.kind) p ls) ∙ drop-map (λ t. t.kind) (suc a) (take p ls))
 
-split-behind : (ls : List Lexeme) (a p : ℕ) (d : Lexeme) → a < p → p < length ls → drop (suc a) ls ≡ drop (suc a) (take p ls) ++ (get_or ls p d ∷ drop (suc p) ls)
+pub split-behind : (ls : List Lexeme) (a p : ℕ) (d : Lexeme) → a < p → p < length ls → drop (suc a) ls ≡ drop (suc a) (take p ls) ++ (get_or ls p d ∷ drop (suc p) ls)
 split-behind ls a p d a_p within =
     ap (drop (suc a)) (sym (take-append-drop p ls))
     ∙ drop-append-le (suc a) (take p ls) (drop p ls) (subst (λ m. suc a ≤ m) (sym (length-take-le p ls (omega arith))) (omega arith))
     ∙ ap (λ r. drop (suc a) (take p ls) ++ r) (drop-cons ls p d within)
 
-inner-take : (ls : List Lexeme) (p q : ℕ) → p ≤ q → AllInner (take q ls) → AllInner (take p ls)
+pub inner-take : (ls : List Lexeme) (p q : ℕ) → p ≤ q → AllInner (take q ls) → AllInner (take p ls)
 inner-take [] zero q l h = tt
 inner-take [] (suc p) q l h = tt
 inner-take (x ∷ xs) zero q l h = tt
 inner-take (x ∷ xs) (suc p) zero l h = absurd (omega arith)
 inner-take (x ∷ xs) (suc p) (suc q) l h = (h.0, inner-take xs p q (omega arith) h.1)
 
-inner-drop : (n : ℕ) (ls : List Lexeme) → AllInner ls → AllInner (drop n ls)
+pub inner-drop : (n : ℕ) (ls : List Lexeme) → AllInner ls → AllInner (drop n ls)
 inner-drop zero ls h = h
 inner-drop (suc n) [] h = tt
 inner-drop (suc n) (x ∷ xs) h = inner-drop n xs h.1
 
-inner-at : (ls : List Lexeme) (p q : ℕ) (d : Lexeme) → p < q → q ≤ length ls → AllInner (take q ls) → IsInner (get_or ls p d).kind
+pub inner-at : (ls : List Lexeme) (p q : ℕ) (d : Lexeme) → p < q → q ≤ length ls → AllInner (take q ls) → IsInner (get_or ls p d).kind
 inner-at [] p q d l w h = absurd (omega arith)
 inner-at (x ∷ xs) zero zero d l w h = absurd (omega arith)
 inner-at (x ∷ xs) zero (suc q) d l w h = h.0
@@ -48,7 +48,7 @@ inner-at (x ∷ xs) (suc p) (suc q) d l w h = inner-at xs p q d (omega arith) (o
 pub part-read : (ls : List Lexeme) (n : ℕ) (d : Lexeme) → n < length ls → part_at (kinds ls) n ≡ part_of (get_or ls n d).kind
 part-read ls n d within = ap part_of (get_or-map (λ t. t.kind) ls n d kind.End within)
 
-some-eq : {A : Type 0} {a b : A} → Some a ≡ Some b → a ≡ b
+pub some-eq : {A : Type 0} {a b : A} → Some a ≡ Some b → a ≡ b
 some-eq {A = A} {a = a} h = ap value h
   where
     value : Option A → A
@@ -70,7 +70,7 @@ walk-paired f none done walk ls a p stop b d plain opens p_stop within inner pai
     (ap (all_open []) (kinds-between ls a p) ∙ pair.balanced) closing
 
 -- what is open of a prefix of tokens that fit
-take-shorter : (ks : List Kind) (n m : ℕ) → n ≤ m → take n (take m ks) ≡ take n ks
+pub take-shorter : (ks : List Kind) (n m : ℕ) → n ≤ m → take n (take m ks) ≡ take n ks
 take-shorter [] zero m l = refl
 take-shorter [] (suc n) zero l = absurd (omega arith)
 take-shorter [] (suc n) (suc m) l = refl
@@ -93,35 +93,36 @@ prefix-fits ks n m s l h = found (all_open [] (take n ks)) refl
     found (Some t) e = (t, refl)
 
 -- One more token that fits either leaves the bracket below open, or closes it.
-next-above : (p : BracketPart) (u : List Bracket) (b : Bracket) (base s : List Bracket) → is_same b Template ≡ false → next_open (u ++ (b ∷ base)) p ≡ Some s
+pub next-above : (p : BracketPart) (u : List Bracket) (b : Bracket) (base s : List Bracket) → next_open (u ++ (b ∷ base)) p ≡ Some s
     → ((v : List Bracket) × ((next_open u p ≡ Some v) × (s ≡ v ++ (b ∷ base)))) ⊎ ((u ≡ []) × (closed_by p ≡ Some b))
-next-above (Opening c) u b base s plain h = inl (c ∷ u, (refl, sym (some-eq h)))
-next-above Other u b base s plain h = inl (u, (refl, sym (some-eq h)))
-next-above (Closing c) [] b base s plain h = inr (refl, ap Some (sym (same (is_same b c) refl h)))
+next-above (Opening c) u b base s h = inl (c ∷ u, (refl, sym (some-eq h)))
+next-above Other u b base s h = inl (u, (refl, sym (some-eq h)))
+next-above (Closing c) [] b base s h = inr (refl, ap Some (sym (same (is_same b c) refl h)))
   where
     same : (t : Bool) → is_same b c ≡ t → (if t then Some base else None) ≡ Some s → b ≡ c
     same true e g = is_same-eq b c e
     same false e g = absurd (cc)
-next-above (Closing c) (x ∷ u) b base s plain h = inl (u, split (is_same x c) h)
+next-above (Closing c) (x ∷ u) b base s h = inl (u, split (is_same x c) h)
   where
     split : (t : Bool) → (if t then Some (u ++ (b ∷ base)) else None) ≡ Some s → ((if t then Some u else None) ≡ Some u) × (s ≡ u ++ (b ∷ base))
     split true g = (refl, sym (some-eq g))
     split false g = absurd (cc)
-next-above Middle [] b base s plain h = absurd (no_some (sym (ap (λ t. if t then Some (b ∷ base) else None) plain) ∙ h))
+next-above Middle [] b base s h = inr (refl, ap Some (sym (same (is_same b Template) refl h)))
   where
-    no_some : {A : Type 0} {a : A} → None ≡ Some a → ⊥
-    no_some e = cc
-next-above Middle (x ∷ u) b base s plain h = inl (x ∷ u, split (is_same x Template) h)
+    same : (t : Bool) → is_same b Template ≡ t → (if t then Some (b ∷ base) else None) ≡ Some s → b ≡ Template
+    same true e g = is_same-eq b Template e
+    same false e g = absurd (cc)
+next-above Middle (x ∷ u) b base s h = inl (x ∷ u, split (is_same x Template) h)
   where
     split : (t : Bool) → (if t then Some (x ∷ (u ++ (b ∷ base))) else None) ≡ Some s → ((if t then Some (x ∷ u) else None) ≡ Some (x ∷ u)) × (s ≡ (x ∷ u) ++ (b ∷ base))
     split true g = (refl, sym (some-eq g))
     split false g = absurd (cc)
 
 -- behind a bracket without a partner the tokens fit, up to the stop, and leave it open
-fits-behind : (ks : List Kind) (a stop : ℕ) (b : Bracket) (base stack : List Bracket) → is_same b Template ≡ false → stop < length ks → part_at ks a ≡ Opening b
+fits-behind : (ks : List Kind) (a stop : ℕ) (b : Bracket) (base stack : List Bracket) → stop < length ks → part_at ks a ≡ Opening b
     → all_open [] (take a ks) ≡ Some base → all_open [] (take stop ks) ≡ Some stack → ((p : ℕ) → p < stop → Pairs ks a p → ⊥)
     → (j : ℕ) → suc a + j ≤ stop → (u : List Bracket) × ((all_open [] (between ks a (suc a + j)) ≡ Some u) × (all_open [] (take (suc a + j) ks) ≡ Some (u ++ (b ∷ base))))
-fits-behind ks a stop b base stack plain within opens below fit alone zero l =
+fits-behind ks a stop b base stack within opens below fit alone zero l =
     let here : suc a + zero ≡ suc a = omega arith in (
       [],
       (
@@ -129,13 +130,13 @@ fits-behind ks a stop b base stack plain within opens below fit alone zero l =
         ap (λ n. all_open [] (take n ks)) here ∙ ap (all_open []) (take-suc ks a kind.End (omega arith)) ∙ all_open-more [] base (take a ks) (get_or ks a kind.End) below ∙ ap (next_open base) opens,
       ),
     )
-fits-behind ks a stop b base stack plain within opens below fit alone (suc j) l =
+fits-behind ks a stop b base stack within opens below fit alone (suc j) l =
     let n = suc a + j in
     let more : suc a + suc j ≡ suc (suc a + j) = omega arith in
-    let (u, known) = fits-behind ks a stop b base stack plain within opens below fit alone j (omega arith) in
+    let (u, known) = fits-behind ks a stop b base stack within opens below fit alone j (omega arith) in
     let (s, later) = prefix-fits ks (suc (suc a + j)) stop stack (omega arith) fit in
     let step = sym (all_open-more [] (u ++ (b ∷ base)) (take (suc a + j) ks) (get_or ks (suc a + j) kind.End) known.1) ∙ sym (ap (all_open []) (take-suc ks (suc a + j) kind.End (omega arith))) ∙ later in
-    elim (next-above (part_at ks (suc a + j)) u b base s plain step) [
+    elim (next-above (part_at ks (suc a + j)) u b base s step) [
       | inl v ↦ (
         v.0,
         (
@@ -194,7 +195,7 @@ walk-unpaired f none done walk ls a stop b d plain opens a_stop h inner ends alo
     let (base, below) = prefix-fits (kinds ls) a stop h.stack (omega arith) h.fit in
     let j = stop - suc a in
     let there : suc a + j ≡ stop = omega arith in
-    let (u, known) = fits-behind (kinds ls) a stop b base h.stack plain h.within opens below h.fit alone j (omega arith) in
+    let (u, known) = fits-behind (kinds ls) a stop b base h.stack h.within opens below h.fit alone j (omega arith) in
     let stack : h.stack ≡ u ++ (b ∷ base) = some-eq (sym h.fit ∙ ap (λ n. all_open [] (take n (kinds ls))) (sym there) ∙ known.1) in
     let inside = ap (all_open []) (kinds-between ls a stop) ∙ ap (λ n. all_open [] (between (kinds ls) a n)) (sym there) ∙ known.0 in
     let misfit : open_behind (get_or ls stop d).kind (openers (u ++ (b ∷ []))) ≡ None = elim (inner-or_not (get_or ls stop d).kind) [

@@ -1,6 +1,6 @@
 -- The heads of arrows, arrows, and all calls that count for the depth: what is read fits its places, and faults can be
 -- mended.
-use Rattle.std.proofs.Common.{◌≡◌, ℕ, suc, ◌≤◌, List, [], ◌∷◌, ◌++◌, refl, sym, ap, ◌∙◌, subst, arith, append_assoc, append-nil, Bool, true, false, ◌||◌, not, Option, Some, None}
+use Rattle.std.proofs.Common.{◌≡◌, ℕ, suc, List, [], ◌∷◌, ◌++◌, refl, sym, ap, ◌∙◌, subst, Bool, true, false, ◌||◌, not}
 use Rattle.script_grammar.specs.declared.token.Kind.TheVariants as kind
 use Rattle.script_grammar.specs.declared.token.FuncForm.TheVariants as form
 use Rattle.script_grammar.specs.declared.token.mark.TheConstants as mark
@@ -8,137 +8,47 @@ use Rattle.script_grammar.specs.Lexeme.{Lexeme}
 use Rattle.script_grammar.specs.Kinds.{is_mark, is_name}
 use Rattle.script_grammar.specs.Tree.{Named, Expr, Body}
 use Rattle.script_grammar.specs.Tree as tree
-use Rattle.script_grammar.specs.TreeLists.{Param, exprs_of, maybe_expr_of}
-use Rattle.script_grammar.specs.Pieces.{Bodies, Fits, mark_piece}
-use Rattle.script_grammar.specs.Print.{print, print_list, print_more, print_body}
-use Rattle.script_grammar.specs.Proper.{rank, Proper, ProperExprs, ProperBody, ProperMaybe, HasExprs, begins_brace, body_free}
-use Rattle.pure_parser.specs.Parser.{Parser, head_of, rest_of, ret, bind, peek, when, Turn, Again, Stop, loop, Many, stopped, begun}
+use Rattle.script_grammar.specs.TreeLists.{Param}
+use Rattle.script_grammar.specs.Pieces.{Bodies, Fits}
+use Rattle.script_grammar.specs.Print.{print, print_body}
+use Rattle.script_grammar.specs.Proper.{ProperBody, begins_brace, body_free}
+use Rattle.pure_parser.specs.Parser.{Parser, head_of, ret, bind, peek, when, Turn, Again, Stop, loop, Many, stopped, begun}
 use Rattle.pure_parser.specs.Exprs
 use Rattle.pure_parser.specs.Exprs.{Env, Calls, BodyParser, AnAssign, APrefix, ANew, AParam, ARest, ParamsEnd, Plain, Trailing, Rest, Head, BodyRead, Spanned, spanned, short_body, expect, named, param, head_case, bare_head, arrow_case, is_simple, is_arrow, is_param_form}
 use Rattle.pure_parser.proofs.Friendly.{AtFront, Inside}
-use Rattle.pure_parser.proofs.Fitting.{FitsAll, all_none, all_append, all_mark, all_placed, all_name, all_glued, all_same, fits_until, EndsBy, lexeme_of_kind, zero_lexeme, zero_starts}
+use Rattle.pure_parser.proofs.Fitting.{FitsAll, all_none, all_mark, all_name, all_glued, fits_until, EndsBy, lexeme_of_kind, zero_lexeme, zero_starts}
 use Rattle.pure_parser.proofs.Tests.{mark_known, name_known, and_left, and_right, not_true}
-use Rattle.pure_parser.proofs.Sound.{Leads, LeadsAt, Outcome, Sound, Mended, Behind, Begun, BeginsAt, here, started, sound_bind, leads_bind, sound_ret, sound_bad, sound_at, sound_peek, sound_look, at_step, at_when, at_bind, sound_first, sound_done, leads_done, some_done, sound_map, leads_map, leads_loop, sound_made, leads_made, sound_when, at_inside, inside_outcome, end_outcome, sound_first_end}
+use Rattle.pure_parser.proofs.Sound.{Leads, LeadsAt, Outcome, Sound, Mended, Behind, Begun, BeginsAt, here, started, sound_bind, leads_bind, sound_ret, sound_bad, sound_at, sound_peek, sound_look, at_step, at_when, at_bind, sound_first, sound_done, leads_done, some_done, sound_map, leads_map, leads_loop, sound_made, leads_made, at_inside, inside_outcome, end_outcome, sound_first_end}
 use Rattle.pure_parser.proofs.Spanned.{at_spanned, spanned_outcome, WithEnd}
 use Rattle.pure_parser.proofs.Fronts.{begins_no}
-use Rattle.pure_parser.proofs.SoundParts.{IsExpr, IsParam, IsBraced, param_value, param_expr, param_print, param_is, SoundEnv, freed, zero_is, IsMark, expect_sound}
+use Rattle.pure_parser.proofs.SoundParts.{IsExpr, IsBraced, SoundEnv, freed, zero_is, IsMark, expect_sound}
 use Rattle.pure_parser.proofs.SoundFunctions.{FirstTurn, NextTurn, NextMany, ParamsMany, next_go, params_first, params_rest, params_none, head_is, behind_comma}
-use Rattle.pure_parser.proofs.SoundArrows.{IsItems, list_more, items_sound, ArrowHead, IsArrowMark, ArrowBody, arrow_is, arrow_lexeme, arrow_mark_is, zero_body, zero_body_is}
+use Rattle.pure_parser.proofs.SoundArrows.{ArrowHead, IsArrowMark, ArrowBody, arrow_is, arrow_lexeme, arrow_mark_is, zero_body, zero_body_is}
 
 module _ (m : Bodies) (d : ℕ) where
-  -- What is completed to a parenthesized expression, from its items on, and from a comma on.
-
-  pub record ParenTail (u : List Lexeme) : Type 0 where
-    pub items : List Expr
-    pub has : HasExprs (exprs_of items)
-    pub proper : ProperExprs m (exprs_of items)
-    pub fits : FitsAll (print_list m d (exprs_of items) ++ mark_piece mark.CLOSE_PAREN d ∷ []) u
-
-  pub record MoreTail (u : List Lexeme) : Type 0 where
-    pub items : List Expr
-    pub has : HasExprs (exprs_of items)
-    pub proper : ProperExprs m (exprs_of items)
-    pub fits : FitsAll (print_more m d (exprs_of items) ++ mark_piece mark.CLOSE_PAREN d ∷ []) u
-
-  pub data FirstEnd (u : List Lexeme) (t : Turn Param ParamsEnd) : Type 0 where
-    first_usual : FirstTurn m (suc d) u t → FirstEnd u t
-    first_doomed : ParenTail u → FirstEnd u t
-
-  pub data NextEnd (u : List Lexeme) (t : Turn Param ParamsEnd) : Type 0 where
-    next_usual : NextTurn m (suc d) d u t → NextEnd u t
-    next_doomed : MoreTail u → NextEnd u t
-
-  pub data NextAll (u : List Lexeme) (n : Many Param ParamsEnd) : Type 0 where
-    nexts_usual : NextMany m (suc d) d u n → NextAll u n
-    nexts_doomed : MoreTail u → NextAll u n
-
-  pub data ParamsAll (u : List Lexeme) (n : Many Param ParamsEnd) : Type 0 where
-    params_usual : ParamsMany m (suc d) d u n → ParamsAll u n
-    params_doomed : ParenTail u → ParamsAll u n
-
-  -- a head, or an expression that the end makes of it
+  -- a head, or an expression where nothing was read of one
   pub data HeadEnd (u : List Lexeme) (h : Head) : Type 0 where
     head_usual : ArrowHead m d u h → HeadEnd u h
-    head_doomed : (e : Expr) → IsExpr m false d 20 u e → HeadEnd u h
-
-  paren_more : (t : Lexeme) → t.kind ≡ kind.Mark mark.COMMA → (u : List Lexeme) → ParenTail u → MoreTail (t ∷ u)
-  paren_more t e u p = record { items = p.items; has = p.has; proper = p.proper; fits = all_same (ap (λ x. x ++ mark_piece mark.CLOSE_PAREN d ∷ []) (sym (list_more m d p.items p.has))) (all_append (all_mark mark.COMMA d t e) p.fits) }
-
-  -- a parameter before further items
-  param_more : (u x : List Lexeme) (p : Param) → NextTurn m (suc d) d u (Again p) → MoreTail x → MoreTail (u ++ x)
-  param_more u x p h r =
-      let e = param_expr p in
-      record {
-        items = e ∷ r.items;
-        has = tt;
-        proper = ((value_rank p.name p.value).0, value_proper p.name p.value h.1, r.proper);
-        fits = all_same (ap (λ y. mark_piece mark.COMMA d ∷ (y ++ (print_more m d (exprs_of r.items) ++ mark_piece mark.CLOSE_PAREN d ∷ []))) (param_print m (suc d) p h.0) ∙ ap (λ y. mark_piece mark.COMMA d ∷ y) (sym (append_assoc (print m (suc d) e) (print_more m d (exprs_of r.items)) (mark_piece mark.CLOSE_PAREN d ∷ [])))) (all_append h.2 r.fits);
-      }
-    where
-      value_rank : (n : Named) (o : Option Expr) → (rank (param_value n o) ≤ 20) × Unit {0}
-      value_rank n None = (omega arith, tt)
-      value_rank n (Some e) = (omega arith, tt)
-
-      value_proper : (n : Named) (o : Option Expr) → ProperMaybe m (maybe_expr_of o) → Proper m (param_value n o)
-      value_proper n None p = tt
-      value_proper n (Some e) p = (refl, omega arith, tt, p.0, p.1)
-
-  param_paren : (u x : List Lexeme) (p : Param) → IsParam m (suc d) u p → MoreTail x → ParenTail (u ++ x)
-  param_paren u x p h r =
-      let q = param_is m (suc d) u p h in
-      record {
-        items = param_expr p ∷ r.items;
-        has = tt;
-        proper = (q.rank_le, q.proper, r.proper);
-        fits = all_same (sym (append_assoc (print m (suc d) (param_expr p)) (print_more m d (exprs_of r.items)) (mark_piece mark.CLOSE_PAREN d ∷ []))) (all_append q.fits r.fits);
-      }
-
-  -- the items and the closing parenthesis
-  paren_items : (t : Lexeme) → t.kind ≡ kind.Mark mark.OPEN_PAREN → (u : List Lexeme) (es : List Expr) → HasExprs (exprs_of es) → ProperExprs m (exprs_of es) → FitsAll (print_list m d (exprs_of es) ++ mark_piece mark.CLOSE_PAREN d ∷ []) u → IsExpr m false d 20 (t ∷ u) (tree.Paren t.start (Exprs.list_case es))
-  paren_items t k u [] h p f = absurd h
-  paren_items t k u (e ∷ []) h p f = record { rank_le = omega arith; proper = p.1; in_if = refl; fits = all_append (all_placed (kind.Mark mark.OPEN_PAREN) d t k) (all_same (ap (λ x. x ++ mark_piece mark.CLOSE_PAREN d ∷ []) (append-nil (print m (suc d) e))) f) }
-  paren_items t k u (e ∷ g ∷ es) h p f = record { rank_le = omega arith; proper = (tt, p); in_if = refl; fits = all_append (all_placed (kind.Mark mark.OPEN_PAREN) d t k) f }
+    head_other : (e : Expr) → IsExpr m false d 20 u e → HeadEnd u h
 
   module _ (v : Env) (s : SoundEnv m d v) where
     abbrev close_lexeme : Lexeme
     close_lexeme = lexeme_of_kind (kind.Mark mark.CLOSE_PAREN)
 
-    -- items that cannot be parameters: the closing parenthesis is the last that can stand here
-    items_tail : (u x : List Lexeme) (es : List Expr) → IsItems m d u es → IsMark mark.CLOSE_PAREN d x tt → ParenTail (u ++ x)
-    items_tail u x es h c = record { items = es; has = h.has; proper = h.proper; fits = all_append h.fits c }
-
-    doomed_items_sound : Leads Inside (FirstTurn m (suc d)) FirstEnd (Exprs.doomed_items {A = Turn Param ParamsEnd} v)
-    unfolding Exprs.doomed_items
-    doomed_items_sound =
-        let mend : (u : List Lexeme) (es : List Expr) → IsItems m d u es → (x : List Lexeme) → IsMark mark.CLOSE_PAREN d x tt → Mended Inside (Behind x (Behind u FirstEnd)) = λ u es h x c. some_done (Behind u FirstEnd) x (Stop Plain) (first_doomed (items_tail u x es h c)) in
-        leads_bind (items_sound m d v s)
-        (λ u es h. leads_bind (expect_sound mark.CLOSE_PAREN d) (λ x _ c. sound_bad (mend u es h x c)) (λ x _ c. mend u es h x c))
-        (λ u es h. record { end = close_lexeme ∷ []; of = Stop Plain; starts = tt; is = first_doomed (items_tail u (close_lexeme ∷ []) es h (close_is close_lexeme refl)) })
-      where
-        close_is : (t : Lexeme) → t.kind ≡ kind.Mark mark.CLOSE_PAREN → IsMark mark.CLOSE_PAREN d (t ∷ []) tt
-        close_is t e = all_mark mark.CLOSE_PAREN d t e
-
-    arrow_item_sound : Leads Inside (FirstTurn m (suc d)) FirstEnd (Exprs.arrow_item v)
-    unfolding Exprs.arrow_item
-    arrow_item_sound = record { at = λ ts. (sound_when (is_param_form (head_of ts) (head_of (rest_of ts))) (λ _. leads_made Again s.calls.param (λ u p h. h) (λ u p h. first_usual h)) (λ _. doomed_items_sound)).at ts }
-
-    arrow_first_sound : Leads Inside (FirstTurn m (suc d)) FirstEnd (Exprs.arrow_first v)
+    arrow_first_sound : Sound Inside (FirstTurn m (suc d)) (Exprs.arrow_first v)
     unfolding Exprs.arrow_first
     arrow_first_sound =
-        let rest : Leads Inside (FirstTurn m (suc d)) FirstEnd (bind (v.sub ARest) Exprs.rest_stop) = leads_made (λ n. Stop (Rest n)) s.calls.rest (λ u n h. h) (λ u n h. first_usual h) in
-        sound_peek (λ t. at_when (is_mark mark.ELLIPSIS t.kind) (λ _. sound_at t rest) (λ _. sound_at t arrow_item_sound)) arrow_item_sound
+        let rest : Sound Inside (FirstTurn m (suc d)) (bind (v.sub ARest) Exprs.rest_stop) = leads_made (λ n. Stop (Rest n)) s.calls.rest (λ u n h. h) (λ u n h. h) in
+        let one : Sound Inside (FirstTurn m (suc d)) (bind (v.sub AParam) Exprs.again) = leads_made Again s.calls.param (λ u p h. h) (λ u p h. h) in
+        sound_peek (λ t. at_when (is_mark mark.ELLIPSIS t.kind) (λ _. sound_at t rest) (λ _. sound_at t one)) one
 
-    first_next : (t : Lexeme) → t.kind ≡ kind.Mark mark.COMMA → (u : List Lexeme) (p : Turn Param ParamsEnd) → FirstEnd u p → NextEnd (t ∷ u) p
-    first_next t e u p (first_usual h) = next_usual (behind_comma m d v s (suc d) t e u p h)
-    first_next t e u p (first_doomed a) = next_doomed (paren_more t e u a)
-
-    arrow_next_sound : (t : Lexeme) → t.kind ≡ kind.Mark mark.COMMA → Leads Inside (Behind (t ∷ []) (NextTurn m (suc d) d)) (Behind (t ∷ []) NextEnd) (Exprs.arrow_next v)
+    arrow_next_sound : (t : Lexeme) → t.kind ≡ kind.Mark mark.COMMA → Sound Inside (Behind (t ∷ []) (NextTurn m (suc d) d)) (Exprs.arrow_next v)
     unfolding Exprs.arrow_next
     arrow_next_sound t e =
-        let item : Leads Inside (Behind (t ∷ []) (NextTurn m (suc d) d)) (Behind (t ∷ []) NextEnd) (Exprs.arrow_first v) = leads_map (λ u p h. behind_comma m d v s (suc d) t e u p h) (first_next t e) arrow_first_sound in
+        let item : Sound Inside (Behind (t ∷ []) (NextTurn m (suc d) d)) (Exprs.arrow_first v) = leads_map (λ u p h. behind_comma m d v s (suc d) t e u p h) (λ u p h. behind_comma m d v s (suc d) t e u p h) arrow_first_sound in
         sound_peek (λ x. at_when (is_mark mark.CLOSE_PAREN x.kind) (λ _. sound_at x (sound_ret {a = Stop Trailing} (all_mark mark.COMMA d t e))) (λ _. sound_at x item)) item
 
-    arrow_turn_sound : Leads Inside (NextTurn m (suc d) d) NextEnd (Exprs.arrow_turn v)
+    arrow_turn_sound : Sound Inside (NextTurn m (suc d) d) (Exprs.arrow_turn v)
     unfolding Exprs.arrow_turn
     arrow_turn_sound = sound_peek (λ t. at_when (is_mark mark.COMMA t.kind) (λ e. at_step t (arrow_next_sound t (mark_known mark.COMMA t.kind e))) (λ _. sound_at t (sound_ret {a = Stop Plain} all_none))) (sound_ret {a = Stop Plain} all_none)
 
@@ -148,55 +58,44 @@ module _ (m : Bodies) (d : ℕ) where
     none_left : NextMany m (suc d) d [] (stopped Plain)
     none_left = record { single = tt; proper = tt; fits = all_none }
 
-    next_fault : (u : List Lexeme) (t : Turn Param ParamsEnd) → NextEnd u t → Mended Inside (Behind u NextAll)
-    next_fault u (Again p) (next_usual h) = record { end = []; of = begun p (stopped Plain); starts = tt; is = nexts_usual (next_go m (suc d) d u [] p (stopped Plain) h none_left) }
-    next_fault u (Stop e) (next_usual h) = some_done NextAll u (stopped e) (nexts_usual (next_stop u e h))
-    next_fault u t (next_doomed a) = some_done NextAll u (stopped Plain) (nexts_doomed a)
+    next_fault : (u : List Lexeme) (t : Turn Param ParamsEnd) → NextTurn m (suc d) d u t → Mended Inside (Behind u (NextMany m (suc d) d))
+    next_fault u (Again p) h = record { end = []; of = begun p (stopped Plain); starts = tt; is = next_go m (suc d) d u [] p (stopped Plain) h none_left }
+    next_fault u (Stop e) h = some_done (NextMany m (suc d) d) u (stopped e) (next_stop u e h)
 
-    next_end_go : (u x : List Lexeme) (p : Param) (n : Many Param ParamsEnd) → NextTurn m (suc d) d u (Again p) → NextAll x n → NextAll (u ++ x) (begun p n)
-    next_end_go u x p n h (nexts_usual r) = nexts_usual (next_go m (suc d) d u x p n h r)
-    next_end_go u x p n h (nexts_doomed a) = nexts_doomed (param_more u x p h a)
-
-    arrow_loop_sound : Leads Inside (NextMany m (suc d) d) NextAll (loop (Exprs.arrow_turn v))
-    arrow_loop_sound = leads_loop (NextTurn m (suc d) d) NextEnd (NextMany m (suc d) d) NextAll (Exprs.arrow_turn v) arrow_turn_sound
+    arrow_loop_sound : Sound Inside (NextMany m (suc d) d) (loop (Exprs.arrow_turn v))
+    arrow_loop_sound = leads_loop (NextTurn m (suc d) d) (NextTurn m (suc d) d) (NextMany m (suc d) d) (NextMany m (suc d) d) (Exprs.arrow_turn v) arrow_turn_sound
         next_stop
         (λ u x p n h r. next_go m (suc d) d u x p n h r)
-        next_end_go
+        (λ u x p n h r. next_go m (suc d) d u x p n h r)
         next_fault
-        (record { end = []; of = stopped Plain; starts = tt; is = nexts_usual none_left })
+        (record { end = []; of = stopped Plain; starts = tt; is = none_left })
 
-    led_end : (u x : List Lexeme) (p : Param) (n : Many Param ParamsEnd) → IsParam m (suc d) u p → NextAll x n → ParamsAll (u ++ x) (begun p n)
-    led_end u x p n h (nexts_usual r) = params_usual (params_first m (suc d) d u x p n h r)
-    led_end u x p n h (nexts_doomed a) = params_doomed (param_paren u x p h a)
-
-    arrow_led_sound : (u : List Lexeme) (t : Turn Param ParamsEnd) → FirstTurn m (suc d) u t → Leads Inside (Behind u (ParamsMany m (suc d) d)) (Behind u ParamsAll) (Exprs.params_led (Exprs.arrow_turn v) t)
-    arrow_led_sound u (Again p) h = leads_made (begun p) arrow_loop_sound (λ x n r. params_first m (suc d) d u x p n h r) (λ x n r. led_end u x p n h r)
+    arrow_led_sound : (u : List Lexeme) (t : Turn Param ParamsEnd) → FirstTurn m (suc d) u t → Sound Inside (Behind u (ParamsMany m (suc d) d)) (Exprs.params_led (Exprs.arrow_turn v) t)
+    arrow_led_sound u (Again p) h = leads_made (begun p) arrow_loop_sound (λ x n r. params_first m (suc d) d u x p n h r) (λ x n r. params_first m (suc d) d u x p n h r)
     arrow_led_sound u (Stop Plain) h = absurd h
     arrow_led_sound u (Stop Trailing) h = absurd h
-    arrow_led_sound u (Stop (Rest n)) h = leads_done (ParamsMany m (suc d) d) ParamsAll u (stopped (Rest n)) (params_rest m (suc d) d u n h)
+    arrow_led_sound u (Stop (Rest n)) h = leads_done (ParamsMany m (suc d) d) (ParamsMany m (suc d) d) u (stopped (Rest n)) (params_rest m (suc d) d u n h)
 
-    led_mend : (u : List Lexeme) (t : Turn Param ParamsEnd) → FirstEnd u t → Mended Inside (Behind u ParamsAll)
-    led_mend u (Again p) (first_usual h) = record { end = []; of = begun p (stopped Plain); starts = tt; is = params_usual (params_first m (suc d) d u [] p (stopped Plain) h none_left) }
-    led_mend u (Stop Plain) (first_usual h) = absurd h
-    led_mend u (Stop Trailing) (first_usual h) = absurd h
-    led_mend u (Stop (Rest n)) (first_usual h) = some_done ParamsAll u (stopped (Rest n)) (params_usual (params_rest m (suc d) d u n h))
-    led_mend u t (first_doomed a) = some_done ParamsAll u (stopped Plain) (params_doomed a)
+    led_mend : (u : List Lexeme) (t : Turn Param ParamsEnd) → FirstTurn m (suc d) u t → Mended Inside (Behind u (ParamsMany m (suc d) d))
+    led_mend u (Again p) h = record { end = []; of = begun p (stopped Plain); starts = tt; is = params_first m (suc d) d u [] p (stopped Plain) h none_left }
+    led_mend u (Stop Plain) h = absurd h
+    led_mend u (Stop Trailing) h = absurd h
+    led_mend u (Stop (Rest n)) h = some_done (ParamsMany m (suc d) d) u (stopped (Rest n)) (params_rest m (suc d) d u n h)
 
-    arrow_params_sound : Leads Inside (ParamsMany m (suc d) d) ParamsAll (Exprs.arrow_params v)
+    arrow_params_sound : Sound Inside (ParamsMany m (suc d) d) (Exprs.arrow_params v)
     unfolding Exprs.arrow_params
     arrow_params_sound =
-        let all : Leads Inside (ParamsMany m (suc d) d) ParamsAll (bind (Exprs.arrow_first v) (Exprs.params_led (Exprs.arrow_turn v))) = leads_bind arrow_first_sound arrow_led_sound led_mend in
+        let all : Sound Inside (ParamsMany m (suc d) d) (bind (Exprs.arrow_first v) (Exprs.params_led (Exprs.arrow_turn v))) = leads_bind arrow_first_sound arrow_led_sound led_mend in
         sound_peek (λ t. at_when (is_mark mark.CLOSE_PAREN t.kind) (λ _. sound_at t (sound_ret {a = stopped Plain} (params_none m (suc d) d))) (λ _. sound_at t all)) all
 
     head_arrow : (t : Lexeme) → t.kind ≡ kind.Mark mark.OPEN_PAREN → (u x : List Lexeme) (n : Many Param ParamsEnd) → ParamsMany m (suc d) d u n → IsMark mark.CLOSE_PAREN d x tt → ArrowHead m d (t ∷ (u ++ x)) (head_case t.start n)
     head_arrow t e u x n r c = let h = head_is m (suc d) d t u x n e r c in record { are = h.are; bare = tt; proper = h.proper; fits = h.fits }
 
-    listed_mend : (t : Lexeme) → t.kind ≡ kind.Mark mark.OPEN_PAREN → (u : List Lexeme) (n : Many Param ParamsEnd) → ParamsAll u n → Mended Inside (Behind u (Behind (t ∷ []) HeadEnd))
-    listed_mend t e u n (params_usual r) = record { end = close_lexeme ∷ []; of = head_case t.start n; starts = tt; is = head_usual (head_arrow t e u (close_lexeme ∷ []) n r (close_is close_lexeme refl)) }
+    listed_mend : (t : Lexeme) → t.kind ≡ kind.Mark mark.OPEN_PAREN → (u : List Lexeme) (n : Many Param ParamsEnd) → ParamsMany m (suc d) d u n → Mended Inside (Behind u (Behind (t ∷ []) HeadEnd))
+    listed_mend t e u n r = record { end = close_lexeme ∷ []; of = head_case t.start n; starts = tt; is = head_usual (head_arrow t e u (close_lexeme ∷ []) n r (close_is close_lexeme refl)) }
       where
         close_is : (t : Lexeme) → t.kind ≡ kind.Mark mark.CLOSE_PAREN → IsMark mark.CLOSE_PAREN d (t ∷ []) tt
         close_is t e = all_mark mark.CLOSE_PAREN d t e
-    listed_mend t e u n (params_doomed a) = some_done (Behind (t ∷ []) HeadEnd) u (head_case t.start n) (head_doomed (tree.Paren t.start (Exprs.list_case a.items)) (paren_items t e u a.items a.has a.proper a.fits))
 
     listed_sound : (t : Lexeme) → t.kind ≡ kind.Mark mark.OPEN_PAREN → Leads Inside (Behind (t ∷ []) (ArrowHead m d)) (Behind (t ∷ []) HeadEnd) (Exprs.arrow_listed v t.start)
     unfolding Exprs.arrow_listed
@@ -208,7 +107,7 @@ module _ (m : Bodies) (d : ℕ) where
     pub arrow_head_sound : Leads AtFront (ArrowHead m d) HeadEnd (Exprs.arrow_head v)
     unfolding Exprs.arrow_head
     arrow_head_sound =
-        let some : Mended AtFront HeadEnd = record { end = zero_lexeme ∷ []; of = bare_head zero_lexeme; starts = zero_starts; is = head_doomed (tree.Number 0 0) (zero_is m false d 20) } in
+        let some : Mended AtFront HeadEnd = record { end = zero_lexeme ∷ []; of = bare_head zero_lexeme; starts = zero_starts; is = head_other (tree.Number 0 0) (zero_is m false d 20) } in
         sound_peek (λ t.
         at_when (is_name t.kind) (λ e. at_step t (sound_ret {a = bare_head t} (bare_is t (name_known t.kind e)))) (λ _.
         at_when (is_mark mark.OPEN_PAREN t.kind) (λ e. at_step t (listed_sound t (mark_known mark.OPEN_PAREN t.kind e))) (λ _. sound_at t (sound_bad some)))) (sound_bad some)
@@ -275,7 +174,7 @@ module _ (m : Bodies) (d : ℕ) where
 
     head_mend : (w : Bool) (u : List Lexeme) (h : Head) → HeadEnd u h → Mended Inside (Behind u (IsExpr m w d 20))
     head_mend w u h (head_usual p) = record { end = arrow_lexeme m d ∷ zero_lexeme ∷ []; of = arrow_case h (zero_body m d); starts = tt; is = arrow_is m d w u (arrow_lexeme m d ∷ []) (zero_lexeme ∷ []) h (zero_body m d) p (arrow_mark_is m d) (zero_body_is m d w) }
-    head_mend w u h (head_doomed e q) = some_done (IsExpr m w d 20) u e (freed u e q)
+    head_mend w u h (head_other e q) = some_done (IsExpr m w d 20) u e (freed u e q)
 
     pub arrow_sound : (w : Bool) → Sound AtFront (IsExpr m w d 20) (Exprs.arrow_of v w)
     unfolding Exprs.arrow_of

@@ -37,12 +37,12 @@ at_spanned {p = p} {R = R} {S = S} {t = t} {f = f} s = record { first = λ ts. s
 
 -- locality
 
-spanned_left : {A : Type 0} (ts : List Lexeme) (r : Reply A) → left (spanned_reply ts r) ≡ left r
+pub spanned_left : {A : Type 0} (ts : List Lexeme) (r : Reply A) → left (spanned_reply ts r) ≡ left r
 spanned_left ts (Read a rs us) = refl
 spanned_left ts (Bad rs us) = refl
 spanned_left ts (Deep rs us) = refl
 
-grown_taken : (ts us q : List Lexeme) → length us ≤ length ts → take (length (ts ++ q) - length (us ++ q)) (ts ++ q) ≡ take (length ts - length us) ts
+pub grown_taken : (ts us q : List Lexeme) → length us ≤ length ts → take (length (ts ++ q) - length (us ++ q)) (ts ++ q) ≡ take (length ts - length us) ts
 grown_taken ts us q h = ap (λ n. take n (ts ++ q)) (omega (arith, length-append ts q, length-append us q, h)) ∙ take-append-le (length ts - length us) ts q (omega arith)
 
 spanned_grown : {A : Type 0} (ts q : List Lexeme) (r : Reply A) → length (left r) ≤ length ts → spanned_reply (ts ++ q) (grown q r) ≡ grown q (spanned_reply ts r)

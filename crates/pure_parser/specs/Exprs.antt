@@ -332,10 +332,9 @@ more_props v = peek (λ t.
 unfoldable pub object_of : Env → ℕ → Parser Expr
 object_of v at = bind (more_props v) (λ m. bind (expect mark.CLOSE_BRACE) (λ _. ret (tree.Object at (props_of m.items) m.last)))
 
--- A parenthesized expression, behind the parenthesis. Where an arrow's parameters may stand there, but no arrow follows
--- the partner of the parenthesis, some texts can still only be parameters: nothing, a comma at the end, or `...`, all
--- behind items of the form of a parameter. Then the text is refused at the token that is not the rest of the parameters
--- and `=>`.
+-- A parenthesized expression, behind the parenthesis. Where an arrow's parameters may stand there, but none do, some texts
+-- can still only be parameters: nothing, a comma at the end, or `...`, all behind items of the form of a parameter. Then the
+-- text is refused at the token that is not the rest of the parameters and `=>`.
 
 -- the form of a parameter: a name, and behind it `,`, `)` or `=`
 abbrev pub is_param_form : Lexeme → Lexeme → Bool
@@ -587,14 +586,39 @@ abbrev pub arrow_behind : List Opener → List Lexeme → Bool
 arrow_behind ps [] = false
 arrow_behind ps (t ∷ ts) = closed_case (open_behind t.kind ps) (is_arrow (head_of ts)) (λ qs. arrow_behind qs ts)
 
--- whether an arrow begins here: a name and the mark, or a parenthesis behind whose partner it stands
+-- what begins a parameter: a name of its form, or `...`
+abbrev pub begins_param : Lexeme → Lexeme → Bool
+begins_param t u = is_mark mark.ELLIPSIS t.kind || is_param_form t u
+
+-- a comma that stands in the parenthesis and in no bracket inside it
+abbrev pub is_between : Kind → List Opener → Bool
+is_between k [] = false
+is_between k (q ∷ []) = is_mark mark.COMMA k
+is_between k (q ∷ r ∷ qs) = false
+
+abbrev pub params_case : Option (List Opener) → Bool → (List Opener → Bool) → Bool
+params_case None begins go = false
+params_case (Some []) begins go = true
+params_case (Some (q ∷ qs)) begins go = begins && go (q ∷ qs)
+
+-- Whether all that stands up to the lexeme that closes all these brackets, cut at the commas of the parenthesis, begins as
+-- parameters do. The flag says that an item starts here; there may be none.
+abbrev pub only_params : Bool → List Opener → List Lexeme → Bool
+only_params starts ps [] = false
+only_params starts ps (t ∷ ts) = params_case (open_behind t.kind ps) (not starts || begins_param t (head_of ts)) (λ qs. only_params (is_between t.kind qs) qs ts)
+
+-- whether an arrow's parameters stand behind a parenthesis: its mark stands behind the partner, and each item between begins
+-- as a parameter does
+abbrev pub arrow_opens : List Lexeme → Bool
+arrow_opens ts = arrow_behind (paren ∷ []) ts && only_params true (paren ∷ []) ts
+
+-- whether an arrow begins here: a name and the mark, or a parenthesis with its parameters
 unfoldable pub is_arrow_head : List Lexeme → Bool
 is_arrow_head ts =
     if is_name (head_of ts).kind then is_arrow (head_of (rest_of ts))
-    else (is_mark mark.OPEN_PAREN (head_of ts).kind && arrow_behind (paren ∷ []) (rest_of ts))
+    else (is_mark mark.OPEN_PAREN (head_of ts).kind && arrow_opens (rest_of ts))
 
--- An arrow's parameters, behind the parenthesis. At the first item that has not the form of a parameter no arrow is
--- possible any more, and the text is read on as a parenthesized expression, which at the latest the mark refuses.
+-- An arrow's parameters, behind the parenthesis.
 
 unfoldable pub arrow_param : Env → Parser Param
 arrow_param v = param_of v
@@ -602,18 +626,12 @@ arrow_param v = param_of v
 unfoldable pub arrow_rest : Parser Named
 arrow_rest = peek (λ t. when (is_mark mark.ELLIPSIS t.kind) (step name_of) bad)
 
-unfoldable pub doomed_items : {A : Type 0} → Env → Parser A
-doomed_items v = bind (items_from v) (λ es. doomed)
-
-unfoldable pub arrow_item : Env → Parser (Turn Param ParamsEnd)
-arrow_item v = peek_two (λ t u. when (is_param_form t u) (bind (v.sub AParam) again) (doomed_items v))
-
 abbrev pub rest_stop : Named → Parser (Turn Param ParamsEnd)
 rest_stop n = ret (Stop (Rest n))
 
 -- a parameter or a rest parameter
 unfoldable pub arrow_first : Env → Parser (Turn Param ParamsEnd)
-arrow_first v = peek (λ t. when (is_mark mark.ELLIPSIS t.kind) (bind (v.sub ARest) rest_stop) (arrow_item v))
+arrow_first v = peek (λ t. when (is_mark mark.ELLIPSIS t.kind) (bind (v.sub ARest) rest_stop) (bind (v.sub AParam) again))
 
 unfoldable pub arrow_next : Env → Parser (Turn Param ParamsEnd)
 arrow_next v = peek (λ t. when (is_mark mark.CLOSE_PAREN t.kind) (ret (Stop Trailing)) (arrow_first v))

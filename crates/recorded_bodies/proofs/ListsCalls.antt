@@ -136,17 +136,9 @@ module _ (nested : Bool) (bodies : ℕ → Body) where
 
       -- arrows
 
-      doomed_items_lists : {A B : Type 0} (K : A → B → Type 0) {pre : List Stmts → List Stmts} {w : Bodies A} → Lists nested judge K pre w (parser.doomed_items {A = A} v) (parser.doomed_items {A = B} u)
-      unfolding parser.doomed_items
-      doomed_items_lists K = lists_then nested judge (items_lists nested bodies judge v u s) (λ _ _ _. doomed_lists nested bodies judge v u s K)
-
-      arrow_item_lists : Lists nested judge (ParamTurn bodies) as_is (in_turn (in_param nested) in_none) (parser.arrow_item v) (parser.arrow_item u)
-      unfolding parser.arrow_item
-      arrow_item_lists = lists_two nested bodies judge (λ t x. lists_when nested judge (parser.is_param_form t x) (lists_more nested judge Again Again (s.sub AParam) (λ a b k. k) (λ _ _. refl)) (doomed_items_lists (ParamTurn bodies)))
-
       arrow_first_lists : Lists nested judge (ParamTurn bodies) as_is (in_turn (in_param nested) in_none) (parser.arrow_first v) (parser.arrow_first u)
       unfolding parser.arrow_first
-      arrow_first_lists = lists_peek nested judge (λ t. lists_when nested judge (is_mark mark.ELLIPSIS t.kind) (lists_more nested judge (λ n. Stop (Rest n)) (λ n. Stop (Rest n)) (s.sub ARest) (λ a b k. k) (λ _ _. refl)) arrow_item_lists)
+      arrow_first_lists = lists_peek nested judge (λ t. lists_when nested judge (is_mark mark.ELLIPSIS t.kind) (lists_more nested judge (λ n. Stop (Rest n)) (λ n. Stop (Rest n)) (s.sub ARest) (λ a b k. k) (λ _ _. refl)) (lists_more nested judge Again Again (s.sub AParam) (λ a b k. k) (λ _ _. refl)))
 
       arrow_next_lists : Lists nested judge (ParamTurn bodies) as_is (in_turn (in_param nested) in_none) (parser.arrow_next v) (parser.arrow_next u)
       unfolding parser.arrow_next

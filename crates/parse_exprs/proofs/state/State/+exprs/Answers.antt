@@ -23,7 +23,7 @@ use Rattle.parse_exprs.specs.Source.{front}
 use Rattle.pure_parser.proofs.LocalArrows.{arrow_turn_gains}
 use Rattle.pure_parser.proofs.LocalExprs.{args_turn_gains, item_turn_gains, lead_turn_gains, level_local, member_turn_gains, more_turn_gains, op_turn_gains, params_turn_gains, part_turn_gains, power_turn_gains, props_turn_gains, tail_turn_gains}
 use Rattle.pure_parser.specs.Exprs.{ANew, AParam, APrefix, ARest, AnAssign, and_level, args_next, args_of, args_turn, array_case, array_of, arrow_param, assign_of, assign_tail, atom_case, begins_assign, binary_case, branches_of, chain_case, coalesce_level, comma_case, cond_of, cond_tail, expr_of, index_of, is_atom, is_op, is_word_kind, items_from, lead_item, lead_items, lead_turn, left_of, level_of, list_case, mark_of, member_turn, more_args, new_args, new_from, new_of, new_or_prim, operands_from, or_from, or_level, paren_of, part_end, part_turn, plain_of, postfix_of, power_of, power_turn, prefix_of, prim_of, short_circuit, template_of, unary_of, update_of, with_last}
-use Rattle.pure_parser.specs.Parser.{Again, Turn, bind, head_of, led, loop, rest_of, ret}
+use Rattle.pure_parser.specs.Parser.{Again, bind, head_of, led, loop, rest_of, ret}
 use Rattle.script_grammar.specs.Endings.{last_ending, operands_ending}
 use Rattle.script_grammar.specs.Interpretation.{named, text_of}
 use Rattle.script_grammar.specs.Kinds.{is_assign_mark, is_mark, is_name, is_prefix, is_update, is_word}
@@ -31,7 +31,7 @@ use Rattle.script_grammar.specs.Lexeme.{Lexeme, lexeme_of}
 use Rattle.script_grammar.specs.Proper.{left_rank, rank}
 use Rattle.script_grammar.specs.Shows.{FuncOf, MaybeOf, NodeOf, ParamOf, PartOf, ShowAll, ShowMaybe, ShowOperand, ShowParam, ShowPart, ShowTail}
 use Rattle.script_grammar.specs.Tree.{Expr}
-use Rattle.script_grammar.specs.TreeLists.{Operand, Param, Part, exprs_of, maybe_args_of, operands_of, parts_of, props_of}
+use Rattle.script_grammar.specs.TreeLists.{Operand, Part, exprs_of, maybe_args_of, operands_of, parts_of, props_of}
 use Rattle.std.proofs.Common.{Err, None, Some, [], ap, arith, false, nat_le, refl, subst, sym, true, ◌&&◌, ◌++◌, ◌-◌, ◌||◌, ◌∙◌, ◌∷◌, ◌≡◌}
 use Rattle.pure_parser.specs.Exprs as pure
 use Rattle.script_grammar.specs.Kinds as test
@@ -162,27 +162,14 @@ arrow_body-returns-then-is_mark g t c = λ i h e f.
     (refl, when_true _ _ (sym (c.is_mark.ensures i) ∙ c.if-is_mark.true) (subst (λ b. ReadAs (records s i c.args.self.now.place) (v.body form.Arrow h.start b ts) (record { body = body_at i c.args.start; end = c.in_ok-end.end }) (records s i c.pass_body.new.self) (front s i c.pass_body.new.self.at)) f k))
 
 pub arrow_first-returns : goal.arrow_first-returns
-unfolding pure.arrow_first pure.arrow_item pure.doomed_items
+unfolding pure.arrow_first
 arrow_first-returns g t c = λ i.
-    let s = c.args.source.now in
-    let p = c.doomed.new.self in
-    let e = c.doomed.result in
-    let rs = records s i c.args.self.now.place in
-    let ts = front s i c.args.self.now.place.at in
-    let a = c.in_ok-items.ensures i in
-    onward_false (Itself {A = Turn Param pure.ParamsEnd}) s i p (Err e) rs ts _ _ (sym (c.is_mark.ensures i) ∙ c.if-is_mark.false)
-    (onward_false (Itself {A = Turn Param pure.ParamsEnd}) s i p (Err e) rs ts _ _ (sym (c.is_param_form.ensures i) ∙ c.if-is_param_form.false)
-    (refused_behind s i p e rs _ _ a.2 (c.doomed.ensures.params i)))
+    let a = param_read i (g.H.Handler.shows_expr i) c.in_ok-param.param (c.in_ok-param.ensures i) in
+    again_reads i (g.H.Handler.shows_expr i) c.in_ok-param.param a.0 a.1 (when_false _ _ (sym (c.is_mark.ensures i) ∙ c.if-is_mark.false) (made _ a.2))
 
 pub arrow_first-returns-then-is_mark : goal.arrow_first-returns-then-is_mark
 unfolding pure.arrow_first
 arrow_first-returns-then-is_mark g t c = λ i. when_true _ _ (sym (c.is_mark.ensures i) ∙ c.if-is_mark.true) (then pure.rest_stop (c.in_ok-name.ensures i) (just _ _ _))
-
-pub arrow_first-returns-then-is_param_form : goal.arrow_first-returns-then-is_param_form
-unfolding pure.arrow_first pure.arrow_item
-arrow_first-returns-then-is_param_form g t c = λ i.
-    let a = param_read i (g.H.Handler.shows_expr i) c.in_ok-param.param (c.in_ok-param.ensures i) in
-    again_reads i (g.H.Handler.shows_expr i) c.in_ok-param.param a.0 a.1 (when_false _ _ (sym (c.is_mark.ensures i) ∙ c.if-is_mark.false) (when_true _ _ (sym (c.is_param_form.ensures i) ∙ c.if-is_param_form.true) (made _ a.2)))
 
 pub arrow_head-returns-then-is_mark : goal.arrow_head-returns-then-is_mark
 unfolding pure.arrow_head pure.arrow_listed

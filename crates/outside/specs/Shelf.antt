@@ -63,3 +63,12 @@ abbrev pub TurnsToRead : {T : Type 0} → List (List ℕ) → List (List ℕ) �
 TurnsToRead before now name (Ok _) = now ≡ before ++ name ∷ []
 TurnsToRead before now name (Err Failed) = now ≡ before ++ name ∷ []
 TurnsToRead before now name (Err NoMemory) = TurnsAtMost before now name
+
+-- the shelf was turned to some of these names, from the first on
+abbrev pub TurnsToFront : List (List ℕ) → List (List ℕ) → List (List ℕ) → Type 0
+TurnsToFront before now names = (front : List (List ℕ)) × (rest : List (List ℕ)) × (names ≡ front ++ rest) × (now ≡ before ++ front)
+
+-- the names that reading many files turns to: all of them, or, after a refusal, some from the first on
+abbrev pub TurnsToAll : {T : Type 0} → List (List ℕ) → List (List ℕ) → List (List ℕ) → Result T ShelfRefusal → Type 0
+TurnsToAll before now names (Ok _) = now ≡ before ++ names
+TurnsToAll before now names (Err _) = TurnsToFront before now names

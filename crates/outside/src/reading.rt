@@ -1,8 +1,9 @@
-//! Reading a file whole.
+//! Reading files whole.
 
-ghost use Rattle.std.specs.Prelude.{◌≡◌, ℕ, ◌+◌, ◌-◌, ◌^◌, ◌<◌, ◌≤◌, true, [], ◌++◌, List, Some, length, IfOk, OnOk};
-ghost use Rattle.outside.specs.Shelf.{CountsShelf, TurnsToRead};
-ghost use Rattle.outside.specs.Loops.{EndsWithin, HasAtMost, HasRead, ReadsNameWithin};
+ghost use Rattle.std.specs.Prelude.{◌≡◌, ℕ, ◌+◌, ◌-◌, ◌^◌, ◌<◌, ◌≤◌, true, [], ◌++◌, List, Some, length, map, IfOk, IfSome, OnOk};
+ghost use Rattle.std.specs.String.{string_bytes};
+ghost use Rattle.outside.specs.Shelf.{CountsShelf, TurnsToAll, TurnsToRead};
+ghost use Rattle.outside.specs.Loops.{AreLeft, EndsWithin, HasAtMost, HasLeft, HasRead, HaveAtMost, IsWholeBehind, ReadsAllWithin, ReadsBehind, ReadsNameWithin};
 
 use crate::shelf::{Shelf, ShelfRefusal};
 use std::alloc::Global;
@@ -74,4 +75,77 @@ pub fn read_file<L: Shelf>(
         Err(ShelfRefusal::Failed) => Err(ShelfRefusal::Failed),
         Err(ShelfRefusal::NoMemory) => Err(ShelfRefusal::NoMemory),
     }
+}
+
+/// Reads the file of this name, of which no more bytes are wanted than are left; none are where `left` is none.
+fn read_next<L: Shelf>(
+    alloc: Global,
+    shelf: &mut L,
+    name: &str,
+    left: Option<usize>,
+    most: usize,
+) -> Result<Option<Vec<u8>>, ShelfRefusal>
+    requires counted { L.faults shelf.old < 2 ^ 64 - 1 }
+    requires most { most < 2 ^ 62 }
+    requires few { IfSome left (λ l. l ≤ most) }
+    ensures count { CountsShelf (L.faults shelf.old) (L.faults shelf.new) result }
+    ensures names { TurnsToRead (L.turned shelf.old) (L.turned shelf.new) name.now result }
+    ensures same { L.held shelf.new ≡ L.held shelf.old }
+    ensures within { IfOk result (HasLeft left) }
+    ensures read { (before : ℕ) → AreLeft most before left → IfOk result (ReadsBehind (L.held shelf.old) name.now most before) }
+{
+    match left {
+        Some(left) => read_file(alloc, shelf, name, left),
+        None => match read_file(alloc, shelf, name, 0) {
+            Ok(_) => Ok(None),
+            Err(ShelfRefusal::Failed) => Err(ShelfRefusal::Failed),
+            Err(ShelfRefusal::NoMemory) => Err(ShelfRefusal::NoMemory),
+        },
+    }
+}
+
+/// How many bytes are left behind a file that was read, none where there were too many.
+fn left_behind(left: Option<usize>, read: &Option<Vec<u8>>) -> Option<usize>
+    requires { HasLeft left read.now }
+    ensures within { (most : ℕ) → IfSome left (λ l. l ≤ most) → IfSome result (λ l. l ≤ most) }
+    ensures left { (most before : ℕ) (file : List ℕ) → AreLeft most before left → IsWholeBehind most before file read.now → AreLeft most (before + length file) result }
+{
+    match (left, read) {
+        (Some(left), Some(bytes)) => Some(left - bytes.len()),
+        _ => None,
+    }
+}
+
+/// Turns the shelf to these names, one after another, and reads their files whole: of each its bytes, or none where the bytes
+/// of the files up to it are more than `most`.
+pub fn read_files<L: Shelf>(
+    alloc: Global,
+    shelf: &mut L,
+    names: &[String],
+    most: usize,
+) -> Result<Vec<Option<Vec<u8>>>, ShelfRefusal>
+    requires counted { L.faults shelf.old < 2 ^ 64 - 1 }
+    requires most { most < 2 ^ 62 }
+    ensures count { CountsShelf (L.faults shelf.old) (L.faults shelf.new) result }
+    ensures names { TurnsToAll (L.turned shelf.old) (L.turned shelf.new) (map string_bytes names.now) result }
+    ensures same { L.held shelf.new ≡ L.held shelf.old }
+    ensures within { IfOk result (λ reads. HaveAtMost most reads.items) }
+    ensures read { IfOk result (λ reads. ReadsAllWithin (L.held shelf.old) (map string_bytes names.now) most reads.items) }
+{
+    let mut reads = Vec::new(alloc);
+    let mut left = Some(most);
+    for name in names {
+        match read_next(alloc, shelf, name.as_str(), left, most) {
+            Ok(read) => {
+                left = left_behind(left, &read);
+                match reads.push(read) {
+                    Ok(()) => {}
+                    Err(_) => return Err(ShelfRefusal::NoMemory),
+                }
+            }
+            Err(ShelfRefusal::Failed) => return Err(ShelfRefusal::Failed),
+            Err(ShelfRefusal::NoMemory) => return Err(ShelfRefusal::NoMemory),
+        }
+    }
+    Ok(reads)
 }

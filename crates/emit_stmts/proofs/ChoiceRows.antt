@@ -37,7 +37,7 @@ pub then_turn : {a b c d : List ℕ} {w0 w1 w2 : List Wait} {ns ns_new : List Tr
 then_turn {w0 = w0} {ns = ns} {k = k} s test body none x jump y =
     written_by (λ w f. ((f.0, tt), f.1)) (λ w f. zero-add _)
     (λ w stands f. ap (λ (i : ℕ). expr_code (scene (position_of s)) (expr_of (within (position_of s) w) test) ++ (Waiting op.JumpIfFalse aim.Otherwise ∷ []) ++ stmt_code (setting (position_of s) w) (stmt_of (within (position_of s) w) body) i (position_of s).frames) (add-zero k))
-    (written_from_none none (written_both (written_both (written_plain s w0 ns k x.row.code) (written_wait op.JumpIfFalse aim.Otherwise (position_of s) ns k jump)) y.row.code))
+    (written_from_none none (written_both (written_both (written_plain s w0 ns k x.row.code) (written_wait op.JumpIfFalse aim.Otherwise (position_of s) ns k refl jump)) y.row.code))
 
 abbrev ThenTurn : StmtSite → List ℕ → List ℕ → List Wait → List TryNote → List TryNote → ℕ → ℕ → Expr → Stmt → Type 0
 ThenTurn s a d ws ns ns_new k l test body =
@@ -55,7 +55,7 @@ then_row {k = k} s test body u lands = record {
 pub first_turn : {a d e : List ℕ} {w2 w3 : List Wait} {ns ns_new : List TryNote} {k l : ℕ} (s : StmtSite) (test : Expr) (body : Stmt) → ThenTurn s a d w2 ns ns_new k l test body → Waits op.Goto aim.After d w2 e w3
     → Written (position_of s) (emitted a [] ns) (emitted e w3 ns_new) k l (λ w. (ExprFits (expr_of (within (position_of s) w) test) × StmtFits (position_of s).room (kept_values (position_of s).frames) (stmt_of (within (position_of s) w) body)) × Unit {0}) (λ w. count_stmt (stmt_of (within (position_of s) w) body) + 0)
     (λ w i. expr_code (scene (position_of s)) (expr_of (within (position_of s) w) test) ++ (Waiting op.JumpIfFalse aim.Otherwise ∷ []) ++ stmt_code (setting (position_of s) w) (stmt_of (within (position_of s) w) body) i (position_of s).frames ++ (Waiting op.Goto aim.After ∷ []))
-first_turn {ns_new = ns_new} {l = l} s test body u jump = written_both u (written_wait op.Goto aim.After (position_of s) ns_new l jump)
+first_turn {ns_new = ns_new} {l = l} s test body u jump = written_both u (written_wait op.Goto aim.After (position_of s) ns_new l refl jump)
 
 pub first_row : {a d e f : List ℕ} {w2 w3 ws ws_new : List Wait} {ns ns_new : List TryNote} {k l : ℕ} (s : StmtSite) (test : Expr) (body : Stmt) → ThenTurn s a d w2 ns ns_new k l test body → Waits op.Goto aim.After d w2 e w3 → LandsHere aim.Otherwise e w3 ws f ws_new
     → FirstWritten (position_of s) (emitted a ws ns) (emitted f ws_new ns_new) k l test body

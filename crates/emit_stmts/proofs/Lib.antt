@@ -1,4 +1,6 @@
+pub mod Apart
 pub mod ChoiceRows
+pub mod ClauseRows
 pub mod CodeRows
 pub mod Declaring
 pub mod Exits
@@ -6,6 +8,7 @@ pub mod Finished
 pub mod ForRows
 pub mod HeadRows
 pub mod Hiding
+pub mod Landing
 pub mod LoopRows
 pub mod ReturnRows
 pub mod Scoped

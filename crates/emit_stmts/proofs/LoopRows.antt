@@ -95,7 +95,7 @@ pub while_turn : {a b c d e : List ℕ} {w0 w1 w2 : List Wait} {ns ns_new : List
 while_turn {w0 = w0} {ns = ns} {k = k} inside test body level none head x jump y =
     written_by (λ w f. (((tt, f.0), tt), f.1)) (λ w f. zero-add (body_count body (position_of inside) w))
     (λ w stands f. ap (λ (i : ℕ). just op.LoopHead ++ value_code test (position_of inside) w ++ (Waiting op.JumpIfFalse (aim.Break level) ∷ []) ++ body_code body (position_of inside) w i) (add-zero k))
-    (written_from_none none (written_both (written_both (written_plain inside w0 ns k (expr.written_both (written_of head) x.row.code)) (written_wait op.JumpIfFalse (aim.Break level) (position_of inside) ns k jump)) y.row.code))
+    (written_from_none none (written_both (written_both (written_plain inside w0 ns k (expr.written_both (written_of head) x.row.code)) (written_wait op.JumpIfFalse (aim.Break level) (position_of inside) ns k refl jump)) y.row.code))
 
 pub while_row : {a f g h : List ℕ} {t1 ws ws_new : List Wait} {ns ns_new : List TryNote} {k l start : ℕ} (s inside : StmtSite) (test : Expr) (body : Stmt) (level : ℕ) → position_of inside ≡ framed (Loop ∷ (position_of s).frames) (position_of s) → level ≡ length (position_of s).frames → length a ≡ start
     → Written (position_of inside) (emitted a [] ns) (emitted f t1 ns_new) k l (λ w. test_fits test (position_of inside) w × body_fits body (position_of inside) w) (body_count body (position_of inside))

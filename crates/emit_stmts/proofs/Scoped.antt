@@ -27,6 +27,7 @@ use Rattle.emit_stmts.specs.StmtCode.{Written, StmtsWritten}
 use Rattle.emit_stmts.specs.StmtFits.{HasRoom, room_in, StmtsFit}
 use Rattle.emit_stmts.specs.Stmts.{Setting, scene_at, enter_scope, in_scope, no_functions, freshen, block_functions, stmts_code}
 use Rattle.emit_stmts.specs.ValueCode.{BlockFunctionsEmit}
+use Rattle.emit_stmts.proofs.Apart.{apart_emits}
 use Rattle.emit_stmts.proofs.Writing.{written_plain, written_both, written_by, written_moved, scene_is}
 
 -- ---- whether a scope is entered
@@ -97,6 +98,7 @@ written_entered : {a b : Emitted} {k l : ℕ} {f : World → Type 0} {m : World 
 written_entered p n u = record {
   written = u.written;
   appends = u.appends;
+  apart = u.apart;
   counted = u.counted;
   is = λ w stands f small. u.is w (record { chain = ap (λ (c : List LinkView). chain_link (scope_at p.scopes n) ∷ c) stands.chain }) f small;
 }
@@ -105,7 +107,7 @@ pub nowhere : World
 nowhere = record { bodies = λ start. no_stmts; base = [] }
 
 written_enter : {a b : List ℕ} {k l : ℕ} (s : StmtSite) (ws : List Wait) (ns : List TryNote) (enter : Code) → EmitsAt s.exprs a b enter → (k + 1 < 2 ^ 64 → l ≡ k + 1) → Written (position_of s) (emitted a ws ns) (emitted b ws ns) k l (λ w. Unit {0}) (λ w. 1) (λ w i. enter)
-written_enter s ws ns enter x next = record { written = enter; appends = x.anywhere ws ns; counted = λ w f small. next small; is = λ w stands f small. refl }
+written_enter s ws ns enter x next = record { written = enter; appends = x.anywhere ws ns; apart = apart_emits x; counted = λ w f small. next small; is = λ w stands f small. refl }
 
 -- what was written in a scope that was entered and left
 pub written_scope : {a b c d : List ℕ} {ws ws_new : List Wait} {ns ns_in ns_new : List TryNote} {k j l number : ℕ} (s inside : StmtSite) (f : Position → World → Type 0) (m : Position → World → ℕ) (x : Position → World → ℕ → Code) (enter : Code)

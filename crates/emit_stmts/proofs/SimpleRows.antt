@@ -26,6 +26,7 @@ use Rattle.emit_stmts.specs.Positions.{position_of, within}
 use Rattle.emit_stmts.specs.StmtCode.{RowWritten}
 use Rattle.emit_stmts.specs.Stmts.{binds_code, result_code, label_text}
 use Rattle.emit_stmts.specs.ValueCode.{BindsEmit}
+use Rattle.emit_stmts.proofs.Apart.{apart_leaving}
 use Rattle.emit_stmts.proofs.Writing.{written_plain, row_of, scene_is}
 
 pub value_row : {a b c : List ℕ} (s : StmtSite) (e : Expr) (ws : List Wait) (ns : List TryNote) (number : ℕ) (semi : Bool) → ExprEmits s.exprs a b Plainly e → EmitsAt s.exprs b c (result_code s.is_script) → RowWritten (position_of s) (emitted a ws ns) (emitted c ws ns) number number (λ w. model.Value (expr_of (within (position_of s) w) e) semi)
@@ -55,6 +56,7 @@ break_row s label ns number at semi x = record {
   code = record {
     written = leaving (position_of s).scopes (Out (label_in s.exprs.texts.now label)) (position_of s).frames;
     appends = x.appends ns;
+    apart = apart_leaving (position_of s).scopes (Out (label_in s.exprs.texts.now label)) (position_of s).frames;
     counted = λ w f small. sym (add-zero number);
     is = λ w stands f small. ap (λ (l : Option (List ℕ)). leaving (position_of s).scopes (Out l) (position_of s).frames) (label_same (within (position_of s) w) label);
   };
@@ -65,6 +67,7 @@ continue_row s label ns number at semi x = record {
   code = record {
     written = leaving (position_of s).scopes (Again (label_in s.exprs.texts.now label)) (position_of s).frames;
     appends = x.appends ns;
+    apart = apart_leaving (position_of s).scopes (Again (label_in s.exprs.texts.now label)) (position_of s).frames;
     counted = λ w f small. sym (add-zero number);
     is = λ w stands f small. ap (λ (l : Option (List ℕ)). leaving (position_of s).scopes (Again l) (position_of s).frames) (label_same (within (position_of s) w) label);
   };

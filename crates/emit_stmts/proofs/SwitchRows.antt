@@ -23,19 +23,21 @@ use Rattle.emit_exprs.specs.Exprs.{Scene, expr_code}
 use Rattle.emit_exprs.specs.Sites.{EmitsAt}
 use Rattle.emit_exprs.specs.TreeCode.{ExprEmits}
 use Rattle.emit_stmts.specs.declared.stmt_site.StmtSite.{StmtSite}
+use Rattle.emit_stmts.specs.Clauses.{NoClause}
 use Rattle.emit_stmts.specs.Declares.{declares}
 use Rattle.emit_stmts.specs.Frames.{Switching, kept_values, leave_scope}
-use Rattle.emit_stmts.specs.HeadCode.{CasesWritten}
+use Rattle.emit_stmts.specs.HeadCode.{Choosing, CasesWritten}
 use Rattle.emit_stmts.specs.PartCode.{ClausesWritten, clauses_in, stmts_in, switch_code}
 use Rattle.emit_stmts.specs.Positions.{Position, position_of, framed, scene, World, setting, within, Stands}
 use Rattle.emit_stmts.specs.StmtCode.{Written, RowWritten, StmtsWritten}
 use Rattle.emit_stmts.specs.StmtFits.{HasRoom, ClausesFit}
 use Rattle.emit_stmts.specs.Stmts.{enter_scope, scene_at, clause_functions, clauses_code, cases_code, default_aim}
 use Rattle.emit_stmts.specs.ValueCode.{ClauseFunctionsEmit}
+use Rattle.emit_stmts.proofs.Apart.{apart_code}
 use Rattle.emit_stmts.proofs.HeadRows.{fits_in, next_clause}
 use Rattle.emit_stmts.proofs.LoopRows.{framed_row}
 use Rattle.emit_stmts.proofs.Scoped.{declared_some, left_out, count_some, count_none, room_some, room_none, scoped, unscoped, inner_position, nowhere, written_scope}
-use Rattle.emit_stmts.proofs.Writing.{written_plain, written_wait, written_both, written_here, written_from_none, written_by, scene_is}
+use Rattle.emit_stmts.proofs.Writing.{written_plain, written_both, written_here, written_by, scene_is}
 
 -- ---- clauses, one after the other
 
@@ -56,16 +58,16 @@ pub record ClausesLeft (p : Position) (start : List ℕ) (notes : List TryNote) 
       → clauses_code (setting p w) place (clauses_in p w left) next p.frames written ≡ clauses_code (setting p w) 0 (clauses_in p w all) number p.frames (before_code p all level w)
 
 pub clauses_begin : {a b c : List ℕ} {w0 w1 w2 : List Wait} {level : ℕ} {goal : Aim} (s : StmtSite) (notes : List TryNote) (number : ℕ) (all : List Clause) → w0 ≡ [] → CasesWritten s a w0 b w1 all → Waits op.Default goal b w1 c w2 → ((i : Interpretation) → goal ≡ default_aim level 0 (clauses_of (map (clause_of i) all))) → ClausesLeft (position_of s) a notes c w2 notes number number 0 level all all
-clauses_begin {a} {c = c} {w2 = w2} {level = level} {goal} s notes number all none x jump goal_is = record {
-  written = u.written;
-  appends = u.appends;
+clauses_begin {a} {b} {c} {w0} {w1} {w2} {level} {goal} s notes number all none x jump goal_is = record {
+  written = y.written ++ (Waiting op.Default goal ∷ []);
+  appends = subst (λ (l : List Wait). Appends (position_of s).texts (emitted a l notes) (emitted c w2 notes) (y.written ++ (Waiting op.Default goal ∷ []))) none (appends_both y.appends (jump (position_of s).texts notes));
   fits = λ w f. f;
   counted = λ w f small. refl;
-  is = λ w stands f small. ap (clauses_code (setting (position_of s) w) 0 (clauses_in (position_of s) w all) number (position_of s).frames) (u.is w stands (f, tt) (omega arith) ∙ ap (λ (g : Aim). cases_code (scene (position_of s)) 0 (clauses_in (position_of s) w all) ++ (Waiting op.Default g ∷ [])) (goal_is (within (position_of s) w)));
+  is = λ w stands f small. ap (clauses_code (setting (position_of s) w) 0 (clauses_in (position_of s) w all) number (position_of s).frames) (ap (λ (made : Code). made ++ (Waiting op.Default goal ∷ [])) (y.is w f) ∙ ap (λ (g : Aim). cases_code (scene (position_of s)) 0 (clauses_in (position_of s) w all) ++ (Waiting op.Default g ∷ [])) (goal_is (within (position_of s) w)));
 }
   where
-    u : Written (position_of s) (emitted a [] notes) (emitted c w2 notes) number number (λ w. fits_in (position_of s) all w × Unit {0}) (λ w. 0 + 0) (λ w i. cases_code (scene (position_of s)) 0 (clauses_in (position_of s) w all) ++ (Waiting op.Default goal ∷ []))
-    u = written_from_none none (written_both (x.made notes number) (written_wait op.Default goal (position_of s) notes number jump))
+    y : Choosing (position_of s) (emitted a w0 notes) (emitted b w1 notes) (fits_in (position_of s) all) (λ w. cases_code (scene (position_of s)) 0 (clauses_in (position_of s) w all))
+    y = x.made notes
 
 pub clauses_room : {p : Position} {start bytes : List ℕ} {waits : List Wait} {notes notes_now : List TryNote} {number next place level : ℕ} {all left : List Clause} → ClausesLeft p start notes bytes waits notes_now number next place level all left → AllRoom (length bytes) waits
 clauses_room l = appends_room refl l.appends
@@ -96,11 +98,12 @@ clauses_next {p} {start} {b} {c} {d} {w0} {h0} {h1} {h2} {notes} {n1} {n2} {numb
     parts : (w : World) → fits_in p all w → ClausesFit p.room (kept_values p.frames) (model.more_clauses (maybe_expr_of (option_map (expr_of (within p w)) x.test)) (stmts_in p w items) (clauses_in p w further))
     parts w f = subst (ClausesFit p.room (kept_values p.frames)) (same w) (z.fits w f)
 
-pub clauses_end : {p : Position} {start b : List ℕ} {w0 : List Wait} {notes n1 : List TryNote} {number next place level : ℕ} {all : List Clause} (left : List Clause) → left ≡ [] → ClausesLeft p start notes b w0 n1 number next place level all left
+pub clauses_end : {p : Position} {start b : List ℕ} {w0 : List Wait} {notes n1 : List TryNote} {number next place level : ℕ} {all : List Clause} (left : List Clause) → left ≡ [] → NoClause w0 → ClausesLeft p start notes b w0 n1 number next place level all left
     → Written p (emitted start [] notes) (emitted b w0 n1) number next (fits_in p all) (clauses_count p all) (λ w i. clauses_code (setting p w) 0 (clauses_in p w all) i p.frames (before_code p all level w))
-clauses_end {p} {next = next} {place} left none z = record {
+clauses_end {p} {next = next} {place} left none other z = record {
   written = z.written;
   appends = z.appends;
+  apart = apart_code z.appends other;
   counted = λ w f small. omega (arith, z.counted w f small, ap (λ (cs : List Clause). clauses_count p cs w) none);
   is = λ w stands f small. sym (ap (λ (cs : List Clause). clauses_code (setting p w) place (clauses_in p w cs) next p.frames z.written) none) ∙ z.is w stands f small;
 }

@@ -103,13 +103,14 @@ guarded_at {p} {a} {b} {d = d} {ws} {w2 = w2} {n0} {n1} {n2} {k} {l} items begun
   code = record {
     written = Trying (size u.written) (kept_values p.frames % 2 ^ 32) ∷ u.written;
     appends = subst (λ (ns : List TryNote). Appends p.texts (emitted a ws n0) (emitted d w2 ns) (Trying (size u.written) (kept_values p.frames % 2 ^ 32) ∷ u.written)) (sym closed) (appends_guarded (kept_values p.frames % 2 ^ 32) begun u.appends);
+    apart = (refl, u.apart);
     counted = λ w f small. u.counted w (f.1, tt) (subst (λ (n : ℕ). k + n < 2 ^ 64) (sym (add-zero (block_count (stmts_in p w items)))) small) ∙ ap (λ (n : ℕ). k + n) (add-zero (block_count (stmts_in p w items)));
     is = λ w stands f small. ap₂ (λ (n : ℕ) (c : Code). Trying (size c) n ∷ c) (mod-eq_of_lt f.0) (u.is w stands (f.1, tt) (subst (λ (n : ℕ). k + n < 2 ^ 64) (sym (add-zero (block_count (stmts_in p w items)))) small));
   };
 }
   where
     u : Written p (emitted b ws (n0 ++ open_note b (kept_values p.frames % 2 ^ 32) ∷ [])) (emitted d w2 n1) k l (λ w. blocks_fit items p w × Unit {0}) (λ w. block_count (stmts_in p w items) + 0) (λ w i. block_code (setting p w) (stmts_in p w items) i p.frames ++ (Waiting op.Goto aim.After ∷ []))
-    u = written_both x.code (written_wait op.Goto aim.After p n1 l jump)
+    u = written_both x.code (written_wait op.Goto aim.After p n1 l refl jump)
 
 -- the same by what the steps say
 pub guarded_row : {p : Position} {a b c d d_new : List ℕ} {ws w1 w2 : List Wait} {n0 n0_new n1 n2 : List TryNote} {k k_new l l_new number : ℕ} (items : List Stmt) → b ≡ a ++ laid (numbered op.Try 0) → n0_new ≡ n0 ++ open_note b (kept_values p.frames % 2 ^ 32) ∷ [] → k_new ≡ k
@@ -156,7 +157,7 @@ catch_row {k = k} s inside name items is into next same x y number_is leave = re
 -- where there is no room for its scope
 pub catch_out : {a b : List ℕ} {ws ws_new : List Wait} {ns ns_new : List TryNote} {k l : ℕ} (s : StmtSite) (name : Ident) (items : List Stmt) → (true && nat_lt 0 (position_of s).room) ≡ false → BlockWritten (position_of s) (emitted a ws ns) (emitted b ws_new ns_new) k l items → HandlerWritten (position_of s) (emitted a ws ns) (emitted b ws_new ns_new) k l (Some name) items
 catch_out s name items none y = record {
-  code = record { written = y.code.written; appends = y.code.appends; counted = λ w f small. absurd (no_room (position_of s).room none f.0); is = λ w stands f small. absurd (no_room (position_of s).room none f.0) };
+  code = record { written = y.code.written; appends = y.code.appends; apart = y.code.apart; counted = λ w f small. absurd (no_room (position_of s).room none f.0); is = λ w stands f small. absurd (no_room (position_of s).room none f.0) };
 }
   where
     no_room : (room : ℕ) → (true && nat_lt 0 room) ≡ false → 0 < room → ⊥

@@ -1,5 +1,5 @@
 -- Code that was appended, one after the other.
-use Rattle.std.proofs.Common.{◌≡◌, ℕ, ◌+◌, ◌<◌, ◌^◌, List, [], ◌∷◌, ◌++◌, length, refl, sym, ◌∙◌, ap, ap₂, subst, add-zero, append_assoc, append-nil, arith}
+use Rattle.std.proofs.Common.{◌≡◌, ℕ, ◌+◌, ◌<◌, ◌^◌, false, List, [], ◌∷◌, ◌++◌, length, refl, sym, ◌∙◌, ap, ap₂, subst, add-zero, append_assoc, append-nil, arith}
 use Rattle.script_grammar.specs.Tree.{Stmts}
 use Rattle.script_grammar.specs.Tree as model
 use Rattle.script_grammar.specs.declared.tree.Stmt.{Stmt}
@@ -14,25 +14,28 @@ use Rattle.bytecode_buf.specs.Emits.{emitted, Waits, LandsHere, TurnsBack}
 use Rattle.bytecode_buf.specs.Pieces.{Code, Waiting, here, turning}
 use Rattle.bytecode_buf.proofs.AppendLemmas.{appends_none, appends_both, appends_room}
 use Rattle.emit_exprs.specs.TreeCode as expr
+use Rattle.emit_stmts.specs.Apart.{is_clause, Apart}
 use Rattle.emit_stmts.specs.declared.stmt_site.StmtSite.{StmtSite}
 use Rattle.emit_stmts.specs.Frames.{Frame, chain_of, kept_values}
 use Rattle.emit_stmts.specs.Positions.{Position, position_of, framed, scene, World, setting, within, Stands}
 use Rattle.emit_stmts.specs.PartCode.{stmts_in}
 use Rattle.emit_stmts.specs.StmtCode.{Written, RowWritten, StmtWritten, StmtsWritten}
 use Rattle.emit_stmts.specs.StmtFits.{StmtFits, StmtsFit}
+use Rattle.emit_stmts.proofs.Apart.{apart_append, apart_emits, apart_here, apart_turning}
 use Rattle.emit_stmts.specs.Stmts.{stmt_code, stmts_code, scene_at}
 
 pub written_none : (p : Position) (now : Emitted) (number : ℕ) → Written p now now number number (λ w. Unit {0}) (λ w. 0) (λ w n. [])
-written_none p now number = record { written = []; appends = appends_none p.texts now; counted = λ w f small. sym (add-zero number); is = λ w stands f small. refl }
+written_none p now number = record { written = []; appends = appends_none p.texts now; apart = tt; counted = λ w f small. sym (add-zero number); is = λ w stands f small. refl }
 
 -- code of expressions, in which no scope stands
 pub written_plain : {o n : List ℕ} {f : (ℕ → Stmts) → Type 0} {x : (ℕ → Stmts) → Code} (s : StmtSite) (ws : List Wait) (ns : List TryNote) (number : ℕ) → expr.Written s.exprs o n f x → Written (position_of s) (emitted o ws ns) (emitted n ws ns) number number (λ w. f w.bodies) (λ w. 0) (λ w k. x w.bodies)
-written_plain s ws ns number e = record { written = e.written; appends = e.emits.anywhere ws ns; counted = λ w f small. sym (add-zero number); is = λ w stands f small. e.is w.bodies f }
+written_plain s ws ns number e = record { written = e.written; appends = e.emits.anywhere ws ns; apart = apart_emits e.emits; counted = λ w f small. sym (add-zero number); is = λ w stands f small. e.is w.bodies f }
 
 pub written_both : {p : Position} {a b c : Emitted} {k l j : ℕ} {f g : World → Type 0} {m n : World → ℕ} {x y : World → ℕ → Code} → Written p a b k l f m x → Written p b c l j g n y → Written p a c k j (λ w. f w × g w) (λ w. m w + n w) (λ w i. x w i ++ y w (i + m w))
 written_both {k = k} {m = m} {n} {y = y} u v = record {
   written = u.written ++ v.written;
   appends = appends_both u.appends v.appends;
+  apart = apart_append u.written v.written u.apart v.apart;
   counted = λ w f small.
       let first = u.counted w f.0 (omega arith) in
       let second = v.counted w f.1 (omega (arith, first)) in
@@ -47,6 +50,7 @@ pub written_as : {p : Position} {a b : Emitted} {k l : ℕ} {f g : World → Typ
 written_as {k = k} {m = m} {n} fit counts same u = record {
   written = u.written;
   appends = u.appends;
+  apart = u.apart;
   counted = λ w f small. u.counted w (fit w f) (omega (arith, counts w)) ∙ ap (λ (c : ℕ). k + c) (counts w);
   is = λ w stands f small. u.is w stands (fit w f) (omega (arith, counts w)) ∙ same w k stands;
 }
@@ -55,15 +59,16 @@ written_as {k = k} {m = m} {n} fit counts same u = record {
 pub written_from_none : {p : Position} {bytes : List ℕ} {ws : List Wait} {ns : List TryNote} {new : Emitted} {k l : ℕ} {f : World → Type 0} {m : World → ℕ} {x : World → ℕ → Code} → ws ≡ [] → Written p (emitted bytes ws ns) new k l f m x → Written p (emitted bytes [] ns) new k l f m x
 written_from_none {p} {bytes} {ws} {ns} {new} {k} {l} {f} {m} {x} none u = subst (λ (l' : List Wait). Written p (emitted bytes l' ns) new k l f m x) none u
 
--- a jump that waits
-pub written_wait : {bytes new : List ℕ} {ws ws_new : List Wait} (op : Op) (aim : Aim) (p : Position) (ns : List TryNote) (number : ℕ) → Waits op aim bytes ws new ws_new → Written p (emitted bytes ws ns) (emitted new ws_new ns) number number (λ w. Unit {0}) (λ w. 0) (λ w i. Waiting op aim ∷ [])
-written_wait op aim p ns number waits = record { written = Waiting op aim ∷ []; appends = waits p.texts ns; counted = λ w f small. sym (add-zero number); is = λ w stands f small. refl }
+-- a jump that waits for no clause of a switch
+pub written_wait : {bytes new : List ℕ} {ws ws_new : List Wait} (op : Op) (aim : Aim) (p : Position) (ns : List TryNote) (number : ℕ) → is_clause aim ≡ false → Waits op aim bytes ws new ws_new → Written p (emitted bytes ws ns) (emitted new ws_new ns) number number (λ w. Unit {0}) (λ w. 0) (λ w i. Waiting op aim ∷ [])
+written_wait op aim p ns number other waits = record { written = Waiting op aim ∷ []; appends = waits p.texts ns; apart = (other, tt); counted = λ w f small. sym (add-zero number); is = λ w stands f small. refl }
 
 -- code whose jumps were landed behind it
 pub written_here : {p : Position} {start bytes new : List ℕ} {inner ws ws_new : List Wait} {ns ns_now : List TryNote} {k l : ℕ} {f : World → Type 0} {m : World → ℕ} {x : World → ℕ → Code} (aim : Aim) → LandsHere aim bytes inner ws new ws_new → Written p (emitted start [] ns) (emitted bytes inner ns_now) k l f m x → Written p (emitted start ws ns) (emitted new ws_new ns_now) k l f m (λ w i. here aim (x w i))
 written_here {p} {start} {ns = ns} {ns_now} aim lands u = record {
   written = here aim u.written;
   appends = lands p.texts start ns ns_now u.written u.appends;
+  apart = apart_here aim u.written u.apart;
   counted = u.counted;
   is = λ w stands f small. ap (here aim) (u.is w stands f small);
 }
@@ -73,6 +78,7 @@ pub written_turn : {p : Position} {old : Emitted} {bytes new : List ℕ} {ws : L
 written_turn {p} {old} {ws = ws} {ns} op start turns place u = record {
   written = turning op u.written;
   appends = turns p.texts old ws ns u.written place u.appends;
+  apart = apart_turning op u.written u.apart;
   counted = u.counted;
   is = λ w stands f small. ap (turning op) (u.is w stands f small);
 }
@@ -86,6 +92,7 @@ pub written_framed : {p : Position} {a b : Emitted} {k l : ℕ} {f : World → T
 written_framed frames same u = record {
   written = u.written;
   appends = u.appends;
+  apart = u.apart;
   counted = u.counted;
   is = λ w stands f small. u.is w (record { chain = stands.chain ∙ same w.base }) f small;
 }
@@ -112,6 +119,7 @@ pub written_by : {p : Position} {a b : Emitted} {k l : ℕ} {f g : World → Typ
 written_by {k = k} fit counts same u = record {
   written = u.written;
   appends = u.appends;
+  apart = u.apart;
   counted = λ w f small. u.counted w (fit w f) (omega (arith, counts w f)) ∙ ap (λ (c : ℕ). k + c) (counts w f);
   is = λ w stands f small. u.is w stands (fit w f) (omega (arith, counts w f)) ∙ same w stands f;
 }
@@ -125,12 +133,13 @@ written_moved {a = a} {b} {k} {l} f m x same u = subst (λ (r : Position). Writt
 pub record Left (p : Position) (start now : Emitted) (number next : ℕ) (all left : World → Type 0) (count rest_count : World → ℕ) (code rest : World → ℕ → Code) : Type 0 where
   pub written : Code
   pub appends : Appends p.texts start now written
+  pub apart : Apart written
   pub fits : (w : World) → all w → left w
   pub counted : (w : World) → all w → number + count w < 2 ^ 64 → next + rest_count w ≡ number + count w
   pub is : (w : World) → Stands p w → all w → number + count w < 2 ^ 64 → written ++ rest w next ≡ code w number
 
 pub left_begin : (p : Position) (now : Emitted) (number : ℕ) (all : World → Type 0) (count : World → ℕ) (code : World → ℕ → Code) → Left p now now number number all all count count code code
-left_begin p now number all count code = record { written = []; appends = appends_none p.texts now; fits = λ w a. a; counted = λ w a small. refl; is = λ w stands a small. refl }
+left_begin p now number all count code = record { written = []; appends = appends_none p.texts now; apart = tt; fits = λ w a. a; counted = λ w a small. refl; is = λ w stands a small. refl }
 
 pub left_step : {p : Position} {start now new : Emitted} {number next l : ℕ} {all left further g : World → Type 0} {count rest_count later_count n : World → ℕ} {code rest later y : World → ℕ → Code}
     → Written p now new next l g n y
@@ -142,6 +151,7 @@ pub left_step : {p : Position} {start now new : Emitted} {number next l : ℕ} {
 left_step {number = number} {next} {l} {count = count} {rest_count} {later_count} {n} {later = later} {y} u here_fits on counts same x = record {
   written = x.written ++ u.written;
   appends = appends_both x.appends u.appends;
+  apart = apart_append x.written u.written x.apart u.apart;
   fits = λ w a. on w (x.fits w a);
   counted = λ w a small.
       let old = x.counted w a small in
@@ -162,6 +172,7 @@ pub left_end : {p : Position} {start now : Emitted} {number next : ℕ} {all lef
 left_end {next = next} no_more none x = record {
   written = x.written;
   appends = x.appends;
+  apart = x.apart;
   counted = λ w a small. omega (arith, no_more w, x.counted w a small);
   is = λ w stands a small. sym (append-nil x.written) ∙ (ap (λ (c : Code). x.written ++ c) (sym (none w next)) ∙ x.is w stands a small);
 }

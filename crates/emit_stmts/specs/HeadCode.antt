@@ -1,5 +1,5 @@
 -- That the heads of loops and of a switch were appended.
-use Rattle.std.specs.Prelude.{ℕ, List, Option, Some, None, if◌then◌else◌, [], ◌∷◌, ◌++◌, map, option_map}
+use Rattle.std.specs.Prelude.{◌≡◌, ℕ, List, Option, Some, None, if◌then◌else◌, [], ◌∷◌, ◌++◌, map, option_map}
 use Rattle.script_grammar.specs.declared.tree.Clause.{Clause}
 use Rattle.script_grammar.specs.declared.tree.Expr.{Expr}
 use Rattle.script_grammar.specs.TreeLists.{maybe_expr_of, clauses_of}
@@ -9,6 +9,7 @@ use Rattle.stencil_data.specs.Named.{NamedScope}
 use Rattle.bytecode_buf.specs.declared.opcode.Op.TheVariants as op
 use Rattle.bytecode_buf.specs.declared.waits.Aim.TheVariants as aim
 use Rattle.bytecode_buf.specs.declared.waits.Wait.{Wait}
+use Rattle.bytecode_buf.specs.Appends.{Emitted, Appends}
 use Rattle.bytecode_buf.specs.Command.{plain}
 use Rattle.bytecode_buf.specs.Emits.{emitted}
 use Rattle.bytecode_buf.specs.Pieces.{Code, Waiting}
@@ -16,7 +17,7 @@ use Rattle.emit_exprs.specs.Fitting.{MaybeExprFits}
 use Rattle.emit_exprs.specs.Whole.{whole, just}
 use Rattle.emit_stmts.specs.declared.stmt_site.StmtSite.{StmtSite}
 use Rattle.emit_stmts.specs.Frames.{scope_at, has_env, kept_values}
-use Rattle.emit_stmts.specs.Positions.{Position, position_of, scene, within}
+use Rattle.emit_stmts.specs.Positions.{Position, World, position_of, scene, within}
 use Rattle.emit_stmts.specs.StmtCode.{Written}
 use Rattle.emit_stmts.specs.StmtFits.{ClausesFit}
 use Rattle.emit_stmts.specs.Stmts.{case_code, cases_code, test_code}
@@ -38,11 +39,17 @@ keys_code level = whole (plain op.LoopHead ∷ plain op.MoreIter ∷ plain op.Is
 pub record KeysTested (bytes : List ℕ) (waits : List Wait) (bytes_new : List ℕ) (waits_new : List Wait) (level : ℕ) : Type 0 where
   pub made : (p : Position) (notes : List TryNote) (number : ℕ) → Written p (emitted bytes waits notes) (emitted bytes_new waits_new notes) number number (λ w. Unit {0}) (λ w. 0) (λ w i. keys_code level)
 
+-- Tests of clauses were appended, whose jumps wait for the clauses; where these counts fit, this code.
+pub record Choosing (p : Position) (old new : Emitted) (fits : World → Type 0) (code : World → Code) : Type 0 where
+  pub written : Code
+  pub appends : Appends p.texts old new written
+  pub is : (w : World) → fits w → written ≡ code w
+
 -- the test of the clause at a place, and those of all clauses
 pub record CaseWritten (s : StmtSite) (bytes : List ℕ) (waits : List Wait) (bytes_new : List ℕ) (waits_new : List Wait) (place : ℕ) (test : Option Expr) : Type 0 where
-  pub made : (notes : List TryNote) (number : ℕ)
-      → Written (position_of s) (emitted bytes waits notes) (emitted bytes_new waits_new notes) number number (λ w. MaybeExprFits (maybe_expr_of (option_map (expr_of (within (position_of s) w)) test))) (λ w. 0) (λ w i. case_code (scene (position_of s)) place (maybe_expr_of (option_map (expr_of (within (position_of s) w)) test)))
+  pub made : (notes : List TryNote)
+      → Choosing (position_of s) (emitted bytes waits notes) (emitted bytes_new waits_new notes) (λ w. MaybeExprFits (maybe_expr_of (option_map (expr_of (within (position_of s) w)) test))) (λ w. case_code (scene (position_of s)) place (maybe_expr_of (option_map (expr_of (within (position_of s) w)) test)))
 
 pub record CasesWritten (s : StmtSite) (bytes : List ℕ) (waits : List Wait) (bytes_new : List ℕ) (waits_new : List Wait) (clauses : List Clause) : Type 0 where
-  pub made : (notes : List TryNote) (number : ℕ)
-      → Written (position_of s) (emitted bytes waits notes) (emitted bytes_new waits_new notes) number number (λ w. ClausesFit (position_of s).room (kept_values (position_of s).frames) (clauses_of (map (clause_of (within (position_of s) w)) clauses))) (λ w. 0) (λ w i. cases_code (scene (position_of s)) 0 (clauses_of (map (clause_of (within (position_of s) w)) clauses)))
+  pub made : (notes : List TryNote)
+      → Choosing (position_of s) (emitted bytes waits notes) (emitted bytes_new waits_new notes) (λ w. ClausesFit (position_of s).room (kept_values (position_of s).frames) (clauses_of (map (clause_of (within (position_of s) w)) clauses))) (λ w. cases_code (scene (position_of s)) 0 (clauses_of (map (clause_of (within (position_of s) w)) clauses)))

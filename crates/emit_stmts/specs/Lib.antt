@@ -1,3 +1,5 @@
+pub mod Apart
+pub mod Clauses
 pub mod Declares
 pub mod Frames
 pub mod Functions

@@ -8,16 +8,18 @@ use Rattle.script_grammar.specs.TreeOf.{stmt_of}
 use Rattle.scope_analysis.specs.Scopes.{count_stmt, count_stmts}
 use Rattle.bytecode_buf.specs.Pieces.{Code}
 use Rattle.bytecode_buf.specs.Appends.{Emitted, Appends}
+use Rattle.emit_stmts.specs.Apart.{Apart}
 use Rattle.emit_stmts.specs.Frames.{kept_values}
 use Rattle.emit_stmts.specs.Positions.{Position, World, Stands, setting, within}
 use Rattle.emit_stmts.specs.StmtFits.{StmtFits, StmtsFit}
 use Rattle.emit_stmts.specs.Stmts.{stmt_code, stmts_code}
 
--- Some code was appended, whose first scope has this number. Where these counts fit, and the numbers of its scopes, the
--- next number is behind so many scopes, and the code is this one.
+-- Some code was appended, whose first scope has this number; no jump in it waits for a clause of a switch around. Where
+-- these counts fit, and the numbers of its scopes, the next number is behind so many scopes, and the code is this one.
 pub record Written (p : Position) (old new : Emitted) (number next : ℕ) (fits : World → Type 0) (count : World → ℕ) (code : World → ℕ → Code) : Type 0 where
   pub written : Code
   pub appends : Appends p.texts old new written
+  pub apart : Apart written
   pub counted : (w : World) → fits w → number + count w < 2 ^ 64 → next ≡ number + count w
   pub is : (w : World) → Stands p w → fits w → number + count w < 2 ^ 64 → written ≡ code w number
 

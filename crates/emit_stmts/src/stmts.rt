@@ -20,7 +20,7 @@ use crate::scoping::leave_scope;
 use crate::simple::{break_stmt, continue_stmt, debugger_stmt};
 use crate::stmt_site::StmtSite;
 use crate::storing::store_each;
-use crate::switching::{cases, default_aim};
+use crate::switching::{ClauseJumps, cases, clause_target, default_aim};
 use crate::trying::{caught, close_try, dropped, open_try};
 use crate::valued::{binding_stmt, throw_stmt, value_stmt};
 use bytecode_buf::{Aim, Op, Wait, jump_to, target, turn};
@@ -366,21 +366,32 @@ fn emit_clauses(
     let frames = frames_inside(site.exprs.alloc, Frame::Switching, site.frames)?;
     let inside = framed_site(site, &frames);
     let level = site.frames.len();
-    let mut inner = Vec::new(site.exprs.alloc);
-    cases(&mut out.code, &mut inner, &inside, clauses)?;
+    let mut tests = Vec::new(site.exprs.alloc);
+    cases(&mut out.code, &mut tests, &inside, clauses)?;
+    let mut otherwise = Vec::new(site.exprs.alloc);
     jump_to(
         &mut out.code,
         Op::Default,
         default_aim(level, clauses),
-        &mut inner,
+        &mut otherwise,
     )?;
+    let mut jumps = ClauseJumps {
+        tests,
+        landed: 0,
+        otherwise,
+    };
+    let mut inner = Vec::new(site.exprs.alloc);
     for (place, clause) in clauses.iter().enumerate() {
-        let mut held = Vec::new(site.exprs.alloc);
-        target(&mut out.code, &inner, Aim::Clause(place), &mut held)?;
-        emit_stmts(out, &mut held, &inside, &clause.items)?;
-        inner = held;
+        clause_target(site.exprs.alloc, &mut out.code, &mut jumps, place)?;
+        emit_stmts(out, &mut inner, &inside, &clause.items)?;
     }
-    target(&mut out.code, &inner, Aim::Break(level), waits)?;
+    let ClauseJumps {
+        tests: _,
+        landed: _,
+        otherwise: mut last,
+    } = jumps;
+    last.extend_from_slice(&inner)?;
+    target(&mut out.code, &last, Aim::Break(level), waits)?;
     Ok(())
 }
 

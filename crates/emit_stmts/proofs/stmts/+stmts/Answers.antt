@@ -1,4 +1,4 @@
-use Rattle.std.proofs.Common.{List, Option, ap, drop_of_length-le, length, subst, sym, ℕ, ◌<◌, ◌∙◌}
+use Rattle.std.proofs.Common.{List, Option, ap, drop_of_length-le, length, subst, sym, ℕ, ◌++◌, ◌<◌, ◌∙◌}
 use Rattle.script_grammar.specs.declared.tree.Ident.{Ident}
 use Rattle.bytecode_buf.specs.Appends.{AllRoom}
 use Rattle.bytecode_buf.specs.declared.opcode.Op.TheVariants as op
@@ -8,6 +8,7 @@ use Rattle.bytecode_buf.specs.Emits.{LandsHere}
 use Rattle.emit_exprs.proofs.Lists.{next_of}
 use Rattle.emit_exprs.proofs.Writing as expr
 use Rattle.emit_stmts.specs.declared.frames.Frame.{Frame}
+use Rattle.emit_stmts.specs.Clauses.{NoClause}
 use Rattle.emit_stmts.specs.PartCode.{HandlerWritten}
 use Rattle.emit_stmts.specs.Positions.{framed, frames_in, position_of, state, within}
 use Rattle.emit_stmts.proofs.ChoiceRows.{choice_row, first_row, first_turn, label_row, then_row, then_turn}
@@ -15,7 +16,8 @@ use Rattle.emit_stmts.proofs.Exits.{length-frames}
 use Rattle.emit_stmts.proofs.ForRows.{for_in_plain, for_in_scoped, for_plain, for_scoped}
 use Rattle.emit_stmts.proofs.LoopRows.{do_row, do_turn, for_turn, for_turns, keys_row, keys_turn, tail_some, turn_landed, turn_some, while_row, while_turn}
 use Rattle.emit_stmts.proofs.Scoped.{block_plain, block_scoped, inner_is}
-use Rattle.emit_stmts.proofs.SwitchRows.{clauses_begin, clauses_end, clauses_next, clauses_room, clauses_row, switch_plain, switch_scoped}
+use Rattle.emit_stmts.proofs.ClauseRows.{switch_apart, switch_begin, switch_code_left, switch_next, switch_room}
+use Rattle.emit_stmts.proofs.SwitchRows.{clauses_end, clauses_room, clauses_row, switch_plain, switch_scoped}
 use Rattle.emit_stmts.proofs.TryRows.{catch_out, catch_row, guarded_room, guarded_row, handler_none, try_row}
 use Rattle.emit_stmts.proofs.Writing.{written_both, written_from_none, written_plain, written_room, written_turn}
 use Rattle.emit_stmts.proofs.Writing as list
@@ -35,19 +37,19 @@ pub emit_catch-returns-in_ok-emit_block-2 : goal.emit_catch-returns-in_ok-emit_b
 emit_catch-returns-in_ok-emit_block-2 t c = catch_out c.args.site.now c.args.name c.args.items.now (sym c.may_enter.ensures ∙ c.if-may_enter.false) c.in_ok-emit_block-2.ensures
 
 pub emit_clauses-loop-place-init : goal.emit_clauses-loop-place-init
-emit_clauses-loop-place-init t c = clauses_begin c.framed_site-inside.result c.args.out.now.notes.items c.args.out.now.next c.args.clauses.now c.new-inner.ensures.items c.in_ok-cases.ensures c.in_ok-jump_to.ensures.jumps c.default_aim.ensures
+emit_clauses-loop-place-init t c = switch_begin c.framed_site-inside.result c.args.out.now.notes.items c.args.out.now.next c.args.clauses.now _ _ _ c.new-tests.ensures.items c.in_ok-cases.ensures.code c.in_ok-cases.ensures.order c.new-otherwise.ensures.items c.in_ok-jump_to.ensures.jumps c.in_ok-jump_to.ensures.waits c.default_aim.ensures.is c.default_aim.ensures.among c.new-inner.ensures.items
 
-pub emit_clauses-target-requires : goal.emit_clauses-target-requires
-emit_clauses-target-requires t c = subst (AllRoom (length c.loop-place.out.code)) (sym c.deref-in-loop-place.ensures.value) (clauses_room c.loop-place.invariant)
+pub emit_clauses-clause_target-requires : goal.emit_clauses-clause_target-requires
+emit_clauses-clause_target-requires t c = switch_room (clauses_room c.loop-place.invariant.code) c.loop-place.invariant
 
 pub emit_clauses-loop-place-preserved : goal.emit_clauses-loop-place-preserved
-emit_clauses-loop-place-preserved t c = clauses_next _ _ c.index-clauses-place.result c.deref-in-loop-place-2.result.now (next_of c.args.clauses.now c.loop-place.place c.index-clauses-place.result c.loop-place-test.true c.index-clauses-place.is) c.deref-in-loop-place-2.ensures.value c.new-held.ensures.items (subst (λ (ws : List Wait). LandsHere (aim.Clause c.loop-place.place) c.loop-place.out.code ws c.new-held.result.items c.target.new.out c.target.new.waits.items) c.deref-in-loop-place.ensures.value c.in_ok-target.ensures.lands) c.in_ok-emit_stmts.ensures c.loop-place.invariant
+emit_clauses-loop-place-preserved t c = switch_next _ _ c.index-clauses-place.result c.deref-in-loop-place.result.now (next_of c.args.clauses.now c.loop-place.place c.index-clauses-place.result c.loop-place-test.true c.index-clauses-place.is) c.deref-in-loop-place.ensures.value c.in_ok-clause_target.ensures c.loop-place-test.true c.in_ok-emit_stmts.ensures c.loop-place.invariant
 
-pub emit_clauses-target-requires-2 : goal.emit_clauses-target-requires-2
-emit_clauses-target-requires-2 t c = subst (AllRoom (length c.loop-place.out.code)) (sym c.deref-2.ensures.value) (clauses_room c.loop-place.invariant)
+pub emit_clauses-target-requires : goal.emit_clauses-target-requires
+emit_clauses-target-requires t c = subst (AllRoom (length c.loop-place.out.code)) (sym c.deref-3.ensures.value) (clauses_room (switch_code_left c.loop-place-test.false (c.in_ok-extend_from_slice.ensures.items ∙ ap (λ (l : List Wait). c.loop-place.jumps.otherwise.items ++ l) c.deref-2.ensures.value) c.loop-place.invariant))
 
 pub emit_clauses-returns : goal.emit_clauses-returns
-emit_clauses-returns t c = clauses_row c.args.site.now c.framed_site-inside.result c.args.clauses.now (c.framed_site-inside.ensures ∙ ap (λ (fs : List Frame). framed (frames_in c.args.site.now.exprs.texts.now fs) (position_of c.args.site.now)) (c.deref.ensures.value ∙ c.in_ok-frames.ensures)) (sym (length-frames c.args.site.now.exprs.texts.now c.args.site.now.frames.now)) (clauses_end _ (drop_of_length-le c.args.clauses.now c.loop-place-test.false) c.loop-place.invariant) (subst (λ (ws : List Wait). LandsHere (aim.Break (length c.args.site.now.frames.now)) c.loop-place.out.code ws c.args.waits.now.items c.target-2.new.out c.target-2.new.waits.items) c.deref-2.ensures.value c.in_ok-target-2.ensures.lands)
+emit_clauses-returns t c = clauses_row c.args.site.now c.framed_site-inside.result c.args.clauses.now (c.framed_site-inside.ensures ∙ ap (λ (fs : List Frame). framed (frames_in c.args.site.now.exprs.texts.now fs) (position_of c.args.site.now)) (c.deref.ensures.value ∙ c.in_ok-frames.ensures)) (sym (length-frames c.args.site.now.exprs.texts.now c.args.site.now.frames.now)) (clauses_end _ (drop_of_length-le c.args.clauses.now c.loop-place-test.false) (subst NoClause (sym (c.in_ok-extend_from_slice.ensures.items ∙ ap (λ (l : List Wait). c.loop-place.jumps.otherwise.items ++ l) c.deref-2.ensures.value)) (switch_apart c.loop-place-test.false c.loop-place.invariant)) (switch_code_left c.loop-place-test.false (c.in_ok-extend_from_slice.ensures.items ∙ ap (λ (l : List Wait). c.loop-place.jumps.otherwise.items ++ l) c.deref-2.ensures.value) c.loop-place.invariant)) (subst (λ (ws : List Wait). LandsHere (aim.Break (length c.args.site.now.frames.now)) c.loop-place.out.code ws c.args.waits.now.items c.target.new.out c.target.new.waits.items) c.deref-3.ensures.value c.in_ok-target.ensures.lands)
 
 pub emit_do-target-requires : goal.emit_do-target-requires
 emit_do-target-requires t c = subst (AllRoom (length c.emit_stmt.new.out.code)) (sym c.deref-2.ensures.value) (written_room (do_turn c.framed_site-inside.result c.args.body.now c.new-inner.ensures.items (c.in_ok-plain.ensures c.framed_site-inside.result.exprs.texts.now) c.in_ok-emit_stmt.ensures))

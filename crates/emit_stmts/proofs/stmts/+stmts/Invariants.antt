@@ -1,6 +1,6 @@
 use Rattle.std.proofs.Common.{◌+◌, ◌*◌, drop, length}
 use Rattle.emit_stmts.specs.Positions.{position_of, state}
-use Rattle.emit_stmts.proofs.SwitchRows.{ClausesLeft}
+use Rattle.emit_stmts.proofs.ClauseRows.{SwitchLeft}
 use Rattle.emit_stmts.proofs.Writing.{StmtsLeft}
 use Rattle.emit_stmts.proofs.stmts.+stmts.Given as goal
 
@@ -8,7 +8,7 @@ abbrev pub invariant-emit_stmts-loop-item : goal.invariant-emit_stmts-loop-item
 invariant-emit_stmts-loop-item l = StmtsLeft (position_of l.site) (state l.initial.out l.initial.waits.items) (state l.out l.waits.items) l.initial.out.next l.out.next l.items (drop l.item-index l.items)
 
 abbrev pub invariant-emit_clauses-loop-place : goal.invariant-emit_clauses-loop-place
-invariant-emit_clauses-loop-place l = ClausesLeft (position_of l.inside) l.fn.out.code l.fn.out.notes.items l.out.code l.inner.items l.out.notes.items l.fn.out.next l.out.next l.place (length l.site.frames.now) l.clauses (drop l.place l.clauses)
+invariant-emit_clauses-loop-place l = SwitchLeft (position_of l.inside) l.fn.out.code l.fn.out.notes.items l.out.code l.jumps l.inner.items l.out.notes.items l.fn.out.next l.out.next l.place (length l.site.frames.now) l.clauses (drop l.place l.clauses)
 
 abbrev pub decreases-emit_stmt : goal.decreases-emit_stmt
 decreases-emit_stmt l = 8 * goal.size-emit_stmt l

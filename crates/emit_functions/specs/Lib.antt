@@ -1,6 +1,5 @@
 pub mod BodyCode
 pub mod CopyCode
 pub mod FunctionCode
-pub mod InnerCode
 pub mod ParamCode
 pub mod TopCode

@@ -6,13 +6,12 @@
 //! stencils in `stencils`.
 //!
 //! `function` makes the stencil of a function, where its scopes and the extents of the functions directly in it are handed
-//! in; its clause is that of `specs/FunctionCode.antt`. `find_expr` finds the functions directly in an expression, with the
-//! chain at each (`inner`); nothing here does so for statements yet.
+//! in; its clause is that of `specs/FunctionCode.antt`. Which functions these are, and the chain at each, is found by
+//! inner_functions, which stands beside this crate.
 #![tactic(auto)]
 
 pub mod bodies;
 pub mod copies;
-pub mod inner;
 pub mod params;
 pub mod sites;
 pub mod stencils;

@@ -1,0 +1,20 @@
+mod Rows
+pub mod Texts
+pub mod Own
+pub mod Quiet
+pub mod Declaring
+pub mod Reading
+pub mod Bodies
+pub mod Parts
+pub mod Closing
+pub mod Finding
+pub mod Scoping
+pub mod Statements
+pub mod OwnNames
+pub mod FunctionScopes
+pub mod Named
+pub mod Clean
+pub mod Scripts
+pub mod Places
+pub mod Declared
+pub mod Handing

@@ -1,0 +1,4 @@
+pub mod Handed
+pub mod Names
+pub mod Sites
+pub mod Sound

@@ -1,0 +1,6 @@
+pub mod Asked
+pub mod EveryFunction
+pub mod Inside
+pub mod Limits
+pub mod Names
+pub mod Places

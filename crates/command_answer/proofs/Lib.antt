@@ -1,1 +1,2 @@
 mod AnswerRows
+pub mod Counts

@@ -1,10 +1,13 @@
 -- What a file of source text is: a script, or refused at the first of these: its bytes are not UTF-8, its grammar has a
 -- fault, it has an early error, it has not a function that is wanted.
-use Rattle.std.specs.Prelude.{◌≡◌, ℕ, zero, suc, ◌≤◌, nat_lt, List, [], ◌∷◌, All, Contains, filter, Some, None, IsUtf8}
+use Rattle.std.specs.Prelude.{◌≡◌, ℕ, zero, suc, ◌≤◌, nat_lt, List, [], ◌∷◌, ◌++◌, get_or, All, Contains, filter, Some, None, IsUtf8}
 use Rattle.std.specs.Str.Lossy.{utf8_valid_len}
+use Rattle.script_grammar.specs.declared.token.Kind.TheVariants as kind
 use Rattle.script_grammar.specs.Fault.{Refusal as Fault, Unexpected, TooDeep, FirstFault, ScriptPart, depth_limit}
 use Rattle.script_grammar.specs.Lexeme.{Lexeme}
-use Rattle.script_grammar.specs.Pieces.{whole}
+use Rattle.script_grammar.specs.Pieces.{whole, depths}
+use Rattle.script_grammar.specs.Print.{print_stmts}
+use Rattle.script_grammar.specs.Script as grammar
 use Rattle.script_grammar.specs.Tree.{Stmts}
 use Rattle.parse_track.specs.declared.region.Early.{Early}
 use Rattle.parse_track.specs.Notes.{early_error}
@@ -18,10 +21,12 @@ use Rattle.command_answer.specs.Refusals as refusal
 -- The tokens of a file, with End behind them, are a script by the grammar, none of them is too deep, and this is its tree.
 pub record IsRead (file : List ℕ) (items : Stmts) : Type 0 where
   pub utf8 : IsUtf8 file
-  pub deep : List ℕ
-  pub part : ScriptPart whole 0 (lexemes file) deep
-  pub shallow : All (λ d. d ≤ depth_limit) deep
-  pub tree : items ≡ part.items
+  pub inner : List Lexeme
+  pub end : Lexeme
+  pub split : lexemes file ≡ inner ++ end ∷ []
+  pub ends : end.kind ≡ kind.End
+  pub script : grammar.IsScript inner end items
+  pub shallow : (j : ℕ) → get_or (depths (print_stmts whole 0 items) inner end script.fits) j 0 ≤ depth_limit
 
 -- a script without early errors, which has so many functions
 pub record IsValid (file : List ℕ) (items : Stmts) (count : ℕ) : Type 0 where

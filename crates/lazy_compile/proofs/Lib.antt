@@ -1,1 +1,2 @@
 pub mod ShownRows
+pub mod Sites

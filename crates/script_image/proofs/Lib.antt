@@ -1,0 +1,3 @@
+pub mod CodeLoop
+pub mod Scripts
+pub mod Stands

@@ -37,12 +37,11 @@ range_text start end = decimal start ++ codes ".." ++ decimal end
 abbrev pub extent_text : Extent → List ℕ
 extent_text extent = range_text extent.start extent.end
 
--- items with a comma between two
-abbrev pub with_commas : List ℕ → List (List ℕ) → List ℕ
-with_commas item [] = item
-with_commas item (next ∷ rest) = item ++ codes "," ++ with_commas next rest
+-- each of the items behind a comma
+abbrev pub with_commas : List (List ℕ) → List ℕ
+with_commas items = flat_map (λ (item : List ℕ). codes "," ++ item) items
 
 -- items with a comma between two, or `-` where there is none
 abbrev pub list_text : List (List ℕ) → List ℕ
 list_text [] = codes "-"
-list_text (item ∷ rest) = with_commas item rest
+list_text (item ∷ rest) = item ++ with_commas rest

@@ -1,6 +1,21 @@
-//! The text of a compiled script: definitions alone, computed on small scripts.
+//! The listings of whole scripts: of their code, and of their scopes.
 //!
-//! They stand above the data of stencils and their code (stencil_data, bytecode_buf). `specs/CodeLines.antt` has the lines
-//! of a script's code, `specs/ScopeLines.antt` those of its scopes, and `specs/ScriptLines.antt` the lines of all scripts
-//! of a file in order: the top, functions that are compiled, and the records of the others.
+//! It stands above the data of stencils and their code (stencil_data, bytecode_buf), and below what prints the answer to a
+//! command. It reads a merged stencil and appends to a list of bytes; it builds no line apart and copies none.
+//!
+//! The main contract: what [`code_text`] and [`scope_text`] append is the listing, by the definitions, of the value with
+//! texts that the merged stencil stands for, and [`instructions`] counts that value's instructions. After want of memory
+//! nothing is said of what was appended. `specs/CodeLines.antt` has the lines of a script's code, `specs/ScopeLines.antt`
+//! those of its scopes, and `specs/ScriptLines.antt` the lines of all scripts of a file in order: the top, functions that
+//! are compiled, and the records of the others.
 #![tactic(auto)]
+
+mod code_lines;
+mod counts;
+mod names;
+mod quoted;
+mod scope_lines;
+mod script_lines;
+
+pub use counts::instructions;
+pub use script_lines::{code_text, scope_text};

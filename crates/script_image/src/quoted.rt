@@ -1,0 +1,147 @@
+//! Texts, numbers and extents, as they are printed.
+
+ghost use Rattle.std.specs.Prelude.{◌≡◌, ◌<◌, ◌≤◌, ◌++◌, flat_map, option_map, replicate, OnOk};
+ghost use Rattle.std.specs.Fmt.{decimal};
+ghost use Rattle.stencil_data.specs.StandsFor as stands;
+ghost use Rattle.script_image.specs.Quoted as printed;
+
+use std::alloc::{AllocError, Global};
+use stencil_data::{Extent, Text};
+
+/// Appends the decimal digits of a number.
+pub(crate) fn append_decimal(
+    alloc: Global,
+    out: &mut Vec<u8>,
+    number: u64,
+) -> Result<(), AllocError>
+    ensures { OnOk result (out.new.items ≡ out.old.items ++ decimal number) }
+{
+    let digits = number.to_string(alloc)?;
+    out.extend_from_slice(digits.as_bytes())?;
+    Ok(())
+}
+
+/// So many digits 0, at most five.
+fn zeros(count: usize) -> &'static [u8]
+    requires { count ≤ 5 }
+    ensures { result.now ≡ replicate count 48 }
+{
+    &b"00000"[..count]
+}
+
+/// Appends the decimal digits of a number, at least five.
+pub(crate) fn append_padded(alloc: Global, out: &mut Vec<u8>, number: u64) -> Result<(), AllocError>
+    ensures { OnOk result (out.new.items ≡ out.old.items ++ printed.padded number) }
+{
+    let digits = number.to_string(alloc)?;
+    out.extend_from_slice(zeros(5usize.saturating_sub(digits.len())))?;
+    out.extend_from_slice(digits.as_bytes())?;
+    Ok(())
+}
+
+fn hex_digit(value: u8) -> u8
+    requires { value < 16 }
+    ensures { result ≡ printed.hex_digit value }
+{
+    if value <= 9 { b'0' + value } else { 87 + value }
+}
+
+fn is_plain(unit: u16) -> bool
+    ensures { result ≡ printed.is_plain unit }
+{
+    (32 <= unit && unit <= 126) && (unit != 34 && unit != 92)
+}
+
+fn escaped(unit: u16) -> [u8; 6]
+    ensures { result ≡ printed.escaped unit }
+{
+    [
+        b'\\',
+        b'u',
+        hex_digit((unit / 4096) as u8),
+        hex_digit((unit / 256 % 16) as u8),
+        hex_digit((unit / 16 % 16) as u8),
+        hex_digit((unit % 16) as u8),
+    ]
+}
+
+fn append_unit(out: &mut Vec<u8>, unit: u16) -> Result<(), AllocError>
+    ensures { OnOk result (out.new.items ≡ out.old.items ++ printed.quoted_unit unit) }
+{
+    if is_plain(unit) {
+        out.push(unit as u8)?;
+    } else {
+        out.extend_from_slice(&escaped(unit))?;
+    }
+    Ok(())
+}
+
+fn append_units(out: &mut Vec<u8>, units: &[u16]) -> Result<(), AllocError>
+    ensures { OnOk result (out.new.items ≡ out.old.items ++ flat_map printed.quoted_unit units.now) }
+{
+    for unit in units {
+        append_unit(out, *unit)?;
+    }
+    Ok(())
+}
+
+/// Appends a text between double quotes.
+pub(crate) fn append_quoted(out: &mut Vec<u8>, units: &[u16]) -> Result<(), AllocError>
+    ensures { OnOk result (out.new.items ≡ out.old.items ++ printed.quoted units.now) }
+{
+    out.extend_from_slice(b"\"")?;
+    append_units(out, units)?;
+    out.extend_from_slice(b"\"")?;
+    Ok(())
+}
+
+/// The text of an atom, the empty one where there is none.
+pub(crate) fn text_at(texts: &[Text], atom: u64) -> &[u16]
+    ensures { result.now ≡ stands.text_at texts.now atom }
+{
+    match texts.get(atom as usize) {
+        None => &[],
+        Some(text) => text.units(),
+    }
+}
+
+/// Appends a name, or `-` where there is none.
+pub(crate) fn append_name(
+    out: &mut Vec<u8>,
+    texts: &[Text],
+    name: Option<u32>,
+) -> Result<(), AllocError>
+    ensures { OnOk result (out.new.items ≡ out.old.items ++ printed.name_text (option_map (stands.text_at texts.now) name)) }
+{
+    match name {
+        None => out.extend_from_slice(b"-")?,
+        Some(atom) => append_quoted(out, text_at(texts, u64::from(atom)))?,
+    }
+    Ok(())
+}
+
+/// Appends `start..end`.
+pub(crate) fn append_range(
+    alloc: Global,
+    out: &mut Vec<u8>,
+    start: u64,
+    end: u64,
+) -> Result<(), AllocError>
+    ensures { OnOk result (out.new.items ≡ out.old.items ++ printed.range_text start end) }
+{
+    append_decimal(alloc, out, start)?;
+    out.extend_from_slice(b"..")?;
+    append_decimal(alloc, out, end)?;
+    Ok(())
+}
+
+/// Appends an extent.
+pub(crate) fn append_extent(
+    alloc: Global,
+    out: &mut Vec<u8>,
+    extent: Extent,
+) -> Result<(), AllocError>
+    ensures { OnOk result (out.new.items ≡ out.old.items ++ printed.extent_text extent) }
+{
+    append_range(alloc, out, u64::from(extent.start), u64::from(extent.end))
+}

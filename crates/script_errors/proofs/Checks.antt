@@ -1,6 +1,5 @@
 -- What the two walks and the track answer is what the definitions say of the script's tree.
-use Rattle.std.proofs.Common.{◌≡◌, ℕ, ◌∙◌, ap, sym, subst, nat_eq, List, [], map, reverse, Option, None}
-use Rattle.std.proofs.lemmas.List.{reverse-reverse}
+use Rattle.std.proofs.Common.{◌≡◌, ℕ, ◌∙◌, ap, sym, subst, nat_eq, List, [], map, Option, None}
 use Rattle.std.specs.Prelude.{codes, true}
 use Rattle.std.specs.declared.vec.Vec.{Vec}
 use Rattle.std.specs.declared.alloc.Global.{Global}
@@ -24,26 +23,20 @@ use Rattle.renamed_names.proofs.Scripts.{track-early_error, track-closed_names}
 use Rattle.told_log.specs.Spelled.{log_text, logged}
 use Rattle.told_log.proofs.Scripts.{script-tells, script-functions}
 use Rattle.tree_notes.specs.Known.{KnowsWords}
-use Rattle.tree_track.specs.Walks.{Fills}
+use Rattle.tree_track.specs.Walks.{IsTold}
 use Rattle.script_errors.specs.Kept.{statements, AreKept, IsOf}
 use Rattle.script_errors.proofs.Own.{own, top_own, bodies_own}
 use Rattle.script_errors.proofs.Words.{knows_words, knows_this, knows_names}
 
--- the walk for the rules that look at no region sees the bodies as a slice
-pub seen_notes : (known : Known) (top : List Stmt) (bodies seen : List (Vec Stmt Global)) (found : Option Early) → seen ≡ bodies
-    → ((i : Interpretation) → KnowsWords i known → map (statements i) seen ≡ in_stmts true (stmts_of (map (stmt_of i) top)) [] → found ≡ first_note (notes_stmts (stmts_of (map (stmt_of i) top))))
-    → (i : Interpretation) → KnowsWords i known → map (statements i) bodies ≡ in_stmts true (stmts_of (map (stmt_of i) top)) [] → found ≡ first_note (notes_stmts (stmts_of (map (stmt_of i) top)))
-seen_notes known top bodies seen found same n i knows are = n i knows (ap (map (statements i)) same ∙ are)
-
 -- The statements, the bodies, the log of a track that was told nothing, and its log behind the walk.
-module _ (known : Known) (top : List Stmt) (bodies turned : List (Vec Stmt Global)) (old new : Log) (same : turned ≡ reverse bodies) (parts : old.parts ≡ []) (present : old.present ≡ None) (old_known : old.known ≡ known) (new_known : new.known ≡ old.known) where
+module _ (known : Known) (top : List Stmt) (bodies : List (Vec Stmt Global)) (old new : Log) (parts : old.parts ≡ []) (present : old.present ≡ None) (old_known : old.known ≡ known) (new_known : new.known ≡ old.known) where
   -- what the walk for the rules that look at no region answers
   abbrev pub Notes : Option Early → Type 0
   Notes found = (i : Interpretation) → KnowsWords i known → map (statements i) bodies ≡ in_stmts true (stmts_of (map (stmt_of i) top)) [] → found ≡ first_note (notes_stmts (stmts_of (map (stmt_of i) top)))
 
   -- and the walk that tells the track
-  abbrev pub Tells : List (Vec Stmt Global) → Type 0
-  Tells left = (i : Interpretation) → Fills i old new turned left (in_stmts true (stmts_of (map (stmt_of i) top))) (tells_script (stmts_of (map (stmt_of i) top)))
+  abbrev pub Tells : Type 0
+  Tells = (i : Interpretation) → IsTold i old new bodies (stmts_of (map (stmt_of i) top))
 
   module _ (texts : List (List ℕ)) (items : Stmts) (of : IsOf texts known items) (kept : AreKept texts top bodies items) where
     abbrev i : Interpretation
@@ -58,21 +51,21 @@ module _ (known : Known) (top : List Stmt) (bodies turned : List (Vec Stmt Globa
     found_is : (found : Option Early) → Notes found → found ≡ first_note (notes_stmts items)
     found_is found n = n i (knows_words i of.once known of.knows) bodies_are ∙ ap (λ (x : Stmts). first_note (notes_stmts x)) tree_is
 
-    told_is : (left : List (Vec Stmt Global)) → Tells left → logged (tells_script items) (log_text i old) ≡ log_text i new
-    told_is left t =
+    told_is : Tells → logged (tells_script items) (log_text i old) ≡ log_text i new
+    told_is t =
         ap (λ (x : Stmts). logged (tells_script x) (log_text i old)) (sym tree_is)
-        ∙ ((t i).told (subst (λ (k : Known). text_of i k.this ≡ codes ".this") (sym old_known) (knows_this i of.once known of.knows)) [] (ap (λ (bs : List (Vec Stmt Global)). map (statements i) (reverse bs)) same ∙ ap (map (statements i)) (reverse-reverse bodies) ∙ bodies_are)).1
+        ∙ t i (subst (λ (k : Known). text_of i k.this ≡ codes ".this") (sym old_known) (knows_this i of.once known of.knows)) bodies_are
 
-    functions_are : (left : List (Vec Stmt Global)) → Tells left → counted new.parts ≡ function_count (tells_script items)
-    functions_are left t = script-functions i old new items parts (told_is left t)
+    functions_are : Tells → counted new.parts ≡ function_count (tells_script items)
+    functions_are t = script-functions i old new items parts (told_is t)
 
-    tells : (left : List (Vec Stmt Global)) → Tells left → TellsOf texts (known_names new.known) (told_of new.parts) items
-    tells left t =
-        script-tells i old new items parts (told_is left t) of.tokens of.end present of.once
+    tells : Tells → TellsOf texts (known_names new.known) (told_of new.parts) items
+    tells t =
+        script-tells i old new items parts (told_is t) of.tokens of.end present of.once
         (ap (λ (k : Known). renamed_known (text_at texts) (known_names k)) (new_known ∙ old_known) ∙ knows_names i of.once known of.knows) of.script of.names
 
   -- the log at the end, with what was found noted
-  module _ (found : Option Early) (left : List (Vec Stmt Global)) (last : Log) (notes : Notes found) (told : Tells left) (is : last ≡ record new { noted = found }) where
+  module _ (found : Option Early) (last : Log) (notes : Notes found) (told : Tells) (is : last ≡ record new { noted = found }) where
     -- what is answered of each script that the trees are kept of
     abbrev pub Comes : (List (List ℕ) → Stmts → Type 0) → Type 0
     Comes Is = (texts : List (List ℕ)) (items : Stmts) → IsOf texts known items → AreKept texts top bodies items → Is texts items
@@ -81,12 +74,12 @@ module _ (known : Known) (top : List Stmt) (bodies turned : List (Vec Stmt Globa
     early answer by texts items of kept =
         by
         ∙ ap (λ (l : Log). first_error nat_eq (known_names l.known) l.noted (told_of l.parts)) is
-        ∙ track-early_error texts (record new { noted = found }) items (tells texts items of kept left told) (found_is texts items of kept found notes)
+        ∙ track-early_error texts (record new { noted = found }) items (tells texts items of kept told) (found_is texts items of kept found notes)
 
     pub functions : (answer : ℕ) → answer ≡ counted last.parts → Comes (λ texts items. answer ≡ function_count (tells_script items))
-    functions answer by texts items of kept = by ∙ ap (λ (l : Log). counted l.parts) is ∙ functions_are texts items of kept left told
+    functions answer by texts items of kept = by ∙ ap (λ (l : Log). counted l.parts) is ∙ functions_are texts items of kept told
 
     pub closed_over : (answer : List (Bound ℕ)) → answer ≡ closed nat_eq (known_names last.known) (told_of last.parts) → Comes (λ texts items. map (renamed_bound (text_at texts)) answer ≡ closed_names items)
     closed_over answer by texts items of kept =
         ap (map (renamed_bound (text_at texts))) (by ∙ ap (λ (l : Log). closed nat_eq (known_names l.known) (told_of l.parts)) is)
-        ∙ track-closed_names texts (record new { noted = found }) items (tells texts items of kept left told)
+        ∙ track-closed_names texts (record new { noted = found }) items (tells texts items of kept told)

@@ -34,17 +34,15 @@ pub fn check_script(
     alloc: Global,
     known: Known,
     top: &[Stmt],
-    bodies: Vec<Vec<Stmt>>,
+    bodies: &[Vec<Stmt>],
 ) -> Result<Checked, AllocError>
-    ensures early { IfOk result (λ checked. (texts : List (List ℕ)) (items : Stmts) → IsOf texts known items → AreKept texts top.now bodies.items items → checked.early ≡ early_error items) }
-    ensures functions { IfOk result (λ checked. (texts : List (List ℕ)) (items : Stmts) → IsOf texts known items → AreKept texts top.now bodies.items items → checked.functions ≡ function_count (tells_script items)) }
-    ensures closed { IfOk result (λ checked. (texts : List (List ℕ)) (items : Stmts) → IsOf texts known items → AreKept texts top.now bodies.items items → map (renamed_bound (text_at texts)) (bounds_of checked.closed.items) ≡ closed_names items) }
+    ensures early { IfOk result (λ checked. (texts : List (List ℕ)) (items : Stmts) → IsOf texts known items → AreKept texts top.now bodies.now items → checked.early ≡ early_error items) }
+    ensures functions { IfOk result (λ checked. (texts : List (List ℕ)) (items : Stmts) → IsOf texts known items → AreKept texts top.now bodies.now items → checked.functions ≡ function_count (tells_script items)) }
+    ensures closed { IfOk result (λ checked. (texts : List (List ℕ)) (items : Stmts) → IsOf texts known items → AreKept texts top.now bodies.now items → map (renamed_bound (text_at texts)) (bounds_of checked.closed.items) ≡ closed_names items) }
 {
-    let mut bodies = bodies;
-    let first = first_note(top, &bodies, &known);
-    bodies.reverse();
+    let first = first_note(top, bodies, &known);
     let mut track = Track::new(alloc, known);
-    tell_script(top, &mut track, &mut bodies)?;
+    tell_script(top, &mut track, bodies)?;
     note_first(&mut track, first);
     let functions = track.functions();
     let tracked = track.finish()?;

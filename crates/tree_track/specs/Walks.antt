@@ -1,8 +1,9 @@
 -- What a walk over a part of a tree does to a track and to the bodies at hand.
-use Rattle.std.specs.Prelude.{ℕ, ◌≡◌, ◌<◌, ◌≤◌, codes, Option, Some, None, false, List, map, reverse, length}
+use Rattle.std.specs.Prelude.{ℕ, ◌≡◌, ◌<◌, ◌≤◌, codes, Option, Some, None, false, List, [], map, length, true}
 use Rattle.std.specs.declared.vec.Vec.{Vec}
 use Rattle.std.specs.declared.alloc.Global.{Global}
 use Rattle.script_grammar.specs.declared.tree.Stmt.{Stmt}
+use Rattle.script_grammar.specs.Braced.{in_stmts}
 use Rattle.script_grammar.specs.Interpretation.{Interpretation, text_of}
 use Rattle.script_grammar.specs.Tree.{Stmts, Named}
 use Rattle.script_grammar.specs.TreeLists.{stmts_of}
@@ -11,7 +12,7 @@ use Rattle.parse_track.specs.declared.region.Declare.TheVariants as how
 use Rattle.parse_track.specs.Told as told
 use Rattle.parse_track.specs.Told.{Told, nothing}
 use Rattle.parse_track.specs.Log.{Log, around_at}
-use Rattle.parse_track.specs.Tells.{Text, tells_region, tells_name, tells_stmts}
+use Rattle.parse_track.specs.Tells.{Text, tells_region, tells_name, tells_stmts, tells_script}
 use Rattle.told_log.specs.Spelled.{log_text, logged}
 
 abbrev pub Bodies : Type 0
@@ -20,9 +21,9 @@ Bodies = List (Vec Stmt Global)
 abbrev pub statements : Interpretation → Vec Stmt Global → Stmts
 statements i body = stmts_of (map (stmt_of i) body.items)
 
--- the statements of the bodies at hand, the next one first: it stands last
+-- the statements of the bodies at hand
 abbrev pub at_hand : Interpretation → Bodies → List Stmts
-at_hand i bodies = map (statements i) (reverse bodies)
+at_hand i bodies = map (statements i) bodies
 
 -- The atom that stands for the uses of `this` has that text.
 abbrev pub KnowsThis : Interpretation → Log → Type 0
@@ -48,6 +49,10 @@ pub record Walks (i : Interpretation) (old new : Log) (before after : Bodies) (b
 pub record Fills (i : Interpretation) (old new : Log) (before after : Bodies) (braced : List Stmts → List Stmts) (inside : Told Text) : Type 0 where
   pub told : KnowsThis i old → (others : List Stmts) → at_hand i before ≡ braced others
       → (at_hand i after ≡ others) × (logged inside (log_text i old) ≡ log_text i new)
+
+-- Where these are the braced bodies of a script's functions, the script was told.
+abbrev pub IsTold : Interpretation → Log → Log → Bodies → Stmts → Type 0
+IsTold i old new bodies items = KnowsThis i old → at_hand i bodies ≡ in_stmts true items [] → logged (tells_script items) (log_text i old) ≡ log_text i new
 
 -- what the block of a catch clause tells, with the clause's parameter around it
 abbrev pub tells_handler : Option Named → Stmts → Told Text → Told Text

@@ -6,4 +6,5 @@
 //! braced bodies of a script's functions, the track is told what the script tells.
 #![tactic(auto)]
 
+mod bodies;
 pub mod walk;

@@ -11,9 +11,10 @@ ghost use Rattle.parse_track.specs.Told.{Told, nothing};
 ghost use Rattle.parse_track.specs.Log.{region_of, with_leaf};
 ghost use Rattle.script_grammar.specs.Braced as braced;
 ghost use Rattle.told_log.specs.Spelled.{log_text, logged, region_text};
-ghost use Rattle.tree_track.specs.Walks.{Walks, Fills, Stays, tells_handler};
+ghost use Rattle.tree_track.specs.Walks.{Walks, Fills, IsTold, Stays, tells_handler};
 ghost use Rattle.tree_track.specs.Weight.{weight};
 
+use crate::bodies::AtHand;
 use parse_track::region::{Declare, Jump, Region};
 use parse_track::track::Track;
 use script_grammar::token::{Decl, FuncForm};
@@ -25,11 +26,11 @@ use std::alloc::AllocError;
 
 // An expression.
 #[cycle(telling)]
-fn tell_expr(tree: &Expr, track: &mut Track, bodies: &mut Vec<Vec<Stmt>>) -> Result<(), AllocError>
+fn tell_expr(tree: &Expr, track: &mut Track, bodies: &mut AtHand<'_>) -> Result<(), AllocError>
     requires { IsSome track.old.present }
     ensures stays { OnOk result (Stays track.old track.new) }
-    ensures lighter { OnOk result (weight bodies.new.items ≤ weight bodies.old.items) }
-    ensures tells { OnOk result ((i : Interpretation) → Walks i track.old track.new bodies.old.items bodies.new.items (braced.in_expr true (expr_of i tree.now)) (tell.tells_expr (expr_of i tree.now))) }
+    ensures lighter { OnOk result (weight bodies.new.left.now ≤ weight bodies.old.left.now) }
+    ensures tells { OnOk result ((i : Interpretation) → Walks i track.old track.new bodies.old.left.now bodies.new.left.now (braced.in_expr true (expr_of i tree.now)) (tell.tells_expr (expr_of i tree.now))) }
 {
     match tree {
         Expr::This { .. } => Ok(tell_this(track)?),
@@ -78,15 +79,11 @@ fn tell_expr(tree: &Expr, track: &mut Track, bodies: &mut Vec<Vec<Stmt>>) -> Res
 
 // Expressions, as the arguments of a call.
 #[cycle(telling)]
-fn tell_exprs(
-    items: &[Expr],
-    track: &mut Track,
-    bodies: &mut Vec<Vec<Stmt>>,
-) -> Result<(), AllocError>
+fn tell_exprs(items: &[Expr], track: &mut Track, bodies: &mut AtHand<'_>) -> Result<(), AllocError>
     requires { IsSome track.old.present }
     ensures stays { OnOk result (Stays track.old track.new) }
-    ensures lighter { OnOk result (weight bodies.new.items ≤ weight bodies.old.items) }
-    ensures tells { OnOk result ((i : Interpretation) → Walks i track.old track.new bodies.old.items bodies.new.items (braced.in_exprs true (exprs_of (map (expr_of i) items.now))) (tell.tells_exprs (exprs_of (map (expr_of i) items.now)))) }
+    ensures lighter { OnOk result (weight bodies.new.left.now ≤ weight bodies.old.left.now) }
+    ensures tells { OnOk result ((i : Interpretation) → Walks i track.old track.new bodies.old.left.now bodies.new.left.now (braced.in_exprs true (exprs_of (map (expr_of i) items.now))) (tell.tells_exprs (exprs_of (map (expr_of i) items.now)))) }
 {
     for item in items {
         tell_expr(item, track, bodies)?;
@@ -99,12 +96,12 @@ fn tell_exprs(
 fn tell_maybe(
     tree: &Option<Expr>,
     track: &mut Track,
-    bodies: &mut Vec<Vec<Stmt>>,
+    bodies: &mut AtHand<'_>,
 ) -> Result<(), AllocError>
     requires { IsSome track.old.present }
     ensures stays { OnOk result (Stays track.old track.new) }
-    ensures lighter { OnOk result (weight bodies.new.items ≤ weight bodies.old.items) }
-    ensures tells { OnOk result ((i : Interpretation) → Walks i track.old track.new bodies.old.items bodies.new.items (braced.in_maybe_expr true (maybe_expr_of (option_map (expr_of i) tree.now))) (tell.tells_maybe (maybe_expr_of (option_map (expr_of i) tree.now)))) }
+    ensures lighter { OnOk result (weight bodies.new.left.now ≤ weight bodies.old.left.now) }
+    ensures tells { OnOk result ((i : Interpretation) → Walks i track.old track.new bodies.old.left.now bodies.new.left.now (braced.in_maybe_expr true (maybe_expr_of (option_map (expr_of i) tree.now))) (tell.tells_maybe (maybe_expr_of (option_map (expr_of i) tree.now)))) }
 {
     match tree {
         Some(value) => Ok(tell_expr(value, track, bodies)?),
@@ -117,12 +114,12 @@ fn tell_maybe(
 fn tell_args(
     args: &Option<Args>,
     track: &mut Track,
-    bodies: &mut Vec<Vec<Stmt>>,
+    bodies: &mut AtHand<'_>,
 ) -> Result<(), AllocError>
     requires { IsSome track.old.present }
     ensures stays { OnOk result (Stays track.old track.new) }
-    ensures lighter { OnOk result (weight bodies.new.items ≤ weight bodies.old.items) }
-    ensures tells { OnOk result ((i : Interpretation) → Walks i track.old track.new bodies.old.items bodies.new.items (braced.in_maybe_args true (maybe_args_of (option_map (args_of i) args.now))) (tell.tells_args (maybe_args_of (option_map (args_of i) args.now)))) }
+    ensures lighter { OnOk result (weight bodies.new.left.now ≤ weight bodies.old.left.now) }
+    ensures tells { OnOk result ((i : Interpretation) → Walks i track.old track.new bodies.old.left.now bodies.new.left.now (braced.in_maybe_args true (maybe_args_of (option_map (args_of i) args.now))) (tell.tells_args (maybe_args_of (option_map (args_of i) args.now)))) }
 {
     match args {
         Some(some) => Ok(tell_exprs(&some.items, track, bodies)?),
@@ -135,12 +132,12 @@ fn tell_args(
 fn tell_parts(
     parts: &[TemplatePart],
     track: &mut Track,
-    bodies: &mut Vec<Vec<Stmt>>,
+    bodies: &mut AtHand<'_>,
 ) -> Result<(), AllocError>
     requires { IsSome track.old.present }
     ensures stays { OnOk result (Stays track.old track.new) }
-    ensures lighter { OnOk result (weight bodies.new.items ≤ weight bodies.old.items) }
-    ensures tells { OnOk result ((i : Interpretation) → Walks i track.old track.new bodies.old.items bodies.new.items (braced.in_parts true (parts_of (map (part_of i) parts.now))) (tell.tells_parts (parts_of (map (part_of i) parts.now)))) }
+    ensures lighter { OnOk result (weight bodies.new.left.now ≤ weight bodies.old.left.now) }
+    ensures tells { OnOk result ((i : Interpretation) → Walks i track.old track.new bodies.old.left.now bodies.new.left.now (braced.in_parts true (parts_of (map (part_of i) parts.now))) (tell.tells_parts (parts_of (map (part_of i) parts.now)))) }
 {
     for part in parts {
         tell_expr(&part.value, track, bodies)?;
@@ -153,12 +150,12 @@ fn tell_parts(
 fn tell_items(
     items: &[Option<Expr>],
     track: &mut Track,
-    bodies: &mut Vec<Vec<Stmt>>,
+    bodies: &mut AtHand<'_>,
 ) -> Result<(), AllocError>
     requires { IsSome track.old.present }
     ensures stays { OnOk result (Stays track.old track.new) }
-    ensures lighter { OnOk result (weight bodies.new.items ≤ weight bodies.old.items) }
-    ensures tells { OnOk result ((i : Interpretation) → Walks i track.old track.new bodies.old.items bodies.new.items (braced.in_items true (items_of (map (option_map (expr_of i)) items.now))) (tell.tells_array (items_of (map (option_map (expr_of i)) items.now)))) }
+    ensures lighter { OnOk result (weight bodies.new.left.now ≤ weight bodies.old.left.now) }
+    ensures tells { OnOk result ((i : Interpretation) → Walks i track.old track.new bodies.old.left.now bodies.new.left.now (braced.in_items true (items_of (map (option_map (expr_of i)) items.now))) (tell.tells_array (items_of (map (option_map (expr_of i)) items.now)))) }
 {
     for item in items {
         tell_maybe(item, track, bodies)?;
@@ -171,12 +168,12 @@ fn tell_items(
 fn tell_operands(
     operands: &[Operand],
     track: &mut Track,
-    bodies: &mut Vec<Vec<Stmt>>,
+    bodies: &mut AtHand<'_>,
 ) -> Result<(), AllocError>
     requires { IsSome track.old.present }
     ensures stays { OnOk result (Stays track.old track.new) }
-    ensures lighter { OnOk result (weight bodies.new.items ≤ weight bodies.old.items) }
-    ensures tells { OnOk result ((i : Interpretation) → Walks i track.old track.new bodies.old.items bodies.new.items (braced.in_operands true (operands_of (map (operand_of i) operands.now))) (tell.tells_operands (operands_of (map (operand_of i) operands.now)))) }
+    ensures lighter { OnOk result (weight bodies.new.left.now ≤ weight bodies.old.left.now) }
+    ensures tells { OnOk result ((i : Interpretation) → Walks i track.old track.new bodies.old.left.now bodies.new.left.now (braced.in_operands true (operands_of (map (operand_of i) operands.now))) (tell.tells_operands (operands_of (map (operand_of i) operands.now)))) }
 {
     for operand in operands {
         tell_expr(&operand.value, track, bodies)?;
@@ -186,15 +183,11 @@ fn tell_operands(
 
 // The parts of a chain.
 #[cycle(telling)]
-fn tell_tails(
-    tails: &[Tail],
-    track: &mut Track,
-    bodies: &mut Vec<Vec<Stmt>>,
-) -> Result<(), AllocError>
+fn tell_tails(tails: &[Tail], track: &mut Track, bodies: &mut AtHand<'_>) -> Result<(), AllocError>
     requires { IsSome track.old.present }
     ensures stays { OnOk result (Stays track.old track.new) }
-    ensures lighter { OnOk result (weight bodies.new.items ≤ weight bodies.old.items) }
-    ensures tells { OnOk result ((i : Interpretation) → Walks i track.old track.new bodies.old.items bodies.new.items (braced.in_tails true (tails_of (map (tail_of i) tails.now))) (tell.tells_tails (tails_of (map (tail_of i) tails.now)))) }
+    ensures lighter { OnOk result (weight bodies.new.left.now ≤ weight bodies.old.left.now) }
+    ensures tells { OnOk result ((i : Interpretation) → Walks i track.old track.new bodies.old.left.now bodies.new.left.now (braced.in_tails true (tails_of (map (tail_of i) tails.now))) (tell.tells_tails (tails_of (map (tail_of i) tails.now)))) }
 {
     for tail in tails {
         tell_tail(tail, track, bodies)?;
@@ -204,11 +197,11 @@ fn tell_tails(
 
 // A part of a chain.
 #[cycle(telling)]
-fn tell_tail(tail: &Tail, track: &mut Track, bodies: &mut Vec<Vec<Stmt>>) -> Result<(), AllocError>
+fn tell_tail(tail: &Tail, track: &mut Track, bodies: &mut AtHand<'_>) -> Result<(), AllocError>
     requires { IsSome track.old.present }
     ensures stays { OnOk result (Stays track.old track.new) }
-    ensures lighter { OnOk result (weight bodies.new.items ≤ weight bodies.old.items) }
-    ensures tells { OnOk result ((i : Interpretation) → Walks i track.old track.new bodies.old.items bodies.new.items (braced.in_tail true (tail_of i tail.now)) (tell.tells_tail (tail_of i tail.now))) }
+    ensures lighter { OnOk result (weight bodies.new.left.now ≤ weight bodies.old.left.now) }
+    ensures tells { OnOk result ((i : Interpretation) → Walks i track.old track.new bodies.old.left.now bodies.new.left.now (braced.in_tail true (tail_of i tail.now)) (tell.tells_tail (tail_of i tail.now))) }
 {
     match tail {
         Tail::Dot { .. } => Ok(()),
@@ -219,15 +212,11 @@ fn tell_tail(tail: &Tail, track: &mut Track, bodies: &mut Vec<Vec<Stmt>>) -> Res
 
 // The properties of an object literal.
 #[cycle(telling)]
-fn tell_props(
-    props: &[Prop],
-    track: &mut Track,
-    bodies: &mut Vec<Vec<Stmt>>,
-) -> Result<(), AllocError>
+fn tell_props(props: &[Prop], track: &mut Track, bodies: &mut AtHand<'_>) -> Result<(), AllocError>
     requires { IsSome track.old.present }
     ensures stays { OnOk result (Stays track.old track.new) }
-    ensures lighter { OnOk result (weight bodies.new.items ≤ weight bodies.old.items) }
-    ensures tells { OnOk result ((i : Interpretation) → Walks i track.old track.new bodies.old.items bodies.new.items (braced.in_props true (props_of (map (prop_of i) props.now))) (tell.tells_props (props_of (map (prop_of i) props.now)))) }
+    ensures lighter { OnOk result (weight bodies.new.left.now ≤ weight bodies.old.left.now) }
+    ensures tells { OnOk result ((i : Interpretation) → Walks i track.old track.new bodies.old.left.now bodies.new.left.now (braced.in_props true (props_of (map (prop_of i) props.now))) (tell.tells_props (props_of (map (prop_of i) props.now)))) }
 {
     for prop in props {
         tell_prop(prop, track, bodies)?;
@@ -237,11 +226,11 @@ fn tell_props(
 
 // A property.
 #[cycle(telling)]
-fn tell_prop(prop: &Prop, track: &mut Track, bodies: &mut Vec<Vec<Stmt>>) -> Result<(), AllocError>
+fn tell_prop(prop: &Prop, track: &mut Track, bodies: &mut AtHand<'_>) -> Result<(), AllocError>
     requires { IsSome track.old.present }
     ensures stays { OnOk result (Stays track.old track.new) }
-    ensures lighter { OnOk result (weight bodies.new.items ≤ weight bodies.old.items) }
-    ensures tells { OnOk result ((i : Interpretation) → Walks i track.old track.new bodies.old.items bodies.new.items (braced.in_prop true (prop_of i prop.now)) (tell.tells_prop (prop_of i prop.now))) }
+    ensures lighter { OnOk result (weight bodies.new.left.now ≤ weight bodies.old.left.now) }
+    ensures tells { OnOk result ((i : Interpretation) → Walks i track.old track.new bodies.old.left.now bodies.new.left.now (braced.in_prop true (prop_of i prop.now)) (tell.tells_prop (prop_of i prop.now))) }
 {
     match prop {
         Prop::Short(name) => Ok(track.used(name.atom)?),
@@ -270,11 +259,11 @@ fn tell_prop(prop: &Prop, track: &mut Track, bodies: &mut Vec<Vec<Stmt>>) -> Res
 
 // The name of a property.
 #[cycle(telling)]
-fn tell_key(key: &Key, track: &mut Track, bodies: &mut Vec<Vec<Stmt>>) -> Result<(), AllocError>
+fn tell_key(key: &Key, track: &mut Track, bodies: &mut AtHand<'_>) -> Result<(), AllocError>
     requires { IsSome track.old.present }
     ensures stays { OnOk result (Stays track.old track.new) }
-    ensures lighter { OnOk result (weight bodies.new.items ≤ weight bodies.old.items) }
-    ensures tells { OnOk result ((i : Interpretation) → Walks i track.old track.new bodies.old.items bodies.new.items (braced.in_key true (key_of i key.now)) (tell.tells_key (key_of i key.now))) }
+    ensures lighter { OnOk result (weight bodies.new.left.now ≤ weight bodies.old.left.now) }
+    ensures tells { OnOk result ((i : Interpretation) → Walks i track.old track.new bodies.old.left.now bodies.new.left.now (braced.in_key true (key_of i key.now)) (tell.tells_key (key_of i key.now))) }
 {
     match key {
         Key::Word(_) => Ok(()),
@@ -286,11 +275,11 @@ fn tell_key(key: &Key, track: &mut Track, bodies: &mut Vec<Vec<Stmt>>) -> Result
 
 // A function expression, in the region of its name where it has one.
 #[cycle(telling)]
-fn tell_named(func: &Func, track: &mut Track, bodies: &mut Vec<Vec<Stmt>>) -> Result<(), AllocError>
+fn tell_named(func: &Func, track: &mut Track, bodies: &mut AtHand<'_>) -> Result<(), AllocError>
     requires { IsSome track.old.present }
     ensures stays { OnOk result (Stays track.old track.new) }
-    ensures lighter { OnOk result (weight bodies.new.items ≤ weight bodies.old.items) }
-    ensures tells { OnOk result ((i : Interpretation) → Walks i track.old track.new bodies.old.items bodies.new.items (braced.in_function true (func_of i func.now)) (tell.in_named (tell.function_name (func_of i func.now)) (tell.tells_function (func_of i func.now)))) }
+    ensures lighter { OnOk result (weight bodies.new.left.now ≤ weight bodies.old.left.now) }
+    ensures tells { OnOk result ((i : Interpretation) → Walks i track.old track.new bodies.old.left.now bodies.new.left.now (braced.in_function true (func_of i func.now)) (tell.in_named (tell.function_name (func_of i func.now)) (tell.tells_function (func_of i func.now)))) }
 {
     match func.name {
         Some(name) => {
@@ -305,15 +294,11 @@ fn tell_named(func: &Func, track: &mut Track, bodies: &mut Vec<Vec<Stmt>>) -> Re
 
 // A function, from where its parameters start.
 #[cycle(telling)]
-fn tell_function(
-    func: &Func,
-    track: &mut Track,
-    bodies: &mut Vec<Vec<Stmt>>,
-) -> Result<(), AllocError>
+fn tell_function(func: &Func, track: &mut Track, bodies: &mut AtHand<'_>) -> Result<(), AllocError>
     requires { IsSome track.old.present }
     ensures stays { OnOk result (Stays track.old track.new) }
-    ensures lighter { OnOk result (weight bodies.new.items ≤ weight bodies.old.items) }
-    ensures tells { OnOk result ((i : Interpretation) → Walks i track.old track.new bodies.old.items bodies.new.items (braced.in_function true (func_of i func.now)) (tell.tells_function (func_of i func.now))) }
+    ensures lighter { OnOk result (weight bodies.new.left.now ≤ weight bodies.old.left.now) }
+    ensures tells { OnOk result ((i : Interpretation) → Walks i track.old track.new bodies.old.left.now bodies.new.left.now (braced.in_function true (func_of i func.now)) (tell.tells_function (func_of i func.now))) }
 {
     track.enter(function_region(func.form), func.start)?;
     tell_params(&func.params, track, bodies)?;
@@ -327,12 +312,12 @@ fn tell_function(
 fn tell_params(
     params: &[Param],
     track: &mut Track,
-    bodies: &mut Vec<Vec<Stmt>>,
+    bodies: &mut AtHand<'_>,
 ) -> Result<(), AllocError>
     requires { IsSome track.old.present }
     ensures stays { OnOk result (Stays track.old track.new) }
-    ensures lighter { OnOk result (weight bodies.new.items ≤ weight bodies.old.items) }
-    ensures tells { OnOk result ((i : Interpretation) → Walks i track.old track.new bodies.old.items bodies.new.items (braced.in_params true (params_of (map (param_of i) params.now))) (tell.tells_params (params_of (map (param_of i) params.now)))) }
+    ensures lighter { OnOk result (weight bodies.new.left.now ≤ weight bodies.old.left.now) }
+    ensures tells { OnOk result ((i : Interpretation) → Walks i track.old track.new bodies.old.left.now bodies.new.left.now (braced.in_params true (params_of (map (param_of i) params.now))) (tell.tells_params (params_of (map (param_of i) params.now)))) }
 {
     for param in params {
         track.declare(Declare::Param, param.name)?;
@@ -347,12 +332,12 @@ fn tell_own(
     body: &FuncBody,
     own: bool,
     track: &mut Track,
-    bodies: &mut Vec<Vec<Stmt>>,
+    bodies: &mut AtHand<'_>,
 ) -> Result<(), AllocError>
     requires { IsSome track.old.present }
     ensures stays { OnOk result (Stays track.old track.new) }
-    ensures lighter { OnOk result (weight bodies.new.items ≤ weight bodies.old.items) }
-    ensures tells { OnOk result ((i : Interpretation) (start : ℕ) → Fills i track.old track.new bodies.old.items bodies.new.items (braced.in_body true (unwrap_or (body_of i body.now) (model.BracedBody (i.bodies start)))) (tell.body_region own (tell.tells_body (unwrap_or (body_of i body.now) (model.BracedBody (i.bodies start)))))) }
+    ensures lighter { OnOk result (weight bodies.new.left.now ≤ weight bodies.old.left.now) }
+    ensures tells { OnOk result ((i : Interpretation) (start : ℕ) → Fills i track.old track.new bodies.old.left.now bodies.new.left.now (braced.in_body true (unwrap_or (body_of i body.now) (model.BracedBody (i.bodies start)))) (tell.body_region own (tell.tells_body (unwrap_or (body_of i body.now) (model.BracedBody (i.bodies start)))))) }
 {
     if own {
         track.enter(Region::VarBody, 0)?;
@@ -367,15 +352,11 @@ fn tell_own(
 
 // The body of a function.
 #[cycle(telling)]
-fn tell_body(
-    body: &FuncBody,
-    track: &mut Track,
-    bodies: &mut Vec<Vec<Stmt>>,
-) -> Result<(), AllocError>
+fn tell_body(body: &FuncBody, track: &mut Track, bodies: &mut AtHand<'_>) -> Result<(), AllocError>
     requires { IsSome track.old.present }
     ensures stays { OnOk result (Stays track.old track.new) }
-    ensures lighter { OnOk result (weight bodies.new.items ≤ weight bodies.old.items) }
-    ensures tells { OnOk result ((i : Interpretation) (start : ℕ) → Fills i track.old track.new bodies.old.items bodies.new.items (braced.in_body true (unwrap_or (body_of i body.now) (model.BracedBody (i.bodies start)))) (tell.tells_body (unwrap_or (body_of i body.now) (model.BracedBody (i.bodies start))))) }
+    ensures lighter { OnOk result (weight bodies.new.left.now ≤ weight bodies.old.left.now) }
+    ensures tells { OnOk result ((i : Interpretation) (start : ℕ) → Fills i track.old track.new bodies.old.left.now bodies.new.left.now (braced.in_body true (unwrap_or (body_of i body.now) (model.BracedBody (i.bodies start)))) (tell.tells_body (unwrap_or (body_of i body.now) (model.BracedBody (i.bodies start))))) }
 {
     match body {
         FuncBody::Short(value) => Ok(tell_expr(value, track, bodies)?),
@@ -386,14 +367,17 @@ fn tell_body(
 
 // The next of the bodies at hand; it has no statements where none is left.
 #[cycle(telling)]
-fn tell_next(track: &mut Track, bodies: &mut Vec<Vec<Stmt>>) -> Result<(), AllocError>
+fn tell_next(track: &mut Track, bodies: &mut AtHand<'_>) -> Result<(), AllocError>
     requires { IsSome track.old.present }
     ensures stays { OnOk result (Stays track.old track.new) }
-    ensures lighter { OnOk result (weight bodies.new.items ≤ weight bodies.old.items) }
-    ensures tells { OnOk result ((i : Interpretation) (items : model.Stmts) → Fills i track.old track.new bodies.old.items bodies.new.items (braced.in_body true (model.BracedBody items)) (tell.tells_body (model.BracedBody items))) }
+    ensures lighter { OnOk result (weight bodies.new.left.now ≤ weight bodies.old.left.now) }
+    ensures tells { OnOk result ((i : Interpretation) (items : model.Stmts) → Fills i track.old track.new bodies.old.left.now bodies.new.left.now (braced.in_body true (model.BracedBody items)) (tell.tells_body (model.BracedBody items))) }
 {
-    match bodies.pop() {
-        Some(items) => Ok(tell_stmts(&items, true, track, bodies)?),
+    match bodies.left.split_first() {
+        Some((items, rest)) => {
+            bodies.left = rest;
+            Ok(tell_stmts(items, true, track, bodies)?)
+        }
         None => Ok(()),
     }
 }
@@ -404,12 +388,12 @@ fn tell_binds(
     binds: &[Bind],
     decl: Decl,
     track: &mut Track,
-    bodies: &mut Vec<Vec<Stmt>>,
+    bodies: &mut AtHand<'_>,
 ) -> Result<(), AllocError>
     requires { IsSome track.old.present }
     ensures stays { OnOk result (Stays track.old track.new) }
-    ensures lighter { OnOk result (weight bodies.new.items ≤ weight bodies.old.items) }
-    ensures tells { OnOk result ((i : Interpretation) → Walks i track.old track.new bodies.old.items bodies.new.items (braced.in_binds true (binds_of (map (bind_of i) binds.now))) (tell.tells_binds decl (binds_of (map (bind_of i) binds.now)))) }
+    ensures lighter { OnOk result (weight bodies.new.left.now ≤ weight bodies.old.left.now) }
+    ensures tells { OnOk result ((i : Interpretation) → Walks i track.old track.new bodies.old.left.now bodies.new.left.now (braced.in_binds true (binds_of (map (bind_of i) binds.now))) (tell.tells_binds decl (binds_of (map (bind_of i) binds.now)))) }
 {
     for bind in binds {
         track.declare(declared_as(decl), bind.name)?;
@@ -420,11 +404,11 @@ fn tell_binds(
 
 // What stands first in the head of a `for`.
 #[cycle(telling)]
-fn tell_init(init: &Init, track: &mut Track, bodies: &mut Vec<Vec<Stmt>>) -> Result<(), AllocError>
+fn tell_init(init: &Init, track: &mut Track, bodies: &mut AtHand<'_>) -> Result<(), AllocError>
     requires { IsSome track.old.present }
     ensures stays { OnOk result (Stays track.old track.new) }
-    ensures lighter { OnOk result (weight bodies.new.items ≤ weight bodies.old.items) }
-    ensures tells { OnOk result ((i : Interpretation) → Walks i track.old track.new bodies.old.items bodies.new.items (braced.in_init true (init_of i init.now)) (tell.tells_init (init_of i init.now))) }
+    ensures lighter { OnOk result (weight bodies.new.left.now ≤ weight bodies.old.left.now) }
+    ensures tells { OnOk result ((i : Interpretation) → Walks i track.old track.new bodies.old.left.now bodies.new.left.now (braced.in_init true (init_of i init.now)) (tell.tells_init (init_of i init.now))) }
 {
     match init {
         Init::Nothing => Ok(()),
@@ -435,11 +419,11 @@ fn tell_init(init: &Init, track: &mut Track, bodies: &mut Vec<Vec<Stmt>>) -> Res
 
 // What stands before `in` in the head of a `for`.
 #[cycle(telling)]
-fn tell_each(each: &Each, track: &mut Track, bodies: &mut Vec<Vec<Stmt>>) -> Result<(), AllocError>
+fn tell_each(each: &Each, track: &mut Track, bodies: &mut AtHand<'_>) -> Result<(), AllocError>
     requires { IsSome track.old.present }
     ensures stays { OnOk result (Stays track.old track.new) }
-    ensures lighter { OnOk result (weight bodies.new.items ≤ weight bodies.old.items) }
-    ensures tells { OnOk result ((i : Interpretation) → Walks i track.old track.new bodies.old.items bodies.new.items (braced.in_each true (each_of i each.now)) (tell.tells_each (each_of i each.now))) }
+    ensures lighter { OnOk result (weight bodies.new.left.now ≤ weight bodies.old.left.now) }
+    ensures tells { OnOk result ((i : Interpretation) → Walks i track.old track.new bodies.old.left.now bodies.new.left.now (braced.in_each true (each_of i each.now)) (tell.tells_each (each_of i each.now))) }
 {
     match each {
         Each::Target(value) => Ok(tell_expr(value, track, bodies)?),
@@ -452,12 +436,12 @@ fn tell_each(each: &Each, track: &mut Track, bodies: &mut Vec<Vec<Stmt>>) -> Res
 fn tell_clauses(
     clauses: &[Clause],
     track: &mut Track,
-    bodies: &mut Vec<Vec<Stmt>>,
+    bodies: &mut AtHand<'_>,
 ) -> Result<(), AllocError>
     requires { IsSome track.old.present }
     ensures stays { OnOk result (Stays track.old track.new) }
-    ensures lighter { OnOk result (weight bodies.new.items ≤ weight bodies.old.items) }
-    ensures tells { OnOk result ((i : Interpretation) → Walks i track.old track.new bodies.old.items bodies.new.items (braced.in_clauses true (clauses_of (map (clause_of i) clauses.now))) (tell.tells_clauses (clauses_of (map (clause_of i) clauses.now)))) }
+    ensures lighter { OnOk result (weight bodies.new.left.now ≤ weight bodies.old.left.now) }
+    ensures tells { OnOk result ((i : Interpretation) → Walks i track.old track.new bodies.old.left.now bodies.new.left.now (braced.in_clauses true (clauses_of (map (clause_of i) clauses.now))) (tell.tells_clauses (clauses_of (map (clause_of i) clauses.now)))) }
 {
     for clause in clauses {
         tell_maybe(&clause.test, track, bodies)?;
@@ -472,12 +456,12 @@ fn tell_stmt(
     stmt: &Stmt,
     top: bool,
     track: &mut Track,
-    bodies: &mut Vec<Vec<Stmt>>,
+    bodies: &mut AtHand<'_>,
 ) -> Result<(), AllocError>
     requires { IsSome track.old.present }
     ensures stays { OnOk result (Stays track.old track.new) }
-    ensures lighter { OnOk result (weight bodies.new.items ≤ weight bodies.old.items) }
-    ensures tells { OnOk result ((i : Interpretation) → Walks i track.old track.new bodies.old.items bodies.new.items (braced.in_stmt true (stmt_of i stmt.now)) (tell.tells_stmt top (stmt_of i stmt.now))) }
+    ensures lighter { OnOk result (weight bodies.new.left.now ≤ weight bodies.old.left.now) }
+    ensures tells { OnOk result ((i : Interpretation) → Walks i track.old track.new bodies.old.left.now bodies.new.left.now (braced.in_stmt true (stmt_of i stmt.now)) (tell.tells_stmt top (stmt_of i stmt.now))) }
 {
     match stmt {
         Stmt::Block(items) => Ok(tell_block(items, track, bodies)?),
@@ -571,12 +555,12 @@ fn tell_stmts(
     items: &[Stmt],
     top: bool,
     track: &mut Track,
-    bodies: &mut Vec<Vec<Stmt>>,
+    bodies: &mut AtHand<'_>,
 ) -> Result<(), AllocError>
     requires { IsSome track.old.present }
     ensures stays { OnOk result (Stays track.old track.new) }
-    ensures lighter { OnOk result (weight bodies.new.items ≤ weight bodies.old.items) }
-    ensures tells { OnOk result ((i : Interpretation) → Walks i track.old track.new bodies.old.items bodies.new.items (braced.in_stmts true (stmts_of (map (stmt_of i) items.now))) (tell.tells_stmts top (stmts_of (map (stmt_of i) items.now)))) }
+    ensures lighter { OnOk result (weight bodies.new.left.now ≤ weight bodies.old.left.now) }
+    ensures tells { OnOk result ((i : Interpretation) → Walks i track.old track.new bodies.old.left.now bodies.new.left.now (braced.in_stmts true (stmts_of (map (stmt_of i) items.now))) (tell.tells_stmts top (stmts_of (map (stmt_of i) items.now)))) }
 {
     for item in items {
         tell_stmt(item, top, track, bodies)?;
@@ -589,12 +573,12 @@ fn tell_stmts(
 fn tell_else(
     no: &Option<Box<Stmt>>,
     track: &mut Track,
-    bodies: &mut Vec<Vec<Stmt>>,
+    bodies: &mut AtHand<'_>,
 ) -> Result<(), AllocError>
     requires { IsSome track.old.present }
     ensures stays { OnOk result (Stays track.old track.new) }
-    ensures lighter { OnOk result (weight bodies.new.items ≤ weight bodies.old.items) }
-    ensures tells { OnOk result ((i : Interpretation) → Walks i track.old track.new bodies.old.items bodies.new.items (braced.in_maybe_stmt true (maybe_stmt_of (option_map (λ boxed. stmt_of i boxed.value) no.now))) (tell.tells_maybe_stmt (maybe_stmt_of (option_map (λ boxed. stmt_of i boxed.value) no.now)))) }
+    ensures lighter { OnOk result (weight bodies.new.left.now ≤ weight bodies.old.left.now) }
+    ensures tells { OnOk result ((i : Interpretation) → Walks i track.old track.new bodies.old.left.now bodies.new.left.now (braced.in_maybe_stmt true (maybe_stmt_of (option_map (λ boxed. stmt_of i boxed.value) no.now))) (tell.tells_maybe_stmt (maybe_stmt_of (option_map (λ boxed. stmt_of i boxed.value) no.now)))) }
 {
     match no {
         Some(body) => Ok(tell_stmt(body, false, track, bodies)?),
@@ -604,15 +588,11 @@ fn tell_else(
 
 // The statements of a block, in its region.
 #[cycle(telling)]
-fn tell_block(
-    items: &[Stmt],
-    track: &mut Track,
-    bodies: &mut Vec<Vec<Stmt>>,
-) -> Result<(), AllocError>
+fn tell_block(items: &[Stmt], track: &mut Track, bodies: &mut AtHand<'_>) -> Result<(), AllocError>
     requires { IsSome track.old.present }
     ensures stays { OnOk result (Stays track.old track.new) }
-    ensures lighter { OnOk result (weight bodies.new.items ≤ weight bodies.old.items) }
-    ensures tells { OnOk result ((i : Interpretation) → Walks i track.old track.new bodies.old.items bodies.new.items (braced.in_stmts true (stmts_of (map (stmt_of i) items.now))) (λ t. tell.tells_region told.Block (tell.tells_stmts false (stmts_of (map (stmt_of i) items.now)) nothing) t)) }
+    ensures lighter { OnOk result (weight bodies.new.left.now ≤ weight bodies.old.left.now) }
+    ensures tells { OnOk result ((i : Interpretation) → Walks i track.old track.new bodies.old.left.now bodies.new.left.now (braced.in_stmts true (stmts_of (map (stmt_of i) items.now))) (λ t. tell.tells_region told.Block (tell.tells_stmts false (stmts_of (map (stmt_of i) items.now)) nothing) t)) }
 {
     track.enter(Region::Block, 0)?;
     tell_stmts(items, false, track, bodies)?;
@@ -626,12 +606,12 @@ fn tell_handler(
     items: &[Stmt],
     param: Option<Ident>,
     track: &mut Track,
-    bodies: &mut Vec<Vec<Stmt>>,
+    bodies: &mut AtHand<'_>,
 ) -> Result<(), AllocError>
     requires { IsSome track.old.present }
     ensures stays { OnOk result (Stays track.old track.new) }
-    ensures lighter { OnOk result (weight bodies.new.items ≤ weight bodies.old.items) }
-    ensures tells { OnOk result ((i : Interpretation) → Walks i track.old track.new bodies.old.items bodies.new.items (braced.in_stmts true (stmts_of (map (stmt_of i) items.now))) (tells_handler (maybe_named i param) (stmts_of (map (stmt_of i) items.now)))) }
+    ensures lighter { OnOk result (weight bodies.new.left.now ≤ weight bodies.old.left.now) }
+    ensures tells { OnOk result ((i : Interpretation) → Walks i track.old track.new bodies.old.left.now bodies.new.left.now (braced.in_stmts true (stmts_of (map (stmt_of i) items.now))) (tells_handler (maybe_named i param) (stmts_of (map (stmt_of i) items.now)))) }
 {
     match param {
         Some(name) => {
@@ -647,15 +627,11 @@ fn tell_handler(
 
 // A statement behind a label.
 #[cycle(telling)]
-fn tell_labelled(
-    stmt: &Stmt,
-    track: &mut Track,
-    bodies: &mut Vec<Vec<Stmt>>,
-) -> Result<(), AllocError>
+fn tell_labelled(stmt: &Stmt, track: &mut Track, bodies: &mut AtHand<'_>) -> Result<(), AllocError>
     requires { IsSome track.old.present }
     ensures stays { OnOk result (Stays track.old track.new) }
-    ensures lighter { OnOk result (weight bodies.new.items ≤ weight bodies.old.items) }
-    ensures tells { OnOk result ((i : Interpretation) → Fills i track.old track.new bodies.old.items bodies.new.items (braced.in_stmt true (stmt_of i stmt.now)) (tell.labelled_region (tell.labels_on (stmt_of i stmt.now)) (tell.tells_stmt false (stmt_of i stmt.now) nothing))) }
+    ensures lighter { OnOk result (weight bodies.new.left.now ≤ weight bodies.old.left.now) }
+    ensures tells { OnOk result ((i : Interpretation) → Fills i track.old track.new bodies.old.left.now bodies.new.left.now (braced.in_stmt true (stmt_of i stmt.now)) (tell.labelled_region (tell.labels_on (stmt_of i stmt.now)) (tell.tells_stmt false (stmt_of i stmt.now) nothing))) }
 {
     if labels_on(stmt) {
         tell_stmt(stmt, false, track, bodies)?;
@@ -747,23 +723,24 @@ fn function_declares(top: bool) -> Declare
     if top { Declare::Var } else { Declare::Lexical }
 }
 
-/// Tells a track a script: its statements, with the bodies of its functions in the order of the source, the next one last;
-/// those inside a body stand behind it, and of one function those in its parameters before its own. The bodies that no
-/// function takes are left, and no region is present again. The error is that memory is out, or that the track has no number
-/// for a region more.
+/// Tells a track a script: its statements, with the bodies of its functions in the order of the source; those inside a body
+/// stand right behind it, and of one function those in its parameters before its own. A braced body that stands in the tree
+/// itself is not looked at. No region is present again. The error is that memory is out, or that the track has no number for a
+/// region more.
 pub fn tell_script(
     items: &[Stmt],
     track: &mut Track,
-    bodies: &mut Vec<Vec<Stmt>>,
+    bodies: &[Vec<Stmt>],
 ) -> Result<(), AllocError>
     requires { track.old.present ≡ None }
-    ensures tells { OnOk result ((i : Interpretation) → Fills i track.old track.new bodies.old.items bodies.new.items (braced.in_stmts true (stmts_of (map (stmt_of i) items.now))) (tell.tells_script (stmts_of (map (stmt_of i) items.now)))) }
+    ensures tells { OnOk result ((i : Interpretation) → IsTold i track.old track.new bodies.now (stmts_of (map (stmt_of i) items.now))) }
     ensures outside { OnOk result (track.new.present ≡ None) }
     ensures known { OnOk result (track.new.known ≡ track.old.known) }
     ensures noted { OnOk result (track.new.noted ≡ track.old.noted) }
 {
+    let mut at_hand = AtHand { left: bodies };
     track.enter(Region::Script, 0)?;
-    tell_stmts(items, true, track, bodies)?;
+    tell_stmts(items, true, track, &mut at_hand)?;
     track.leave();
     Ok(())
 }

@@ -27,7 +27,7 @@ use Rattle.tree_track.proofs.Loops.{binds_in, binds_tell, clauses_in, clauses_te
 use Rattle.script_grammar.specs.declared.tree.Func.{out-Func}
 use Rattle.tree_track.specs.Walks.{tells_handler}
 use Rattle.tree_track.specs.Weight.{weight}
-use Rattle.tree_track.proofs.Taking.{take_next, weight_push}
+use Rattle.tree_track.proofs.Taking.{take_next, take_none}
 use Rattle.script_grammar.specs.declared.tree.Operand.{out-Operand}
 use Rattle.script_grammar.specs.declared.tree.TemplatePart.{out-TemplatePart}
 use Rattle.parse_track.specs.declared.region.Jump.TheVariants as jump
@@ -316,14 +316,17 @@ tell_named-returns-in_ok-tell_function-in-None-clause-tells t c = λ i.
 
 pub tell_next-returns-in_ok-tell_stmts-in-Some-clause-lighter : goal.tell_next-returns-in_ok-tell_stmts-in-Some-clause-lighter
 tell_next-returns-in_ok-tell_stmts-in-Some-clause-lighter t c =
-    let e = ap weight c.in-Some.ensures.items ∙ weight_push _ c.in-Some.items in
+    let e = ap weight c.in-Some.ensures.cases.0 in
     let l = c.in_ok-tell_stmts-in-Some.ensures.lighter in
     omega (arith, e, l)
 
 pub tell_next-returns-in_ok-tell_stmts-in-Some-clause-tells : goal.tell_next-returns-in_ok-tell_stmts-in-Some-clause-tells
 tell_next-returns-in_ok-tell_stmts-in-Some-clause-tells t c = λ i items.
-    take_next i _ _ _ _ _ c.in-Some.items items c.in-Some.ensures.items
+    take_next i _ _ _ c.in-Some.rest.now _ c.in-Some.items.now items c.in-Some.ensures.cases.0
     (walk_as i (stmts_in i) (stmts_tell true i) (sym c.deref.ensures.value) (c.in_ok-tell_stmts-in-Some.ensures.tells i))
+
+pub tell_next-returns-in-None-clause-tells : goal.tell_next-returns-in-None-clause-tells
+tell_next-returns-in-None-clause-tells t c = λ i items. take_none i _ _ _ _ items _ c.in-None.ensures.cases
 
 pub tell_operands-loop-operand-init : goal.tell_operands-loop-operand-init
 tell_operands-loop-operand-init t c = turn_begin operands_in operands_tell _ _ _
@@ -604,6 +607,6 @@ tell_items-tell_maybe-requires t c =
 
 pub tell_next-tell_stmts-requires : goal.tell_next-tell_stmts-requires
 tell_next-tell_stmts-requires t c =
-    let e = ap weight c.in-Some.ensures.items ∙ weight_push _ c.in-Some.items in
-    let d = ap (most size-Stmt) c.deref.ensures.value ∙ most_depth c.in-Some.items.items in
+    let e = ap weight c.in-Some.ensures.cases.0 in
+    let d = ap (most size-Stmt) c.deref.ensures.value ∙ most_depth c.in-Some.items.now.items in
     (omega (arith, e, d, c.decreases), c.requires)

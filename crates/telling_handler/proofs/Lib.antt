@@ -1,0 +1,6 @@
+pub mod PieceEquations
+pub mod Appending
+pub mod Saying
+pub mod SayingParts
+pub mod Logs
+pub mod Walking

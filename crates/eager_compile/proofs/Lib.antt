@@ -1,0 +1,14 @@
+mod Atoms
+mod Bodies
+mod Found
+mod Shown
+pub mod Entries
+pub mod Functions
+pub mod Instructions
+pub mod Places
+pub mod Renumbering
+pub mod Rows
+pub mod Scripts
+pub mod Showing
+pub mod Sorting
+pub mod ShownFlags

@@ -1,51 +1,54 @@
 -- The command: what the sink has taken is a front of the answer.
-use Rattle.std.proofs.Common.{◌≡◌, ℕ, Bool, true, false, ◌||◌, List, [], ◌∷◌, ◌++◌, Option, Some, None, Vec, refl, ap, sym, ◌∙◌, subst, append-nil}
+use Rattle.std.proofs.Common.{◌≡◌, ℕ, ◌⊎◌, inl, inr, Bool, true, false, List, [], ◌∷◌, ◌++◌, Option, Some, None, Vec, String, map, refl, ap, sym, ◌∙◌, subst, append-nil, if◌then◌else◌}
+use Rattle.std.specs.String.{string_bytes}
 use Rattle.std.specs.declared.alloc.Global.{Global}
 use Rattle.outside.specs.Sink.{Gains, GainsFront}
-use Rattle.outside.specs.Loops.{ReadsNameWithin}
+use Rattle.outside.specs.Loops.{ReadsAllWithin, AreWholeBehind}
+use Rattle.command_words.specs.declared.options.FileJob.{FileJob}
+use Rattle.command_words.specs.Asked.{Asked, Files, Job, job}
+use Rattle.command_words.specs.Words.{asked_of}
+use Rattle.command_answer.specs.Answer.{IsAnswer, IsAnswerTo, most_bytes}
 use Rattle.compile_session.specs.declared.file.FileAnswer.{FileAnswer}
-use Rattle.compile_session.specs.declared.status.Status.{Status}
-use Rattle.compile_session.specs.declared.words.Purpose.{Purpose}
-use Rattle.compile_session.specs.Words.{files_of, purpose_of}
-use Rattle.compile_session.specs.Verdict.{Verdict, IsVerdict, IsAnswer, IsAnswerOf, is_refused, status_of, file_text, most_bytes}
-use Rattle.compile_session.specs.Answers.{Settles, SettlesRead}
+use Rattle.compile_session.specs.Built.{built, built_of, is_built, names_of}
+use Rattle.compile_session.specs.Files.{AnswersAll, SettlesAll}
 
--- the file's verdict, where the shelf tells what it holds
-pub settled : (wanted : Purpose) (shelf : Option (List ℕ → List ℕ)) (held : List ℕ → List ℕ) (name : List ℕ) (read : Option (Vec ℕ Global)) (answer : FileAnswer) → shelf ≡ Some held → ReadsNameWithin shelf name most_bytes read → SettlesRead wanted name read answer → Settles wanted name (held name) answer.text.items answer.refused
-settled wanted shelf held name read answer tells reads settles =
-    let P : Option (List ℕ → List ℕ) → Type 0 = λ s. ReadsNameWithin s name most_bytes read in settles (held name) (subst P tells reads)
+-- what the words ask for is built
+pub built_is : (words : List (List ℕ)) (j : FileJob) → asked_of words ≡ Some (Files (job j)) → is_built j.command ≡ true → built_of words ≡ Some (job j)
+built_is words j asked is = ap built asked ∙ by (is_built j.command) is
+  where
+    by : (b : Bool) → b ≡ true → (if b then Some (job j) else None) ≡ Some (job j)
+    by true e = refl
+    by false e = absurd (cc)
 
-or_false : (b : Bool) → b ≡ (b || false)
-or_false true = refl
-or_false false = refl
+-- what is answered for the files, where the shelf tells what it holds
+pub settled : (j : FileJob) (shelf : Option (List ℕ → List ℕ)) (held : List ℕ → List ℕ) (reads : List (Option (Vec ℕ Global))) (answer : FileAnswer) → shelf ≡ Some held → ReadsAllWithin shelf (job j).files most_bytes reads → AnswersAll (job j) reads answer
+    → SettlesAll (job j) held 0 (job j).files answer.text.items answer.refused
+settled j shelf held reads answer tells read answers = answers held (subst (λ (s : Option (List ℕ → List ℕ)). ReadsAllWithin s (job j).files most_bytes reads) tells read)
+
+-- the same, by what the calls saw of the names and of what was read
+pub settled_seen : (j : FileJob) (shelf : Option (List ℕ → List ℕ)) (held : List ℕ → List ℕ) (files : List (String Global)) (reads seen : List (Option (Vec ℕ Global))) (answer : FileAnswer) → files ≡ j.files.items → seen ≡ reads → shelf ≡ Some held
+    → ReadsAllWithin shelf (map string_bytes files) most_bytes reads → AnswersAll (job j) seen answer → SettlesAll (job j) held 0 (job j).files answer.text.items answer.refused
+settled_seen j shelf held files reads seen answer named is tells read answers =
+    settled j shelf held reads answer tells (subst (λ (l : List (String Global)). ReadsAllWithin shelf (map string_bytes l) most_bytes reads) named read) (subst (λ (l : List (Option (Vec ℕ Global))). AnswersAll (job j) l answer) is answers)
 
 -- the text is the answer
-pub answers : (wanted : Purpose) (words : List (List ℕ)) (held : List ℕ → List ℕ) (name text seen_text : List ℕ) (refused : Bool) (ended : Status) (before now : Option (List ℕ)) → Some (name ∷ []) ≡ files_of words → wanted ≡ purpose_of words → Settles wanted name (held name) text refused → ended ≡ status_of refused → seen_text ≡ text → Gains before now seen_text → (out : List ℕ) × IsAnswer words held out ended × Gains before now out
-answers wanted words held name text seen_text refused ended before now files same_wanted settles is_status same gained =
-    let P : Option (List (List ℕ)) → Type 0 = λ o. IsAnswerOf wanted o held text ended in
-    let W : Purpose → Type 0 = λ w. IsAnswerOf w (files_of words) held text ended in
-    let Q : List ℕ → Type 0 = λ l. Gains before now l in
-    (text, subst W same_wanted (subst P files (refused, (settles.verdict, [], false, settles.is, settles.printed ∙ sym (append-nil (file_text name (held name) settles.verdict)), settles.refusal ∙ or_false (is_refused settles.verdict), (refl, refl)), is_status)), subst Q same gained)
+pub answers : (words : List (List ℕ)) (j : FileJob) (held : List ℕ → List ℕ) (text : List ℕ) (refused : Bool) → asked_of words ≡ Some (Files (job j)) → SettlesAll (job j) held 0 (job j).files text refused → IsAnswer words held text refused
+answers words j held text refused asked s = record { asked = Files (job j); form = asked; answer = s.is }
+
+some_same : (a b : Asked) → ◌≡◌ {A = Option Asked} (Some a) (Some b) → a ≡ b
+some_same a b h = cc
 
 -- there is no other answer
-only_answer : (wanted : Purpose) (words : List (List ℕ)) (held : List ℕ → List ℕ) (name text : List ℕ) (refused : Bool) (out : List ℕ) (ended : Status) → Some (name ∷ []) ≡ files_of words → wanted ≡ purpose_of words → Settles wanted name (held name) text refused → IsAnswer words held out ended → text ≡ out
-only_answer wanted words held name text refused out ended files same_wanted settles answer =
-    let P : Option (List (List ℕ)) → Type 0 = λ o. IsAnswerOf wanted o held out ended in
-    let W : Purpose → Type 0 = λ w. IsAnswerOf w (files_of words) held out ended in
-    of (subst P (sym files) (subst W (sym same_wanted) answer))
-  where
-    of : (other : Bool) × ((verdict : Verdict) × (later : List ℕ) × (later_refused : Bool) × IsVerdict wanted 0 (held name) verdict × (out ≡ file_text name (held name) verdict ++ later) × (other ≡ (is_refused verdict || later_refused)) × ((later ≡ []) × (later_refused ≡ false))) × (ended ≡ status_of other) → text ≡ out
-    of got =
-        settles.printed
-        ∙ ap (file_text name (held name)) (sym (settles.only got.1.0 got.1.3))
-        ∙ sym (append-nil (file_text name (held name) got.1.0))
-        ∙ ap (λ (l : List ℕ). file_text name (held name) got.1.0 ++ l) (sym got.1.6.0)
-        ∙ sym got.1.4
+pub only_answer : (words : List (List ℕ)) (j : FileJob) (held : List ℕ → List ℕ) (text out : List ℕ) (refused r : Bool) → asked_of words ≡ Some (Files (job j)) → SettlesAll (job j) held 0 (job j).files text refused → IsAnswer words held out r → text ≡ out
+only_answer words j held text out refused r asked s a =
+    let e : a.asked ≡ Files (job j) = some_same a.asked (Files (job j)) (sym a.form ∙ asked) in
+    sym (s.only out r (subst (λ (x : Asked). IsAnswerTo x held out r) e a.answer)).0
 
 -- what was written in part is a front of every answer
-pub front_of_answer : (wanted : Purpose) (words : List (List ℕ)) (held : List ℕ → List ℕ) (name text seen_text : List ℕ) (refused : Bool) (before now : Option (List ℕ)) → Some (name ∷ []) ≡ files_of words → wanted ≡ purpose_of words → Settles wanted name (held name) text refused → seen_text ≡ text → GainsFront before now seen_text → (out : List ℕ) (ended : Status) → IsAnswer words held out ended → GainsFront before now out
-front_of_answer wanted words held name text seen_text refused before now files same_wanted settles same gained out ended answer =
-    let Q : List ℕ → Type 0 = λ l. GainsFront before now l in subst Q (same ∙ only_answer wanted words held name text refused out ended files same_wanted settles answer) gained
+pub front_of_answer : (words : List (List ℕ)) (j : FileJob) (held : List ℕ → List ℕ) (text seen : List ℕ) (refused : Bool) (before now : Option (List ℕ)) → asked_of words ≡ Some (Files (job j)) → SettlesAll (job j) held 0 (job j).files text refused → seen ≡ text → GainsFront before now seen
+    → (out : List ℕ) (r : Bool) → IsAnswer words held out r → GainsFront before now out
+front_of_answer words j held text seen refused before now asked s same gained out r a =
+    subst (λ (l : List ℕ). GainsFront before now l) (same ∙ only_answer words j held text out refused r asked s a) gained
 
 -- all is a front
 pub GainsFront-all : (before now : Option (List ℕ)) (bytes : List ℕ) → Gains before now bytes → GainsFront before now bytes

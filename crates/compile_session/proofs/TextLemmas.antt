@@ -19,7 +19,8 @@ use Rattle.pure_parser.proofs.Partnered.{inner-or_not}
 use Rattle.pure_parser.proofs.ScriptLaws.{ScriptOf, script_decides, script_read, last_only, inner_no_end, read_has_no_fault}
 use Rattle.pure_parser.proofs.Stands.{Marked, lexemes, marks}
 use Rattle.parse_bodies.specs.Whole.{IsText}
-use Rattle.compile_session.specs.Verdict.{IsFaulty, start_of}
+use Rattle.command_answer.specs.Sources.{start_of}
+use Rattle.compile_session.specs.Faulty.{IsFaulty}
 
 abbrev as_script : (ts : List Lexeme) (items : Stmts) → IsText ts items → ScriptOf ts items
 as_script ts items t = record { inner = t.inner; last = t.end; split = t.split; ends = t.ends; is = t.script; shallow = t.shallow }

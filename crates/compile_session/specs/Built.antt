@@ -1,32 +1,43 @@
--- The built form: which trees of a script the program compiles so far. The form is this stage's own choice: every
--- statement is empty, or an expression that is made of names, numbers, strings, binary `+` and parentheses.
-use Rattle.std.specs.Prelude.{ℕ, Bool, true, false, not, ◌&&◌, nat_eq}
-use Rattle.script_grammar.specs.declared.token.mark.TheConstants as mark
-use Rattle.script_grammar.specs.Tree.{Expr, Operands, no_operands, more_operands, Stmt, Stmts, no_stmts, more_stmts}
-use Rattle.script_grammar.specs.Tree as tree
+-- Which commands are built so far: those whose answer for a source is a text, over any files and with any options. What words ask
+-- for is command_words' `asked_of`.
+use Rattle.std.specs.Prelude.{◌≡◌, ℕ, Bool, true, false, if◌then◌else◌, List, [], Option, Some, None, Result, Ok, Err}
+use Rattle.command_words.specs.declared.options.Command.{Command}
+use Rattle.command_words.specs.declared.options.Command.TheVariants as command
+use Rattle.command_words.specs.declared.options.FileJob.{FileJob}
+use Rattle.command_words.specs.Asked.{Job, Asked, Files, Trial, Churn, job}
+use Rattle.command_words.specs.Words.{asked_of}
+use Rattle.compile_session.specs.declared.status.Status.{Status}
+use Rattle.compile_session.specs.declared.status.Status.TheVariants as status
 
--- the operator is a mark and no word, and it is `+`
-abbrev pub is_plus : ℕ → Bool → Bool
-is_plus operator is_word = not is_word && nat_eq operator mark.PLUS
+abbrev pub is_built : Command → Bool
+is_built command.Code = true
+is_built command.Scopes = true
+is_built command.Check = true
+is_built command.Save = false
+is_built command.Load = false
+is_built command.Verify = false
 
-abbrev mutual
-  pub is_built_expr : Expr → Bool
-  is_built_expr (tree.Name name) = true
-  is_built_expr (tree.Number at value) = true
-  is_built_expr (tree.Str at end text) = true
-  is_built_expr (tree.Paren at inner) = is_built_expr inner
-  is_built_expr (tree.Binary first rest) = is_built_expr first && are_built_operands rest
-  is_built_expr _ = false
+abbrev pub built : Option Asked → Option Job
+built None = None
+built (Some (Files j)) = if is_built j.command then Some j else None
+built (Some (Trial number size workers)) = None
+built (Some (Churn number size workers)) = None
 
-  pub are_built_operands : Operands → Bool
-  are_built_operands no_operands = true
-  are_built_operands (more_operands operator is_word value rest) = is_plus operator is_word && (is_built_expr value && are_built_operands rest)
+-- what these words ask for, where it is built
+abbrev pub built_of : List (List ℕ) → Option Job
+built_of words = built (asked_of words)
 
-abbrev pub is_built_stmt : Stmt → Bool
-is_built_stmt tree.Empty = true
-is_built_stmt (tree.Value e semi) = is_built_expr e
-is_built_stmt _ = false
+-- the names of the files that are read for it
+abbrev pub names_of : Option Job → List (List ℕ)
+names_of None = []
+names_of (Some j) = j.files
 
-abbrev pub are_built_stmts : Stmts → Bool
-are_built_stmts no_stmts = true
-are_built_stmts (more_stmts s ss) = is_built_stmt s && are_built_stmts ss
+-- the job that the words ask for, or why there is none
+abbrev pub IsJobOf : List (List ℕ) → Result FileJob Status → Type 0
+IsJobOf words (Ok j) = (asked_of words ≡ Some (Files (job j))) × (is_built j.command ≡ true)
+IsJobOf words (Err status.BadWords) = built_of words ≡ None
+IsJobOf words (Err status.NoMemory) = Unit {0}
+IsJobOf words (Err status.Done) = ⊥
+IsJobOf words (Err status.Refused) = ⊥
+IsJobOf words (Err status.ReadFault) = ⊥
+IsJobOf words (Err status.WriteFault) = ⊥

@@ -1,10 +1,8 @@
-pub mod Known
-pub mod Tokens
-pub mod Built
-pub mod Words
-pub mod Code
-pub mod Emission
-pub mod Listing
-pub mod Reading
-pub mod Verdict
 pub mod Answers
+pub mod Built
+pub mod Faulty
+pub mod Files
+pub mod Known
+pub mod Listed
+pub mod Reading
+pub mod Tokens

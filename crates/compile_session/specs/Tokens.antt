@@ -1,5 +1,5 @@
 -- The tokens of a file as the grammar of scripts sees them.
-use Rattle.std.specs.Prelude.{List, map}
+use Rattle.std.specs.Prelude.{List, map, length, ◌<◌, ◌^◌}
 use Rattle.script_grammar.specs.Lexeme.{Lexeme, lexeme_of}
 use Rattle.parser_atoms.specs.Places.{AreWithoutEquals}
 use Rattle.script_scanner.specs.Stands.{HasOneLast}
@@ -13,11 +13,12 @@ abbrev pub tokens_in : FileTokens → List Lexeme
 tokens_in file = map (lexeme_of file.known.get file.known.set file.texts.items) file.tokens.items
 
 -- What is known of the tokens of a file: as many as a parser takes, the last of them End or Bad and no other, from rising
--- offsets on, without empty names; the texts have no equals, and the known words are among them.
+-- offsets on, without empty names; the texts are fewer than 2^32 and have no equals, and the known words are among them.
 pub record IsSound (file : FileTokens) : Type 0 where
   pub scanned : IsScanned file.tokens.items
   pub last : HasOneLast file.tokens.items
   pub rise : TokensRise 0 (tokens_in file)
   pub names : NamesAreFull (tokens_in file)
   pub apart : AreWithoutEquals file.texts.items
+  pub few : length file.texts.items < 2 ^ 32
   pub words : HasWords file.texts.items file.known

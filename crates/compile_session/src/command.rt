@@ -1,21 +1,52 @@
 //! One command, from its words to the bytes that the sink takes.
 
-ghost use Rattle.std.specs.Prelude.{◌≡◌, ◌≢◌, ℕ, ◌-◌, ◌^◌, ◌<◌, ◌≤◌, ◌++◌, ◌⊎◌, List, Some, None, map};
+ghost use Rattle.std.specs.Prelude.{◌≡◌, ◌≢◌, ℕ, ◌-◌, ◌^◌, ◌<◌, ◌≤◌, ◌++◌, ◌⊎◌, Bool, List, Some, None, map};
 ghost use Rattle.std.specs.String.{string_bytes};
+ghost use Rattle.outside.specs.Shelf.{TurnsToFront};
 ghost use Rattle.outside.specs.Sink.{Gains, GainsFront};
-ghost use Rattle.compile_session.specs.Words.{files_of};
-ghost use Rattle.compile_session.specs.Verdict.{FollowsFront, IsAnswer, IsBefore, IsWhole, names_of, status_of};
+ghost use Rattle.command_answer.specs.Answer.{IsAnswer};
+ghost use Rattle.compile_session.specs.Built as definition;
+ghost use Rattle.compile_session.specs.Built.{IsJobOf, built_of, names_of};
+ghost use Rattle.compile_session.specs.Files.{IsBefore, IsWhole, status_of};
 
-use crate::file::{MOST_BYTES, answer_of};
+use crate::file::MOST_BYTES;
+use crate::files::answers_of;
 use crate::status::Status;
-use crate::words::{file_of, purpose_of};
-use outside::{Gate, Shelf, ShelfRefusal, Sink, SinkRefusal, Tally, read_file, write_bytes};
+use command_words::{Command, FileJob, Options, WordsFault, read_words};
+use outside::{Gate, Shelf, ShelfRefusal, Sink, SinkRefusal, Tally, read_files, write_bytes};
 use std::alloc::Global;
 use std::sync::Wait;
 use std::thread::Threads;
 
-/// Runs the command of these words: reads its files from the shelf, and gives the sink what is printed
-/// for them.
+fn is_built(command: Command) -> bool
+    ensures { result ≡ definition.is_built command }
+{
+    match command {
+        Command::Code | Command::Scopes | Command::Check => true,
+        Command::Save | Command::Load | Command::Verify => false,
+    }
+}
+
+/// What the words ask for, where it is built.
+fn job_of(alloc: Global, words: &[String]) -> Result<FileJob, Status>
+    ensures { IsJobOf (map string_bytes words.now) result }
+{
+    match read_words(alloc, words) {
+        Ok(Options::Files(job)) => {
+            if is_built(job.command) {
+                Ok(job)
+            } else {
+                Err(Status::BadWords)
+            }
+        }
+        Ok(Options::Trial { .. }) => Err(Status::BadWords),
+        Ok(Options::Churn { .. }) => Err(Status::BadWords),
+        Err(WordsFault::BadWords) => Err(Status::BadWords),
+        Err(WordsFault::NoMemory) => Err(Status::NoMemory),
+    }
+}
+
+/// Runs the command of these words: reads its files from the shelf, and gives the sink what is printed for them.
 pub fn run<R: Threads + Wait, L: Shelf, K: Sink, G: Gate, T: Tally>(
     _rt: &R,
     alloc: Global,
@@ -29,42 +60,42 @@ pub fn run<R: Threads + Wait, L: Shelf, K: Sink, G: Gate, T: Tally>(
     requires shelf { L.faults shelf.old < 2 ^ 64 - 1 }
     requires sink { K.faults sink.old < 2 ^ 64 - 1 }
 
-    // What the sink has taken where all was done: the answer to the words, where the files hold what
-    // the shelf tells.
+    // What the sink has taken where all was done: the answer to the words, where the files hold what the shelf tells.
     ensures answer { (held : List ℕ → List ℕ) → L.held shelf.old ≡ Some held → IsWhole result →
-        (out : List ℕ) × IsAnswer (map string_bytes words.now) held out result × Gains (K.taken sink.old) (K.taken sink.new) out }
-    ensures front { (held : List ℕ → List ℕ) → L.held shelf.old ≡ Some held → (out : List ℕ) (status : Status) →
-        IsAnswer (map string_bytes words.now) held out status → GainsFront (K.taken sink.old) (K.taken sink.new) out }
+        (out : List ℕ) × (refused : Bool) × IsAnswer (map string_bytes words.now) held out refused × (result ≡ status_of refused) × Gains (K.taken sink.old) (K.taken sink.new) out }
+    ensures front { (held : List ℕ → List ℕ) → L.held shelf.old ≡ Some held → (out : List ℕ) (refused : Bool) →
+        IsAnswer (map string_bytes words.now) held out refused → GainsFront (K.taken sink.old) (K.taken sink.new) out }
     ensures nothing { IsBefore result → K.taken sink.new ≡ K.taken sink.old }
 
     // When each status comes.
-    ensures bad_words { result ≡ Status.BadWords → files_of (map string_bytes words.now) ≡ None }
-    ensures bad_words_only { files_of (map string_bytes words.now) ≡ None → result ≡ Status.BadWords }
+    ensures bad_words { result ≡ Status.BadWords → built_of (map string_bytes words.now) ≡ None }
+    ensures bad_words_only { built_of (map string_bytes words.now) ≡ None → (result ≡ Status.BadWords) ⊎ (result ≡ Status.NoMemory) }
     ensures read_fault { result ≡ Status.ReadFault → L.faults shelf.old < L.faults shelf.new }
     ensures read_fault_only { L.faults shelf.old < L.faults shelf.new → result ≡ Status.ReadFault }
     ensures write_fault { result ≡ Status.WriteFault → K.faults sink.old < K.faults sink.new }
     ensures write_fault_only { K.faults sink.old < K.faults sink.new → result ≡ Status.WriteFault }
-    ensures complete { files_of (map string_bytes words.now) ≢ None → L.faults shelf.new ≡ L.faults shelf.old →
+    ensures complete { built_of (map string_bytes words.now) ≢ None → L.faults shelf.new ≡ L.faults shelf.old →
         K.faults sink.new ≡ K.faults sink.old → IsWhole result ⊎ (result ≡ Status.NoMemory) }
 
     // The names that the shelf was turned to, and what stays.
-    ensures names { FollowsFront (L.turned shelf.old) (L.turned shelf.new) (names_of (files_of (map string_bytes words.now))) }
-    ensures all_names { IsWhole result → L.turned shelf.new ≡ L.turned shelf.old ++ names_of (files_of (map string_bytes words.now)) }
+    ensures names { TurnsToFront (L.turned shelf.old) (L.turned shelf.new) (names_of (built_of (map string_bytes words.now))) }
+    ensures all_names { IsWhole result → L.turned shelf.new ≡ L.turned shelf.old ++ names_of (built_of (map string_bytes words.now)) }
     ensures unread { result ≡ Status.BadWords → L.turned shelf.new ≡ L.turned shelf.old }
     ensures same { L.held shelf.new ≡ L.held shelf.old }
     ensures count { T.count tally.new ≡ T.count tally.old }
     ensures left { T.room tally.new ≡ T.room tally.old }
 {
-    let name = match file_of(words) {
-        None => return Status::BadWords,
-        Some(name) => name,
+    let job = match job_of(alloc, words) {
+        Ok(job) => job,
+        Err(Status::BadWords) => return Status::BadWords,
+        Err(_) => return Status::NoMemory,
     };
-    let bytes = match read_file(alloc, shelf, name, MOST_BYTES) {
-        Ok(bytes) => bytes,
+    let reads = match read_files(alloc, shelf, &job.files, MOST_BYTES) {
+        Ok(reads) => reads,
         Err(ShelfRefusal::Failed) => return Status::ReadFault,
         Err(ShelfRefusal::NoMemory) => return Status::NoMemory,
     };
-    let answer = match answer_of(alloc, purpose_of(words), name, &bytes) {
+    let answer = match answers_of(alloc, &job, &reads) {
         Ok(answer) => answer,
         Err(_) => return Status::NoMemory,
     };

@@ -27,6 +27,8 @@ pub enum Refusal {
         /// The number of its rule, 1 to 14.
         rule: u8,
     },
-    /// The script has no early error, and is not of the form that is built: its code cannot be listed.
-    NotBuilt,
+    /// The script has no error, and of the numbers that are wanted this is the least that no function has.
+    NoFunction {
+        number: u32,
+    },
 }

@@ -11,7 +11,7 @@ use std::sync::Wait;
 use std::test::Fail;
 use std::thread::Threads;
 
-const SUM: &[u8] = b"1 + 2;";
+pub(crate) const SUM: &[u8] = b"1 + 2;";
 
 const SUM_LISTING: &[u8] = b"file a.js
 script 0 top 0..6
@@ -184,16 +184,6 @@ script 0 top 0..17
 }
 
 #[test]
-fn refuses_what_is_not_built(rt: HostRuntime) -> Result<(), Fail> {
-    let alloc = rt.alloc();
-    let line: &[u8] = b"a.js: not built\n";
-    assert!(rt; refuses(&rt, alloc, b"a - b", line)?);
-    assert!(rt; refuses(&rt, alloc, b"1 + 2; let a", line)?);
-    assert!(rt; refuses(&rt, alloc, b"function f() { return x => { x } }", line)?);
-    Ok(())
-}
-
-#[test]
 fn refuses_an_unexpected_token(rt: HostRuntime) -> Result<(), Fail> {
     let alloc = rt.alloc();
     assert!(rt; refuses(&rt, alloc, b"1 2", b"a.js:2: unexpected\n")?);
@@ -206,7 +196,7 @@ fn refuses_an_unexpected_token(rt: HostRuntime) -> Result<(), Fail> {
 }
 
 #[test]
-fn refuses_an_early_error_before_what_is_not_built(rt: HostRuntime) -> Result<(), Fail> {
+fn refuses_an_early_error(rt: HostRuntime) -> Result<(), Fail> {
     let alloc = rt.alloc();
     assert!(rt; refuses(&rt, alloc, b"let a; let a", b"a.js:11: early error 1\n")?);
     assert!(rt;
@@ -261,7 +251,7 @@ fn refuses_at_the_first_fault(rt: HostRuntime) -> Result<(), Fail> {
     Ok(())
 }
 
-/// Scripts that are not of the built form.
+/// Scripts of many forms.
 const SCRIPTS: [&[u8]; 9] = [
     b"x++\n(y)",
     b"-x++\n/y/z",
@@ -274,10 +264,17 @@ const SCRIPTS: [&[u8]; 9] = [
     b"(a, b = {c: [d, , e]}, ...f) => g",
 ];
 
+/// Whether the file is listed.
+fn is_listed<R: Threads + Wait>(rt: &R, alloc: Global, bytes: &[u8]) -> Result<bool, AllocError> {
+    let mut shelf = FirmShelf::new(alloc, file(alloc, "a.js", bytes)?);
+    let mut sink = FirmSink::new(alloc);
+    Ok(status_of(rt, alloc, "code", &mut shelf, &mut sink)? == Status::Done)
+}
+
 #[test]
-fn reads_what_is_not_built(rt: HostRuntime) -> Result<(), Fail> {
+fn lists_scripts_of_many_forms(rt: HostRuntime) -> Result<(), Fail> {
     for text in SCRIPTS {
-        assert!(rt; refuses(&rt, rt.alloc(), text, b"a.js: not built\n")?);
+        assert!(rt; is_listed(&rt, rt.alloc(), text)?);
     }
     Ok(())
 }
@@ -329,17 +326,6 @@ fn refuses_a_long_file_before_its_text(rt: HostRuntime) -> Result<(), Fail> {
     let alloc = rt.alloc();
     let bytes = vec![in alloc; 0xFFu8; 16777216]?;
     assert!(rt; refuses(&rt, alloc, &bytes, b"a.js: too long\n")?);
-    Ok(())
-}
-
-#[test]
-fn knows_no_other_command(rt: HostRuntime) -> Result<(), Fail> {
-    let alloc = rt.alloc();
-    let mut shelf = MapShelf::new(alloc, file(alloc, "a.js", SUM)?, Vec::new(alloc));
-    let mut sink = FirmSink::new(alloc);
-    let status = status_of(&rt, alloc, "scopes", &mut shelf, &mut sink)?;
-    assert!(rt; status == Status::BadWords);
-    assert!(rt; sink.bytes().is_empty());
     Ok(())
 }
 

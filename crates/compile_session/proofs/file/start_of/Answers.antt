@@ -1,6 +1,6 @@
 use Rattle.std.proofs.Common.{◌∙◌, ap}
 use Rattle.script_grammar.specs.declared.token.Token.{Token}
-use Rattle.compile_session.proofs.FileLemmas.{starts_none, starts_at}
+use Rattle.compile_session.proofs.OutcomeLemmas.{starts_none, starts_at}
 use Rattle.compile_session.proofs.file.start_of.Goals as goal
 
 pub returns-in-None : goal.returns-in-None

@@ -1,0 +1,40 @@
+-- How a command ends, and what it answers for all its files.
+use Rattle.std.specs.Prelude.{◌≡◌, ℕ, ◌+◌, Bool, true, false, ◌||◌, List, [], ◌∷◌, ◌++◌, length, Vec, Option}
+use Rattle.std.specs.declared.alloc.Global.{Global}
+use Rattle.outside.specs.Loops.{AreWholeBehind}
+use Rattle.command_words.specs.Asked.{Job}
+use Rattle.command_answer.specs.Answer.{IsOfFiles, most_bytes}
+use Rattle.compile_session.specs.declared.file.FileAnswer.{FileAnswer}
+use Rattle.compile_session.specs.declared.status.Status.{Status}
+use Rattle.compile_session.specs.declared.status.Status.TheVariants as status
+
+abbrev pub status_of : Bool → Status
+status_of true = status.Refused
+status_of false = status.Done
+
+-- the status says that all was done
+abbrev pub IsWhole : Status → Type 0
+IsWhole status.Done = Unit {0}
+IsWhole status.Refused = Unit {0}
+IsWhole status.BadWords = ⊥
+IsWhole status.ReadFault = ⊥
+IsWhole status.WriteFault = ⊥
+IsWhole status.NoMemory = ⊥
+
+-- the status says that nothing was written
+abbrev pub IsBefore : Status → Type 0
+IsBefore status.Done = ⊥
+IsBefore status.Refused = ⊥
+IsBefore status.BadWords = Unit {0}
+IsBefore status.ReadFault = Unit {0}
+IsBefore status.WriteFault = ⊥
+IsBefore status.NoMemory = ⊥
+
+-- The text and whether a file is refused are the answer for these files, behind so many bytes of others, and there is no other.
+pub record SettlesAll (job : Job) (held : List ℕ → List ℕ) (before : ℕ) (names : List (List ℕ)) (text : List ℕ) (refused : Bool) : Type 0 where
+  pub is : IsOfFiles job.command job.want held before names text refused
+  pub only : (other : List ℕ) (other_refused : Bool) → IsOfFiles job.command job.want held before names other other_refused → (other ≡ text) × (other_refused ≡ refused)
+
+-- the same of what was read of the files of a command
+abbrev pub AnswersAll : Job → List (Option (Vec ℕ Global)) → FileAnswer → Type 0
+AnswersAll job reads answer = (held : List ℕ → List ℕ) → AreWholeBehind most_bytes held 0 job.files reads → SettlesAll job held 0 job.files answer.text.items answer.refused

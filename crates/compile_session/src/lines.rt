@@ -1,0 +1,89 @@
+//! The lines that are printed for a file.
+
+ghost use Rattle.std.specs.Prelude.{◌≡◌, ◌++◌, codes, IfOk, OnOk};
+ghost use Rattle.std.specs.Fmt.{decimal};
+ghost use Rattle.command_answer.specs.Answer.{file_line};
+ghost use Rattle.command_answer.specs.Refusals.{at_offset, refusal_line};
+ghost use Rattle.compile_session.specs.Answers.{refusal_of};
+
+use crate::refusal::Refusal;
+use std::alloc::{AllocError, Global};
+
+/// Appends the decimal digits of a number.
+fn append_decimal(alloc: Global, out: &mut Vec<u8>, number: u64) -> Result<(), AllocError>
+    ensures { OnOk result (out.new.items ≡ out.old.items ++ decimal number) }
+{
+    let digits = number.to_string(alloc)?;
+    out.extend_from_slice(digits.as_bytes())?;
+    Ok(())
+}
+
+/// The line before the listing of a file.
+pub(crate) fn file_text(alloc: Global, name: &str) -> Result<Vec<u8>, AllocError>
+    ensures { IfOk result (λ text. text.items ≡ file_line name.now) }
+{
+    let mut out = Vec::from_slice(alloc, b"file ")?;
+    out.extend_from_slice(name.as_bytes())?;
+    out.extend_from_slice(b"\n")?;
+    Ok(out)
+}
+
+/// The line of a script without errors, which has so many functions.
+pub(crate) fn fine_text(alloc: Global, name: &str, functions: usize) -> Result<Vec<u8>, AllocError>
+    ensures { IfOk result (λ text. text.items ≡ name.now ++ codes ": ok, " ++ decimal functions ++ codes " functions\n") }
+{
+    let mut out = Vec::from_slice(alloc, name.as_bytes())?;
+    out.extend_from_slice(b": ok, ")?;
+    append_decimal(alloc, &mut out, functions as u64)?;
+    out.extend_from_slice(b" functions\n")?;
+    Ok(out)
+}
+
+/// A line that tells something of a file.
+fn line_of_file(alloc: Global, name: &str, words: &[u8]) -> Result<Vec<u8>, AllocError>
+    ensures { IfOk result (λ text. text.items ≡ name.now ++ words.now) }
+{
+    let mut out = Vec::from_slice(alloc, name.as_bytes())?;
+    out.extend_from_slice(words)?;
+    Ok(out)
+}
+
+/// A line that tells something of a place in a file.
+fn line_of_place(
+    alloc: Global,
+    name: &str,
+    offset: u32,
+    words: &[u8],
+) -> Result<Vec<u8>, AllocError>
+    ensures { IfOk result (λ text. text.items ≡ at_offset name.now offset ++ words.now) }
+{
+    let mut out = Vec::from_slice(alloc, name.as_bytes())?;
+    out.extend_from_slice(b":")?;
+    append_decimal(alloc, &mut out, u64::from(offset))?;
+    out.extend_from_slice(words)?;
+    Ok(out)
+}
+
+/// The line that is printed for a refused file.
+pub(crate) fn refusal_text(alloc: Global, name: &str, why: Refusal) -> Result<Vec<u8>, AllocError>
+    ensures { IfOk result (λ text. text.items ≡ refusal_line name.now (refusal_of why)) }
+{
+    match why {
+        Refusal::TooLong => line_of_file(alloc, name, b": too long\n"),
+        Refusal::BadUtf8 { offset } => line_of_place(alloc, name, offset, b": not UTF-8\n"),
+        Refusal::Unexpected { offset } => line_of_place(alloc, name, offset, b": unexpected\n"),
+        Refusal::TooDeep { offset } => line_of_place(alloc, name, offset, b": too deep\n"),
+        Refusal::Early { offset, rule } => {
+            let mut out = line_of_place(alloc, name, offset, b": early error ")?;
+            append_decimal(alloc, &mut out, u64::from(rule))?;
+            out.extend_from_slice(b"\n")?;
+            Ok(out)
+        }
+        Refusal::NoFunction { number } => {
+            let mut out = line_of_file(alloc, name, b": no function ")?;
+            append_decimal(alloc, &mut out, u64::from(number))?;
+            out.extend_from_slice(b"\n")?;
+            Ok(out)
+        }
+    }
+}

@@ -1,0 +1,112 @@
+//! The listing of a script that has no error.
+
+ghost use Rattle.std.specs.Prelude.{◌≡◌, ◌≤◌, ◌⊎◌, ◌++◌, ℕ, List, true, IfOk, OnOk, MatchOption};
+ghost use Rattle.script_grammar.specs.Tree.{Stmts};
+ghost use Rattle.stencil_data.specs.Named.{NamedMerged};
+ghost use Rattle.stencil_data.specs.StandsFor.{MergedStandsFor};
+ghost use Rattle.bytecode_buf.specs.Command.{Listed};
+ghost use Rattle.script_image.specs.Listed.{ShowsListed};
+ghost use Rattle.command_answer.specs.Answer as answer;
+ghost use Rattle.command_answer.specs.Answer.{IsWritten};
+ghost use Rattle.eager_compile.specs.Numbers.{to_show};
+ghost use Rattle.command_words.specs.Asked as asked;
+ghost use Rattle.eager_compile.specs.Compiles.{IsOf};
+ghost use Rattle.compile_session.specs.Answers.{IsMissing};
+ghost use Rattle.compile_session.specs.Listed.{is_listed, listed_text};
+
+use crate::lines::file_text;
+use command_words::{Command, FileJob, Want};
+use eager_compile::{Wanted, compile_script, merged};
+use parse_track::region::ClosedAt;
+use script_grammar::tree::Stmt;
+use script_image::{code_text, scope_text};
+use std::alloc::{AllocError, Global};
+use stencil_data::{MergedStencil, Text};
+
+/// Which functions are wanted compiled.
+fn wanted_of(want: &Want) -> Wanted<'_>
+    ensures { to_show result ≡ answer.to_show (asked.wanted want.now) }
+{
+    match want {
+        Want::All => Wanted::All,
+        Want::Nothing => Wanted::Numbers(&[]),
+        Want::Numbers(numbers) => Wanted::Numbers(numbers),
+    }
+}
+
+/// The least of these numbers that is above the count.
+fn least_above(numbers: &[u32], count: usize) -> Option<u32>
+    ensures { IsMissing (asked.Numbers numbers.now) count result }
+{
+    let mut least = None;
+    for number in numbers {
+        if *number as usize > count {
+            least = Some(lesser(least, *number));
+        }
+    }
+    least
+}
+
+/// The lesser of two numbers, of which the first may be missing.
+fn lesser(one: Option<u32>, other: u32) -> u32
+    ensures is { MatchOption one (result ≡ other) (λ n. (result ≡ n) ⊎ (result ≡ other)) }
+    ensures least { (result ≤ other) × MatchOption one (Unit {0}) (λ n. result ≤ n) }
+{
+    match one {
+        Some(one) => one.min(other),
+        None => other,
+    }
+}
+
+/// The least wanted number that none of so many functions has.
+pub(crate) fn missing_of(want: &Want, count: usize) -> Option<u32>
+    ensures { IsMissing (asked.wanted want.now) count result }
+{
+    match want {
+        Want::All => None,
+        Want::Nothing => None,
+        Want::Numbers(numbers) => least_above(numbers, count),
+    }
+}
+
+/// Appends the listing that a command is to print.
+fn append_text(
+    alloc: Global,
+    out: &mut Vec<u8>,
+    command: Command,
+    shown: &MergedStencil,
+) -> Result<(), AllocError>
+    ensures { OnOk result ((named : NamedMerged (List Listed)) → MergedStandsFor ShowsListed shown.now named → out.new.items ≡ out.old.items ++ listed_text command named) }
+{
+    match command {
+        Command::Scopes => {
+            scope_text(alloc, out, shown)?;
+            Ok(())
+        }
+        Command::Code | Command::Check | Command::Save | Command::Load | Command::Verify => {
+            code_text(alloc, out, shown)?;
+            Ok(())
+        }
+    }
+}
+
+/// What is printed for the script of so many bytes that has these statements, with the bodies of its functions in their places.
+pub(crate) fn listing_of(
+    alloc: Global,
+    job: &FileJob,
+    name: &str,
+    size: u32,
+    top: &[Stmt],
+    closed: &[ClosedAt],
+    texts: Vec<Text>,
+) -> Result<Vec<u8>, AllocError>
+    requires listed { is_listed job.now.command ≡ true }
+    requires of { (items : Stmts) × IsOf texts.items top.now closed.now items }
+    ensures { IfOk result (λ text. (items : Stmts) (count : ℕ) → IsOf texts.items top.now closed.now items → IsWritten job.now.command (asked.wanted job.now.want) name.now size items count text.items) }
+{
+    let script = compile_script(alloc, top, size, closed, &texts)?;
+    let shown = merged(alloc, script, texts, wanted_of(&job.want))?;
+    let mut out = file_text(alloc, name)?;
+    append_text(alloc, &mut out, job.command, &shown)?;
+    Ok(out)
+}

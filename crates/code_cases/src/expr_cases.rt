@@ -3,8 +3,8 @@ ghost use Rattle.std.specs.Prelude.{◌^◌, ◌<◌, length};
 ghost use Rattle.stencil_data.specs.Fits.{ChainFits};
 ghost use Rattle.emit_exprs.specs.Rising.{Rises};
 
-use emit_exprs::{Emit, expr};
 use bytecode_buf::{CodeBuf, Op};
+use emit_exprs::{Emit, expr};
 use script_grammar::build;
 use script_grammar::token::{FuncForm, mark};
 use script_grammar::tree::{Args, Expr, Func, FuncBody, Ident, Operand, Tail};

@@ -4,8 +4,8 @@ ghost use Rattle.stencil_data.specs.Fits.{NamesFit};
 ghost use Rattle.stencil_data.specs.StandsFor.{named_bindings};
 ghost use Rattle.emit_exprs.specs.Rising.{Rises};
 
-use emit_functions::function;
 use bytecode_buf::Op;
+use emit_functions::function;
 use script_grammar::build;
 use script_grammar::token::{Decl, FuncForm};
 use script_grammar::tree::{Bind, Func, FuncBody, Ident, Param};

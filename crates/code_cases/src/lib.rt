@@ -1,8 +1,8 @@
 //! Cases from outside for the crates between a tree and its code: tests alone.
 //!
-//! It stands on scope_analysis, function_scopes, emit_exprs, emit_stmts and emit_functions, and nothing stands on it. Each
-//! case hands in a small tree, made by hand, and compares scopes, places or bytes with those that were worked out by hand
-//! from the tables of scopes and opcodes. Kept apart from those crates, the tests are proved without proving a crate again.
+//! It stands on scope_analysis, function_scopes, emit_exprs, emit_stmts, inner_functions and emit_functions, and nothing
+//! stands on it. Each case hands in a small tree, made by hand, and compares scopes, places, chains or bytes with those that
+//! were worked out by hand from the tables of scopes and opcodes. Kept apart from those crates, the tests are proved without proving a crate again.
 #![tactic(auto)]
 
 #[cfg(test)]
@@ -15,5 +15,7 @@ mod name_cases;
 mod own_use_cases;
 #[cfg(test)]
 mod scope_cases;
+#[cfg(test)]
+mod site_cases;
 #[cfg(test)]
 mod stmt_cases;

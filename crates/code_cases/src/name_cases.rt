@@ -1,6 +1,6 @@
 // Cases from outside: the instructions of names at some places.
-use emit_exprs::{Emit, base, init, read, write};
 use bytecode_buf::{CodeBuf, Op};
+use emit_exprs::{Emit, base, init, read, write};
 use std::test::Fail;
 use stencil_data::{BindKind, Place};
 

@@ -5,11 +5,11 @@ ghost use Rattle.scope_analysis.specs.Walked.{ScopesFit};
 ghost use Rattle.emit_exprs.specs.Rising.{Rises};
 ghost use Rattle.emit_stmts.specs.Frames.{global_link};
 
+use bytecode_buf::{CodeBuf, Op};
+use emit_exprs::Site;
 use emit_stmts::scripts::top;
 use emit_stmts::stmts::emit_stmt;
 use emit_stmts::{Draft, StmtSite};
-use bytecode_buf::{CodeBuf, Op};
-use emit_exprs::Site;
 use script_grammar::build;
 use script_grammar::token::{Decl, FuncForm};
 use script_grammar::tree::{Bind, Clause, Each, Expr, Func, FuncBody, Ident, Init, Stmt};

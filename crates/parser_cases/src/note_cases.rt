@@ -1,6 +1,5 @@
 //! Scripts with their first early errors, by the rules.
 
-use tree_notes::first::first_note;
 use parse_track::region::{Early, Known};
 use script_grammar::build;
 use script_grammar::token::{Decl, FuncForm, word};
@@ -9,6 +8,7 @@ use script_grammar::tree::{
 };
 use std::alloc::{AllocError, Global};
 use std::test::Fail;
+use tree_notes::first::first_note;
 
 const KNOWN: Known = Known {
     eval: 100,

@@ -3,14 +3,14 @@
 ghost use Rattle.std.specs.Prelude.{◌≡◌, ◌<◌, [], length, IsTrue};
 ghost use Rattle.parse_exprs.specs.Source.{IsScanned, ends_all};
 
-use parse_parts::bodies::body;
-use parse_parts::exprs::{assignment, expression};
-use parse_parts::functions::{alone, head};
 use parse_bodies::part::BodyNode;
 use parse_exprs::place::{ParseFault, Pending, Place};
 use parse_exprs::source::Source;
 use parse_exprs::state::State;
 use parse_handlers::Full;
+use parse_parts::bodies::body;
+use parse_parts::exprs::{assignment, expression};
+use parse_parts::functions::{alone, head};
 use script_grammar::brackets::Brackets;
 use script_grammar::node::{NodeFunc, NodeFuncBody};
 use script_grammar::token::{FuncForm, Kind, Token, mark, word};

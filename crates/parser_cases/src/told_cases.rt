@@ -1,10 +1,10 @@
-use tree_track::walk::tell_script;
 use parse_track::region::{ClosedAt, Early, Known, Tracked};
 use parse_track::track::Track;
 use script_grammar::token::{Decl, FuncForm};
 use script_grammar::tree::{Bind, Expr, Func, FuncBody, Ident, Init, Param, Stmt};
 use std::alloc::{AllocError, Global};
 use std::test::Fail;
+use tree_track::walk::tell_script;
 
 const KNOWN: Known = Known {
     eval: 100,
@@ -40,9 +40,9 @@ fn is_closed(at: Option<&ClosedAt>, func: u32, scope: u32, atom: u32) -> bool {
     }
 }
 
-fn told(alloc: Global, items: &[Stmt], mut bodies: Vec<Vec<Stmt>>) -> Result<Tracked, AllocError> {
+fn told(alloc: Global, items: &[Stmt], bodies: &[Vec<Stmt>]) -> Result<Tracked, AllocError> {
     let mut track = Track::new(alloc, KNOWN);
-    tell_script(items, &mut track, &mut bodies)?;
+    tell_script(items, &mut track, bodies)?;
     track.finish()
 }
 
@@ -115,9 +115,9 @@ fn two_bodies(alloc: Global, own: Vec<Stmt>, inner: Vec<Stmt>) -> Result<Tracked
     let mut items = Vec::new(alloc);
     items.push(Stmt::Func(passed(Some(name(1, 9)), 10, params)))?;
     let mut bodies = Vec::new(alloc);
-    bodies.push(own)?;
     bodies.push(inner)?;
-    told(alloc, &items, bodies)
+    bodies.push(own)?;
+    told(alloc, &items, &bodies)
 }
 
 // function f(a) { function g(b) { let NAME; } }
@@ -127,9 +127,9 @@ fn nested_bodies(alloc: Global, atom: u32) -> Result<Tracked, AllocError> {
     let mut items = Vec::new(alloc);
     items.push(Stmt::Func(passed(Some(name(1, 9)), 10, param(alloc, 2, 11)?)))?;
     let mut bodies = Vec::new(alloc);
-    bodies.push(lexical(alloc, atom, 36)?)?;
     bodies.push(outer)?;
-    told(alloc, &items, bodies)
+    bodies.push(lexical(alloc, atom, 36)?)?;
+    told(alloc, &items, &bodies)
 }
 
 // l: if (0) while (1) continue l;
@@ -153,7 +153,7 @@ fn label_of_no_loop(alloc: Global) -> Result<Tracked, AllocError> {
         name: name(1, 0),
         body: Box::new(alloc, tested)?,
     })?;
-    told(alloc, &items, Vec::new(alloc))
+    told(alloc, &items, &[])
 }
 
 // try { } catch (e) { let e; }
@@ -164,7 +164,7 @@ fn caught_twice(alloc: Global) -> Result<Tracked, AllocError> {
         param: Some(name(1, 15)),
         handler: lexical(alloc, 1, 24)?,
     })?;
-    told(alloc, &items, Vec::new(alloc))
+    told(alloc, &items, &[])
 }
 
 // for (let i; ; ) var i;
@@ -179,7 +179,7 @@ fn head_and_var(alloc: Global) -> Result<Tracked, AllocError> {
         update: None,
         body: Box::new(alloc, var(alloc, 1, 20)?)?,
     })?;
-    told(alloc, &items, Vec::new(alloc))
+    told(alloc, &items, &[])
 }
 
 // () => NAME, of which nothing looks at the end
@@ -216,7 +216,7 @@ fn own_name(alloc: Global) -> Result<Tracked, AllocError> {
     })?;
     let mut bodies = Vec::new(alloc);
     bodies.push(body)?;
-    told(alloc, &items, bodies)
+    told(alloc, &items, &bodies)
 }
 
 #[test]

@@ -1,16 +1,18 @@
 -- The command: what the sink has taken is a front of the answer.
-use Rattle.std.proofs.Common.{◌≡◌, ℕ, ◌⊎◌, inl, inr, Bool, true, false, List, [], ◌∷◌, ◌++◌, Option, Some, None, Vec, String, map, refl, ap, sym, ◌∙◌, subst, append-nil, if◌then◌else◌}
+use Rattle.std.proofs.Common.{◌≡◌, ℕ, Bool, true, false, List, [], ◌∷◌, ◌++◌, Option, Some, None, Vec, String, map, refl, ap, sym, ◌∙◌, subst, append-nil, if◌then◌else◌, ◌+◌, ◌<◌, ◌≤◌, length}
 use Rattle.std.specs.String.{string_bytes}
 use Rattle.std.specs.declared.alloc.Global.{Global}
+use Rattle.std.proofs.lemmas.Bool.{le-leb, lt-leb}
+use Rattle.outside.specs.Shelf.{TurnsToFront, opened}
 use Rattle.outside.specs.Sink.{Gains, GainsFront}
 use Rattle.outside.specs.Loops.{ReadsAllWithin, AreWholeBehind}
 use Rattle.command_words.specs.declared.options.FileJob.{FileJob}
-use Rattle.command_words.specs.Asked.{Asked, Files, Job, job}
+use Rattle.command_words.specs.Asked.{Asked, Files, job}
 use Rattle.command_words.specs.Words.{asked_of}
 use Rattle.command_answer.specs.Answer.{IsAnswer, IsAnswerTo, most_bytes}
 use Rattle.compile_session.specs.declared.file.FileAnswer.{FileAnswer}
 use Rattle.compile_session.specs.Built.{built, built_of, is_built, names_of}
-use Rattle.compile_session.specs.Files.{AnswersAll, SettlesAll}
+use Rattle.compile_session.specs.Files.{AnswersAll, SettlesAll, opened_of}
 
 -- what the words ask for is built
 pub built_is : (words : List (List ℕ)) (j : FileJob) → asked_of words ≡ Some (Files (job j)) → is_built j.command ≡ true → built_of words ≡ Some (job j)
@@ -59,3 +61,47 @@ GainsFront-all (Some taken) now bytes gained = (bytes, [], sym (append-nil bytes
 pub GainsFront-none : (taken : Option (List ℕ)) (bytes : List ℕ) → GainsFront taken taken bytes
 GainsFront-none None bytes = refl
 GainsFront-none (Some taken) bytes = ([], bytes, refl, ap Some (sym (append-nil taken)))
+
+-- ---- the names that the shelf was turned to
+
+opened_yes : (held : List ℕ → List ℕ) (before : ℕ) (name : List ℕ) (names : List (List ℕ)) → before + length (held name) ≤ most_bytes → opened_of held before (name ∷ names) ≡ name ∷ opened_of held (before + length (held name)) names
+opened_yes held before name names few =
+    ap (λ (b : Bool). name ∷ (if b then opened_of held (before + length (held name)) names else [])) (le-leb (before + length (held name)) most_bytes few)
+
+opened_no : (held : List ℕ → List ℕ) (before : ℕ) (name : List ℕ) (names : List (List ℕ)) → most_bytes < before + length (held name) → opened_of held before (name ∷ names) ≡ name ∷ []
+opened_no held before name names many =
+    ap (λ (b : Bool). name ∷ (if b then opened_of held (before + length (held name)) names else [])) (lt-leb (before + length (held name)) most_bytes many)
+
+-- the files that were opened, by what was read, are those that are to be by what the names hold
+pub opened_are : (held : List ℕ → List ℕ) (before : ℕ) (names : List (List ℕ)) (reads : List (Option (Vec ℕ Global))) → AreWholeBehind most_bytes held before names reads → opened names reads ≡ opened_of held before names
+opened_are held before [] reads whole = refl
+opened_are held before (n ∷ ns) [] whole = absurd whole
+opened_are held before (n ∷ ns) (None ∷ rs) whole = sym (opened_no held before n ns whole.0)
+opened_are held before (n ∷ ns) (Some b ∷ rs) whole =
+    ap (λ (l : List (List ℕ)). n ∷ l) (opened_are held (before + length (held n)) ns rs whole.1) ∙ sym (opened_yes held before n ns whole.0.1)
+
+opened_front : (names : List (List ℕ)) (reads : List (Option (Vec ℕ Global))) → (rest : List (List ℕ)) × (names ≡ opened names reads ++ rest)
+opened_front [] reads = ([], refl)
+opened_front (n ∷ ns) [] = (n ∷ ns, refl)
+opened_front (n ∷ ns) (None ∷ rs) = (ns, refl)
+opened_front (n ∷ ns) (Some b ∷ rs) =
+    let h = opened_front ns rs in
+    (h.0, ap (λ (l : List (List ℕ)). n ∷ l) h.1)
+
+-- the names of the files that are read
+names_are : (words : List (List ℕ)) (j : FileJob) (files : List (String Global)) → (asked_of words ≡ Some (Files (job j))) × (is_built j.command ≡ true) → files ≡ j.files.items → map string_bytes files ≡ names_of (built_of words)
+names_are words j files is same = ap (map string_bytes) same ∙ sym (ap names_of (built_is words j is.0 is.1))
+
+-- the shelf was turned to a front of them
+pub turned_front : (words : List (List ℕ)) (j : FileJob) (files : List (String Global)) (reads : List (Option (Vec ℕ Global))) (before now : List (List ℕ)) → (asked_of words ≡ Some (Files (job j))) × (is_built j.command ≡ true) → files ≡ j.files.items
+    → now ≡ before ++ opened (map string_bytes files) reads → TurnsToFront before now (names_of (built_of words))
+turned_front words j files reads before now is same turned =
+    let h = opened_front (map string_bytes files) reads in
+    subst (λ (ns : List (List ℕ)). TurnsToFront before now ns) (names_are words j files is same) (opened (map string_bytes files) reads, h.0, h.1, turned)
+
+-- where the shelf tells what it holds, it was turned to those that are to be opened
+pub turned_all : (words : List (List ℕ)) (j : FileJob) (files : List (String Global)) (shelf : Option (List ℕ → List ℕ)) (held : List ℕ → List ℕ) (reads : List (Option (Vec ℕ Global))) (before now : List (List ℕ)) → (asked_of words ≡ Some (Files (job j))) × (is_built j.command ≡ true) → files ≡ j.files.items
+    → shelf ≡ Some held → ReadsAllWithin shelf (map string_bytes files) most_bytes reads → now ≡ before ++ opened (map string_bytes files) reads → now ≡ before ++ opened_of held 0 (names_of (built_of words))
+turned_all words j files shelf held reads before now is same tells read turned =
+    let whole : AreWholeBehind most_bytes held 0 (map string_bytes files) reads = subst (λ (s : Option (List ℕ → List ℕ)). ReadsAllWithin s (map string_bytes files) most_bytes reads) tells read in
+    turned ∙ ap (λ (ns : List (List ℕ)). before ++ ns) (opened_are held 0 (map string_bytes files) reads whole) ∙ ap (λ (ns : List (List ℕ)). before ++ opened_of held 0 ns) (names_are words j files is same)

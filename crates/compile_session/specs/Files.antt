@@ -1,5 +1,5 @@
 -- How a command ends, and what it answers for all its files.
-use Rattle.std.specs.Prelude.{◌≡◌, ℕ, ◌+◌, Bool, true, false, ◌||◌, List, [], ◌∷◌, ◌++◌, length, Vec, Option}
+use Rattle.std.specs.Prelude.{◌≡◌, ℕ, ◌+◌, nat_le, Bool, true, false, if◌then◌else◌, List, [], ◌∷◌, length, Vec, Option}
 use Rattle.std.specs.declared.alloc.Global.{Global}
 use Rattle.outside.specs.Loops.{AreWholeBehind}
 use Rattle.command_words.specs.Asked.{Job}
@@ -38,3 +38,10 @@ pub record SettlesAll (job : Job) (held : List ℕ → List ℕ) (before : ℕ) 
 -- the same of what was read of the files of a command
 abbrev pub AnswersAll : Job → List (Option (Vec ℕ Global)) → FileAnswer → Type 0
 AnswersAll job reads answer = (held : List ℕ → List ℕ) → AreWholeBehind most_bytes held 0 job.files reads → SettlesAll job held 0 job.files answer.text.items answer.refused
+
+-- of the files of these names, behind so many bytes of others, those that are opened: up to and including the first with which
+-- the files are more than 16,777,215 bytes, all where there is no such
+abbrev pub opened_of : (List ℕ → List ℕ) → ℕ → List (List ℕ) → List (List ℕ)
+opened_of held before [] = []
+opened_of held before (name ∷ names) =
+    name ∷ (if nat_le (before + length (held name)) most_bytes then opened_of held (before + length (held name)) names else [])

@@ -7,7 +7,7 @@ ghost use Rattle.outside.specs.Sink.{Gains, GainsFront};
 ghost use Rattle.command_answer.specs.Answer.{IsAnswer};
 ghost use Rattle.compile_session.specs.Built as definition;
 ghost use Rattle.compile_session.specs.Built.{IsJobOf, built_of, names_of};
-ghost use Rattle.compile_session.specs.Files.{IsBefore, IsWhole, status_of};
+ghost use Rattle.compile_session.specs.Files.{IsBefore, IsWhole, opened_of, status_of};
 
 use crate::file::MOST_BYTES;
 use crate::files::answers_of;
@@ -77,9 +77,10 @@ pub fn run<R: Threads + Wait, L: Shelf, K: Sink, G: Gate, T: Tally>(
     ensures complete { built_of (map string_bytes words.now) ≢ None → L.faults shelf.new ≡ L.faults shelf.old →
         K.faults sink.new ≡ K.faults sink.old → IsWhole result ⊎ (result ≡ Status.NoMemory) }
 
-    // The names that the shelf was turned to, and what stays.
+    // The names that the shelf was turned to: all up to and including the first with which the files are too long. And what stays.
     ensures names { TurnsToFront (L.turned shelf.old) (L.turned shelf.new) (names_of (built_of (map string_bytes words.now))) }
-    ensures all_names { IsWhole result → L.turned shelf.new ≡ L.turned shelf.old ++ names_of (built_of (map string_bytes words.now)) }
+    ensures all_names { (held : List ℕ → List ℕ) → L.held shelf.old ≡ Some held → IsWhole result →
+        L.turned shelf.new ≡ L.turned shelf.old ++ opened_of held 0 (names_of (built_of (map string_bytes words.now))) }
     ensures unread { result ≡ Status.BadWords → L.turned shelf.new ≡ L.turned shelf.old }
     ensures same { L.held shelf.new ≡ L.held shelf.old }
     ensures count { T.count tally.new ≡ T.count tally.old }

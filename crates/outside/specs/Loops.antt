@@ -77,3 +77,10 @@ abbrev pub HasLeft : Option ℕ → Option (Vec ℕ Global) → Type 0
 HasLeft left None = Unit {0}
 HasLeft None (Some bytes) = ⊥
 HasLeft (Some left) (Some bytes) = length bytes.items ≤ left
+
+-- bytes are left behind a file exactly where some were left before it and it was read
+abbrev pub GoesOn : Option ℕ → Option (Vec ℕ Global) → Option ℕ → Type 0
+GoesOn None read now = now ≡ None
+GoesOn (Some left) None now = now ≡ None
+GoesOn (Some left) (Some bytes) None = ⊥
+GoesOn (Some left) (Some bytes) (Some now) = Unit {0}

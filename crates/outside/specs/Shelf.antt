@@ -1,6 +1,7 @@
 -- What the calls of a shelf do to its five meanings, each by cases on the call's answer. The shelf is
 -- this project's own: nothing outside is named by it.
-use Rattle.std.specs.Prelude.{◌≡◌, ℕ, ◌<◌, Bool, true, false, List, [], ◌∷◌, ◌++◌, suc, zero, take, drop, Option, Some, None, Result, Ok, Err, ◌⊎◌}
+use Rattle.std.specs.Prelude.{◌≡◌, ℕ, ◌<◌, Bool, true, false, List, [], ◌∷◌, ◌++◌, suc, zero, take, drop, Option, Some, None, Vec, Result, Ok, Err, ◌⊎◌}
+use Rattle.std.specs.declared.alloc.Global.{Global}
 use Rattle.outside.specs.declared.shelf.ShelfRefusal.{ShelfRefusal}
 use Rattle.outside.specs.declared.shelf.ShelfRefusal.TheVariants.{Failed, NoMemory}
 
@@ -68,7 +69,19 @@ TurnsToRead before now name (Err NoMemory) = TurnsAtMost before now name
 abbrev pub TurnsToFront : List (List ℕ) → List (List ℕ) → List (List ℕ) → Type 0
 TurnsToFront before now names = (front : List (List ℕ)) × (rest : List (List ℕ)) × (names ≡ front ++ rest) × (now ≡ before ++ front)
 
--- the names that reading many files turns to: all of them, or, after a refusal, some from the first on
-abbrev pub TurnsToAll : {T : Type 0} → List (List ℕ) → List (List ℕ) → List (List ℕ) → Result T ShelfRefusal → Type 0
-TurnsToAll before now names (Ok _) = now ≡ before ++ names
-TurnsToAll before now names (Err _) = TurnsToFront before now names
+-- where at most so many bytes may be read, if any: the names that reading a file turns to, none where no byte may be read
+abbrev pub TurnsToNext : {T : Type 0} → Option ℕ → List (List ℕ) → List (List ℕ) → List ℕ → Result T ShelfRefusal → Type 0
+TurnsToNext None before now name result = now ≡ before
+TurnsToNext (Some left) before now name result = TurnsToRead before now name result
+
+-- of these names, of whose files this was read: those up to the first of which none was read, all where there is no such
+abbrev pub opened : List (List ℕ) → List (Option (Vec ℕ Global)) → List (List ℕ)
+opened [] reads = []
+opened (name ∷ names) [] = []
+opened (name ∷ names) (None ∷ reads) = name ∷ []
+opened (name ∷ names) (Some bytes ∷ reads) = name ∷ opened names reads
+
+-- the names that reading many files turns to: those that are opened, or, after a refusal, some from the first on
+abbrev pub TurnsToOpened : List (List ℕ) → List (List ℕ) → List (List ℕ) → Result (Vec (Option (Vec ℕ Global)) Global) ShelfRefusal → Type 0
+TurnsToOpened before now names (Ok reads) = now ≡ before ++ opened names reads.items
+TurnsToOpened before now names (Err _) = TurnsToFront before now names

@@ -2,8 +2,8 @@
 
 ghost use Rattle.std.specs.Prelude.{◌≡◌, ℕ, ◌+◌, ◌-◌, ◌^◌, ◌<◌, ◌≤◌, true, [], ◌++◌, List, Some, length, map, IfOk, IfSome, OnOk};
 ghost use Rattle.std.specs.String.{string_bytes};
-ghost use Rattle.outside.specs.Shelf.{CountsShelf, TurnsToAll, TurnsToRead};
-ghost use Rattle.outside.specs.Loops.{AreLeft, EndsWithin, HasAtMost, HasLeft, HasRead, HaveAtMost, IsWholeBehind, ReadsAllWithin, ReadsBehind, ReadsNameWithin};
+ghost use Rattle.outside.specs.Shelf.{CountsShelf, TurnsToNext, TurnsToOpened, TurnsToRead};
+ghost use Rattle.outside.specs.Loops.{AreLeft, EndsWithin, GoesOn, HasAtMost, HasLeft, HasRead, HaveAtMost, IsWholeBehind, ReadsAllWithin, ReadsBehind, ReadsNameWithin};
 
 use crate::shelf::{Shelf, ShelfRefusal};
 use std::alloc::Global;
@@ -77,7 +77,7 @@ pub fn read_file<L: Shelf>(
     }
 }
 
-/// Reads the file of this name, of which no more bytes are wanted than are left; none are where `left` is none.
+/// Reads the file of this name, of which no more bytes are wanted than are left; it is not opened where `left` is none.
 fn read_next<L: Shelf>(
     alloc: Global,
     shelf: &mut L,
@@ -89,18 +89,14 @@ fn read_next<L: Shelf>(
     requires most { most < 2 ^ 62 }
     requires few { IfSome left (λ l. l ≤ most) }
     ensures count { CountsShelf (L.faults shelf.old) (L.faults shelf.new) result }
-    ensures names { TurnsToRead (L.turned shelf.old) (L.turned shelf.new) name.now result }
+    ensures names { TurnsToNext left (L.turned shelf.old) (L.turned shelf.new) name.now result }
     ensures same { L.held shelf.new ≡ L.held shelf.old }
     ensures within { IfOk result (HasLeft left) }
     ensures read { (before : ℕ) → AreLeft most before left → IfOk result (ReadsBehind (L.held shelf.old) name.now most before) }
 {
     match left {
         Some(left) => read_file(alloc, shelf, name, left),
-        None => match read_file(alloc, shelf, name, 0) {
-            Ok(_) => Ok(None),
-            Err(ShelfRefusal::Failed) => Err(ShelfRefusal::Failed),
-            Err(ShelfRefusal::NoMemory) => Err(ShelfRefusal::NoMemory),
-        },
+        None => Ok(None),
     }
 }
 
@@ -109,6 +105,7 @@ fn left_behind(left: Option<usize>, read: &Option<Vec<u8>>) -> Option<usize>
     requires { HasLeft left read.now }
     ensures within { (most : ℕ) → IfSome left (λ l. l ≤ most) → IfSome result (λ l. l ≤ most) }
     ensures left { (most before : ℕ) (file : List ℕ) → AreLeft most before left → IsWholeBehind most before file read.now → AreLeft most (before + length file) result }
+    ensures on { GoesOn left read.now result }
 {
     match (left, read) {
         (Some(left), Some(bytes)) => Some(left - bytes.len()),
@@ -117,7 +114,7 @@ fn left_behind(left: Option<usize>, read: &Option<Vec<u8>>) -> Option<usize>
 }
 
 /// Turns the shelf to these names, one after another, and reads their files whole: of each its bytes, or none where the bytes
-/// of the files up to it are more than `most`.
+/// of the files up to it are more than `most`. Files behind the first such are not opened.
 pub fn read_files<L: Shelf>(
     alloc: Global,
     shelf: &mut L,
@@ -127,7 +124,7 @@ pub fn read_files<L: Shelf>(
     requires counted { L.faults shelf.old < 2 ^ 64 - 1 }
     requires most { most < 2 ^ 62 }
     ensures count { CountsShelf (L.faults shelf.old) (L.faults shelf.new) result }
-    ensures names { TurnsToAll (L.turned shelf.old) (L.turned shelf.new) (map string_bytes names.now) result }
+    ensures names { TurnsToOpened (L.turned shelf.old) (L.turned shelf.new) (map string_bytes names.now) result }
     ensures same { L.held shelf.new ≡ L.held shelf.old }
     ensures within { IfOk result (λ reads. HaveAtMost most reads.items) }
     ensures read { IfOk result (λ reads. ReadsAllWithin (L.held shelf.old) (map string_bytes names.now) most reads.items) }
@@ -148,4 +145,40 @@ pub fn read_files<L: Shelf>(
         }
     }
     Ok(reads)
+}
+
+#[cfg(test)]
+mod tests {
+    use super::*;
+    use crate::memory_shelf::MapShelf;
+    use std::alloc::AllocError;
+    use std::test::Fail;
+
+    /// How many files are answered, and of how many of them none was read, where `a.js` has three bytes, `b.js` is missing and
+    /// no more than `most` are wanted; none where the shelf refused.
+    fn reads_of_two(alloc: Global, most: usize) -> Result<Option<(usize, usize)>, AllocError>
+        requires { most < 2 ^ 62 }
+    {
+        let mut files = Vec::new(alloc);
+        let bytes = Vec::from_slice(alloc, b"1+2")?;
+        files.push((String::from_str(alloc, "a.js")?, bytes))?;
+        let mut shelf = MapShelf::new(alloc, files, Vec::new(alloc));
+        let mut names = Vec::new(alloc);
+        names.push(String::from_str(alloc, "a.js")?)?;
+        names.push(String::from_str(alloc, "b.js")?)?;
+        match read_files(alloc, &mut shelf, &names, most) {
+            Ok(reads) => {
+                let long = reads.iter().filter(|read| read.is_none()).count();
+                Ok(Some((reads.len(), long)))
+            }
+            Err(_) => Ok(None),
+        }
+    }
+
+    #[test]
+    fn opens_no_file_behind_a_long_one(rt: HostRuntime) -> Result<(), Fail> {
+        assert!(rt; reads_of_two(rt.alloc(), 2)? == Some((2, 2)));
+        assert!(rt; reads_of_two(rt.alloc(), 3)?.is_none());
+        Ok(())
+    }
 }

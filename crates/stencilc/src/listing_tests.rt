@@ -4,7 +4,7 @@ ghost use Rattle.std.specs.Prelude.{◌-◌, ◌^◌, ◌<◌};
 
 use super::ROOM;
 use super::tests::{SUM, file};
-use compile_session::{FirmShelf, FirmSink, OpenGate, Sheet, Status, run};
+use compile_session::{FirmShelf, FirmSink, MapShelf, OpenGate, Sheet, Shelf, Status, run};
 use std::alloc::{AllocError, Global};
 use std::sync::Wait;
 use std::test::Fail;
@@ -19,6 +19,23 @@ fn words_of(alloc: Global, words: &[&str]) -> Result<Vec<String>, AllocError> {
     Ok(out)
 }
 
+/// The status of a command over this shelf, and whether just this was printed.
+fn prints_from<R: Threads + Wait, L: Shelf>(
+    rt: &R,
+    alloc: Global,
+    words: &[&str],
+    shelf: &mut L,
+    wanted: &[u8],
+) -> Result<(Status, bool), AllocError>
+    requires { L.faults shelf.old < 2 ^ 64 - 1 }
+{
+    let words = words_of(alloc, words)?;
+    let mut sink = FirmSink::new(alloc);
+    let mut tally = Sheet::new(ROOM);
+    let status = run(rt, alloc, &words, shelf, &mut sink, &OpenGate, &mut tally);
+    Ok((status, sink.bytes() == wanted))
+}
+
 /// The status of a command over these files, and whether just this was printed.
 fn prints<R: Threads + Wait>(
     rt: &R,
@@ -27,14 +44,8 @@ fn prints<R: Threads + Wait>(
     files: Vec<(String, Vec<u8>)>,
     wanted: &[u8],
 ) -> Result<(Status, bool), AllocError> {
-    let words = words_of(alloc, words)?;
     let mut shelf = FirmShelf::new(alloc, files);
-    let mut sink = FirmSink::new(alloc);
-    let mut tally = Sheet::new(ROOM);
-    let status = run(
-        rt, alloc, &words, &mut shelf, &mut sink, &OpenGate, &mut tally,
-    );
-    Ok((status, sink.bytes() == wanted))
+    prints_from(rt, alloc, words, &mut shelf, wanted)
 }
 
 /// Whether the command prints just this for the file `a.js` with this text.
@@ -269,9 +280,10 @@ fn files_are_too_long_together(rt: HostRuntime) -> Result<(), Fail> {
     let blanks = vec![in alloc; b' '; 16777215]?;
     let mut files = file(alloc, "a.js", &blanks)?;
     files.extend(file(alloc, "b.js", b";")?)?;
-    let words: &[&str] = &["check", "a.js", "b.js"];
-    let lines: &[u8] = b"a.js: ok, 0 functions\nb.js: too long\n";
-    let (status, same) = prints(&rt, alloc, words, files, lines)?;
+    let words: &[&str] = &["check", "a.js", "b.js", "missing.js"];
+    let lines: &[u8] = b"a.js: ok, 0 functions\nb.js: too long\nmissing.js: too long\n";
+    let mut shelf = MapShelf::new(alloc, files, Vec::new(alloc));
+    let (status, same) = prints_from(&rt, alloc, words, &mut shelf, lines)?;
     assert!(rt; status == Status::Refused);
     assert!(rt; same);
     Ok(())

@@ -1,4 +1,4 @@
-use Rattle.std.proofs.Common.{List, map, take}
+use Rattle.std.proofs.Common.{map, take}
 use Rattle.std.specs.String.{string_bytes}
 use Rattle.outside.proofs.ManyLemmas.{IsReadingAll}
 use Rattle.outside.proofs.reading.read_files.Given as goal

@@ -280,9 +280,21 @@ fn files_are_too_long_together(rt: HostRuntime) -> Result<(), Fail> {
     let blanks = vec![in alloc; b' '; 16777215]?;
     let mut files = file(alloc, "a.js", &blanks)?;
     files.extend(file(alloc, "b.js", b";")?)?;
-    let words: &[&str] = &["check", "a.js", "b.js", "missing.js"];
-    let lines: &[u8] = b"a.js: ok, 0 functions\nb.js: too long\nmissing.js: too long\n";
-    let mut shelf = MapShelf::new(alloc, files, Vec::new(alloc));
+    let words: &[&str] = &["check", "a.js", "b.js"];
+    let lines: &[u8] = b"a.js: ok, 0 functions\nb.js: too long\n";
+    let (status, same) = prints(&rt, alloc, words, files, lines)?;
+    assert!(rt; status == Status::Refused);
+    assert!(rt; same);
+    Ok(())
+}
+
+#[test]
+fn opens_no_file_behind_a_long_one(rt: HostRuntime) -> Result<(), Fail> {
+    let alloc = rt.alloc();
+    let bytes = vec![in alloc; 0xFFu8; 16777216]?;
+    let mut shelf = MapShelf::new(alloc, file(alloc, "a.js", &bytes)?, Vec::new(alloc));
+    let words: &[&str] = &["check", "a.js", "b.js"];
+    let lines: &[u8] = b"a.js: too long\nb.js: too long\n";
     let (status, same) = prints_from(&rt, alloc, words, &mut shelf, lines)?;
     assert!(rt; status == Status::Refused);
     assert!(rt; same);

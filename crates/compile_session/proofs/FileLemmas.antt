@@ -1,17 +1,16 @@
 -- One file: what is printed is its answer.
-use Rattle.std.proofs.Common.{◌≡◌, ℕ, ◌+◌, ◌<◌, ◌≤◌, ◌⊎◌, inl, inr, Bool, true, false, List, [], ◌∷◌, ◌++◌, length, map, Option, Some, None, Vec, refl, ap, sym, ◌∙◌, subst, arith, filter, All, Contains}
+use Rattle.std.proofs.Common.{◌≡◌, ℕ, ◌+◌, ◌≤◌, Bool, true, false, List, length, Option, Some, Vec, refl, ◌∙◌, subst}
 use Rattle.std.specs.declared.alloc.Global.{Global}
 use Rattle.outside.specs.Loops.{IsWholeBehind}
-use Rattle.command_words.specs.Asked.{Wanted, Job}
-use Rattle.command_words.specs.Asked as asked
+use Rattle.command_words.specs.Asked.{Job}
 use Rattle.command_answer.specs.Answer.{most_bytes}
 use Rattle.command_answer.specs.Refusals.{refusal_line}
-use Rattle.command_answer.specs.Sources.{IsScript, IsRefused, IsLeastOf, missing}
+use Rattle.command_answer.specs.Sources.{IsScript, IsRefused}
 use Rattle.compile_session.specs.declared.file.Outcome.{Outcome}
 use Rattle.compile_session.specs.declared.file.Outcome.TheVariants as outcome
 use Rattle.compile_session.specs.declared.refusal.Refusal.{Refusal}
 use Rattle.compile_session.specs.Built.{is_built}
-use Rattle.compile_session.specs.Answers.{IsOutcome, IsMissing, Settles, refusal_of}
+use Rattle.compile_session.specs.Answers.{IsOutcome, Settles, refusal_of}
 use Rattle.compile_session.proofs.SourceLemmas.{settles_source}
 
 -- the outcome of a file that was read whole

@@ -1,5 +1,5 @@
 -- Many files: their answer is put together from those of each, and there is no other.
-use Rattle.std.proofs.Common.{◌≡◌, ℕ, zero, suc, ◌+◌, ◌<◌, ◌≤◌, Bool, true, false, List, [], ◌∷◌, ◌++◌, length, min, Option, Some, None, Vec, String, map, take, drop, get_or, refl, ap, sym, ◌∙◌, subst, append_assoc, append-nil, arith}
+use Rattle.std.proofs.Common.{◌≡◌, ℕ, zero, suc, ◌+◌, ◌<◌, ◌≤◌, Bool, true, false, List, [], ◌∷◌, ◌++◌, length, min, Option, Vec, String, map, take, drop, get_or, refl, ap, sym, ◌∙◌, subst, append_assoc, append-nil, arith}
 use Rattle.std.specs.Prelude.{◌||◌}
 use Rattle.std.specs.String.{string_bytes}
 use Rattle.std.specs.declared.alloc.Global.{Global}
@@ -7,7 +7,7 @@ use Rattle.std.proofs.lemmas.List.{get_or-map, length-map}
 use Rattle.outside.specs.Loops.{HasAtMost, HaveAtMost, IsWholeBehind, AreWholeBehind}
 use Rattle.command_words.specs.declared.options.FileJob.{FileJob}
 use Rattle.command_words.specs.Asked.{Job, job}
-use Rattle.command_answer.specs.Answer.{IsOfFiles, most_bytes}
+use Rattle.command_answer.specs.Answer.{most_bytes}
 use Rattle.compile_session.specs.declared.file.FileAnswer.{FileAnswer}
 use Rattle.compile_session.specs.Answers.{Settles, SettlesRead}
 use Rattle.compile_session.specs.Files.{SettlesAll}

@@ -1,5 +1,5 @@
 -- What becomes of a script whose trees were kept.
-use Rattle.std.proofs.Common.{◌≡◌, ℕ, ◌≤◌, ◌<◌, ◌^◌, Bool, true, false, List, [], ◌∷◌, ◌++◌, length, map, Option, Some, None, Vec, refl, ap, sym, ◌∙◌, subst, arith, reverse, codes}
+use Rattle.std.proofs.Common.{◌≡◌, ℕ, true, List, [], ◌∷◌, ◌++◌, map, Option, Some, None, Vec, refl, ap, sym, ◌∙◌, subst, arith, reverse, codes}
 use Rattle.std.proofs.lemmas.List.{reverse-reverse}
 use Rattle.std.specs.Fmt.{decimal}
 use Rattle.std.specs.declared.alloc.Global.{Global}
@@ -21,7 +21,6 @@ use Rattle.parse_track.specs.Tells.{tells_script}
 use Rattle.renamed_names.specs.Renaming.{renamed_bound}
 use Rattle.renamed_names.specs.Texts.{text_at}
 use Rattle.closed_scopes.specs.Names.{OfEachNameToken, IsNotThis}
-use Rattle.script_limits.specs.Limits.{ScriptStands}
 use Rattle.script_limits.proofs.Files.{file_stands}
 use Rattle.this_names.proofs.OtherNames.{names_are_others}
 use Rattle.site_laws.proofs.TellingFunctions.{told_count}

@@ -1,11 +1,9 @@
 -- What becomes of a file that was read, from the trees that were kept of it.
-use Rattle.std.proofs.Common.{◌≡◌, ℕ, zero, suc, ◌≤◌, ◌<◌, ◌^◌, Bool, true, false, List, [], ◌∷◌, ◌++◌, length, map, get_or, Option, Some, None, Vec, refl, ap, sym, ◌∙◌, subst, arith, reverse, codes}
-use Rattle.std.proofs.lemmas.List.{reverse-reverse}
+use Rattle.std.proofs.Common.{◌≡◌, ℕ, zero, suc, ◌≤◌, ◌<◌, Bool, true, List, [], ◌∷◌, ◌++◌, length, map, get_or, Some, Vec, refl, ap, ◌∙◌, subst, arith, codes}
 use Rattle.std.specs.Prelude.{slice_get, ◌||◌, ◌&&◌}
 use Rattle.std.proofs.Math.Bool.{or-true}
 use Rattle.std.proofs.lemmas.Bool.{eq-eqb}
-use Rattle.std.specs.Fmt.{decimal}
-use Rattle.std.specs.Str.{IsUtf8, bytes_eq}
+use Rattle.std.specs.Str.{bytes_eq}
 use Rattle.std.specs.declared.alloc.Global.{Global}
 use Rattle.script_grammar.specs.declared.token.Token.{Token}
 use Rattle.script_grammar.specs.declared.tree.Stmt.{Stmt}
@@ -13,20 +11,14 @@ use Rattle.script_grammar.specs.Fault.{Refusal as Fault, FirstFault, ScriptPart}
 use Rattle.script_grammar.specs.Lexeme.{Lexeme, lexeme_of}
 use Rattle.script_grammar.specs.Pieces.{whole}
 use Rattle.script_grammar.specs.Tree.{Stmts, no_stmts}
-use Rattle.script_grammar.specs.TreeLists.{stmts_of}
-use Rattle.script_grammar.specs.TreeOf.{stmt_of}
 use Rattle.function_starts.specs.Own.{TokensRise}
 use Rattle.parse_bodies.specs.declared.whole.Script.{Script}
 use Rattle.parse_bodies.specs.Whole.{IsText}
-use Rattle.parse_track.specs.declared.region.Early.{Early}
-use Rattle.parse_track.specs.Notes.{early_error}
 use Rattle.renamed_names.specs.Texts.{NamesAreFull}
 use Rattle.scope_analysis.specs.DeclaredNames.{has_text}
 use Rattle.scope_analysis.specs.FunctionTree.{KnowsNames}
 use Rattle.script_errors.specs.Kept.{IsKept, AreKept}
 use Rattle.script_errors.specs.Kept as kept
-use Rattle.script_errors.proofs.Own.{own, top_own}
-use Rattle.script_scanner.specs.Lexemes.{lexemes}
 use Rattle.command_answer.specs.Sources.{IsRead}
 use Rattle.command_answer.specs.Sources as source
 use Rattle.compile_session.specs.declared.file_tokens.FileTokens.{FileTokens}

@@ -1,9 +1,8 @@
 -- A file of source text is one thing, and one text is written for it.
-use Rattle.std.proofs.Common.{◌≡◌, ℕ, zero, suc, ◌+◌, ◌<◌, ◌≤◌, ◌⊎◌, inl, inr, Bool, true, false, List, [], ◌∷◌, ◌++◌, length, get_or, Option, Some, None, map, refl, ap, sym, ◌∙◌, subst, arith, All, Contains, filter}
+use Rattle.std.proofs.Common.{◌≡◌, ℕ, ◌+◌, ◌<◌, ◌≤◌, inl, inr, Bool, true, List, [], ◌++◌, length, Option, Some, None, map, ap, sym, ◌∙◌, subst, arith, Contains}
 use Rattle.std.specs.Str.{IsUtf8}
 use Rattle.std.proofs.lemmas.List.Elements.{All-contains}
 use Rattle.script_grammar.specs.Fault.{Refusal as Fault, Unexpected, TooDeep}
-use Rattle.script_grammar.specs.Lexeme.{Lexeme}
 use Rattle.script_grammar.specs.Tree.{Stmts}
 use Rattle.stencil_data.specs.Named.{NamedFunction, NamedMerged}
 use Rattle.bytecode_buf.specs.Command.{Command}
@@ -20,11 +19,11 @@ use Rattle.lazy_compile.specs.Shown as show
 use Rattle.command_answer.proofs.Counts.{one_count}
 use Rattle.lazy_compile.proofs.Sites.{one_functions}
 use Rattle.script_image.specs.ScriptLines.{code_text, scope_text, listed_merged}
-use Rattle.command_answer.specs.Answer.{IsWritten, IsOfSource, IsOfFile, IsOf, FromSource, Shows, RefusedAs, file_line, to_show, most_bytes}
+use Rattle.command_answer.specs.Answer.{IsWritten, IsOfSource, IsOf, FromSource, file_line, to_show, most_bytes}
 use Rattle.command_answer.specs.Counted.{HasFunctions}
 use Rattle.command_answer.specs.Refusals as line
 use Rattle.command_answer.specs.Refusals.{Refusal, refusal_line}
-use Rattle.command_answer.specs.Sources.{Source, IsScript, IsRefused, IsSource, IsRead, IsValid, HasAll, NotUtf8, FaultAt, ErrorAt, LacksFunction, IsLeastOf, missing}
+use Rattle.command_answer.specs.Sources.{Source, IsScript, IsRefused, IsSource, IsRead, IsValid, HasAll, FaultAt, ErrorAt, LacksFunction, IsLeastOf, missing}
 use Rattle.compile_session.specs.Built.{is_built}
 use Rattle.compile_session.specs.Answers.{Settles}
 use Rattle.compile_session.specs.Faulty.{IsFaulty}

@@ -1,5 +1,5 @@
 -- What the calls for one file answer.
-use Rattle.std.specs.Prelude.{◌≡◌, ℕ, ◌≤◌, Bool, List, [], length, map, Option, Some, None, Vec, IsUtf8}
+use Rattle.std.specs.Prelude.{◌≡◌, ℕ, ◌≤◌, Bool, List, [], length, Option, Some, None, Vec, IsUtf8}
 use Rattle.std.specs.declared.alloc.Global.{Global}
 use Rattle.script_grammar.specs.declared.tree.Stmt.{Stmt}
 use Rattle.script_grammar.specs.Tree.{Stmts}
@@ -8,7 +8,6 @@ use Rattle.outside.specs.Loops.{IsWholeBehind}
 use Rattle.parse_bodies.specs.declared.whole.Script.{Script}
 use Rattle.parse_bodies.specs.Whole.{IsText}
 use Rattle.script_errors.specs.Kept.{AreKept}
-use Rattle.command_words.specs.declared.options.Command.{Command}
 use Rattle.command_words.specs.Asked.{Wanted, Job}
 use Rattle.command_answer.specs.Answer.{IsOfFile, IsWritten, most_bytes}
 use Rattle.command_answer.specs.Refusals as line

@@ -7,13 +7,13 @@
 //! `emit_stmt` appends the code of a whole statement (`stmts`), for every form of a statement; its clause is that of
 //! `specs/StmtCode.antt`. It is one cycle with a function for each row of the table of code. Below it stand the site of a
 //! statement with the frames around it (`stmt_site`, `frames`), the jumps out of these (`leaving`, `returning`), scopes
-//! that are entered and left (`entering`, `inside`, `scoping`), functions that are declared (`functions`), whether there
-//! are any names for a scope (`declares`), and the rows without statements in them (`simple`, `valued`, `bindings`,
-//! `heads`, `storing`, `switching`, `trying`).
+//! that are entered and left (`entering`, `inside`, `scoping`) and the links that they make (`links`), functions that are
+//! declared (`functions`), whether there are any names for a scope (`declares`), and the rows without statements in them
+//! (`simple`, `valued`, `bindings`, `heads`, `storing`, `switching`, `trying`).
 //!
 //! `top` makes the script's own stencil (`scripts`), where its scopes and the extents of the functions directly in it are
-//! handed in; its clause is that of `specs/ScriptCode.antt`. Functions are defined and not emitted yet, and nothing here
-//! finds the functions in a tree or makes the chains at them.
+//! handed in; its clause is that of `specs/ScriptCode.antt`. The stencils of functions, which `specs/Functions.antt` defines,
+//! are made by emit_functions, and inner_functions finds the functions directly in a tree with the chains at them.
 #![tactic(auto)]
 
 pub mod bindings;
@@ -25,6 +25,7 @@ pub mod functions;
 pub mod heads;
 pub mod inside;
 pub mod leaving;
+pub mod links;
 pub mod returning;
 pub mod scoping;
 pub mod scripts;

@@ -1,8 +1,6 @@
 //! Scopes that are entered and left.
 ghost use Rattle.std.specs.Prelude.{◌≡◌, ◌∷◌, true, OnOk, IfOk};
 ghost use Rattle.stencil_data.specs.Fits.{LinksFit};
-ghost use Rattle.stencil_data.specs.Resolve.{is_global as is_global_kind};
-ghost use Rattle.stencil_data.specs.StandsFor.{named_bindings, text_at};
 ghost use Rattle.bytecode_buf.specs.Width.{first_of};
 ghost use Rattle.emit_exprs.specs.Sites.{EmitsAt};
 ghost use Rattle.emit_exprs.specs.Steps.{is_counted};
@@ -11,11 +9,12 @@ ghost use Rattle.emit_stmts.specs.Positions.{position_of};
 ghost use Rattle.emit_stmts.specs.Scoping.{scope_in, hidden_in, enters};
 ghost use Rattle.emit_stmts.specs.Stmts as code;
 
+use crate::links::scope_link;
 use crate::stmt_site::StmtSite;
 use bytecode_buf::{CodeBuf, Op};
 use emit_exprs::steps::{counted, plain};
-use std::alloc::{AllocError, Global};
-use stencil_data::{BindKind, Binding, Chain, Link, LinkName, ScopeKind, Slot, Text};
+use std::alloc::AllocError;
+use stencil_data::{BindKind, Binding, Chain, Slot};
 
 /// Whether the scope with this number has an environment.
 pub fn has_env(site: &StmtSite, number: usize) -> bool
@@ -82,75 +81,13 @@ fn frame_slot(slot: Slot) -> Option<u32>
     }
 }
 
-// The text with this atom.
-fn copy_text(alloc: Global, texts: &[Text], atom: u32) -> Result<Text, AllocError>
-    ensures { IfOk result (λ text. text ≡ text_at texts.now atom) }
-{
-    match texts.get(atom as usize) {
-        Some(text) => text.copy(alloc),
-        None => Ok(Text::empty(alloc)),
-    }
-}
-
-// These bindings with their texts.
-fn link_names(
-    alloc: Global,
-    texts: &[Text],
-    bindings: &[Binding],
-) -> Result<Vec<LinkName>, AllocError>
-    ensures { IfOk result (λ names. names.items ≡ named_bindings texts.now bindings.now) }
-{
-    let mut names = Vec::new(alloc);
-    for binding in bindings {
-        names.push(LinkName {
-            text: copy_text(alloc, texts, binding.atom)?,
-            kind: binding.kind,
-            slot: binding.slot,
-        })?;
-    }
-    Ok(names)
-}
-
-fn is_global(kind: ScopeKind) -> bool
-    ensures { result ≡ is_global_kind kind }
-{
-    matches!(kind, ScopeKind::Global)
-}
-
-// The link of a chain that the scope with this number makes.
-fn scope_link(site: &StmtSite, number: usize) -> Result<Link, AllocError>
-    ensures { IfOk result (λ link. link ≡ frames.chain_link (scope_in site.now number)) }
-{
-    match site.scopes.get(number) {
-        Some(scope) => {
-            if is_global(scope.kind) {
-                return Ok(Link {
-                    kind: ScopeKind::Global,
-                    env: false,
-                    names: Vec::new(site.exprs.alloc),
-                });
-            }
-            let names = link_names(site.exprs.alloc, site.exprs.texts, &scope.bindings)?;
-            Ok(Link {
-                kind: scope.kind,
-                env: scope.env_slots > 0,
-                names,
-            })
-        }
-        None => Ok(Link {
-            kind: ScopeKind::Lexical,
-            env: false,
-            names: Vec::new(site.exprs.alloc),
-        }),
-    }
-}
-
 /// The chain inside the scope with this number.
 pub fn chain_inside(site: &StmtSite, number: usize) -> Result<Chain, AllocError>
     ensures chain { IfOk result (λ chain. chain ≡ frames.chain_link (scope_in site.now number) ∷ site.now.exprs.chain.now) }
     ensures slots { IfOk result (λ chain. LinksFit chain) }
 {
-    let link = scope_link(site, number)?;
-    let chain = site.exprs.chain.push(site.exprs.alloc, link)?;
+    let alloc = site.exprs.alloc;
+    let link = scope_link(alloc, site.exprs.texts, site.scopes, number)?;
+    let chain = site.exprs.chain.push(alloc, link)?;
     Ok(chain)
 }

@@ -3,8 +3,8 @@ ghost use Rattle.std.specs.Prelude.{◌≡◌, ◌+◌, ◌≤◌, length, OnOk,
 ghost use Rattle.inner_functions.specs.OwnKinds as own;
 ghost use Rattle.inner_functions.specs.Spots.{spot_of, inside_spot, scope_in, entered, entered_count};
 
-use crate::links::scope_link;
 use crate::sites::InnerSite;
+use emit_stmts::links::scope_link;
 use std::alloc::{AllocError, Global};
 use stencil_data::{Chain, ScopeData, ScopeKind, Text};
 

@@ -1,4 +1,4 @@
-//! Links of chains, made of the scopes of a function.
+//! Links of chains, made of the scopes of a script or a function.
 ghost use Rattle.std.specs.Prelude.{◌≡◌, map, IfOk};
 ghost use Rattle.stencil_data.specs.Resolve.{is_global as is_global_kind};
 ghost use Rattle.stencil_data.specs.StandsFor.{named_bindings, named_scope, text_at};

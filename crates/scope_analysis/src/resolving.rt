@@ -1,20 +1,14 @@
 // Where a name lives, seen from a place of the source.
-ghost use Rattle.std.specs.Prelude.{◌≡◌, ◌+◌, ◌<◌, ◌≤◌, find, option_copied};
+ghost use Rattle.std.specs.Prelude.{◌≡◌, ◌+◌, ◌<◌, ◌≤◌};
 ghost use Rattle.stencil_data.specs.Fits.{ChainFits, PlaceFits, SlotFits};
 ghost use Rattle.stencil_data.specs.Resolve as defined;
 
-use stencil_data::{BindKind, Chain, LinkName, Place, ScopeKind, Slot, Text};
+use stencil_data::{BindKind, Chain, Place, ScopeKind, Slot, Text};
 
 fn is_global(kind: ScopeKind) -> bool
     ensures { result ≡ defined.is_global kind }
 {
     matches!(kind, ScopeKind::Global)
-}
-
-fn first_named<'a>(name: &Text, names: &'a [LinkName]) -> Option<&'a LinkName>
-    ensures { option_copied result ≡ defined.first_named name.now names.now }
-{
-    names.iter().find(|binding| binding.text == *name)
 }
 
 fn place_of(hops: u32, kind: BindKind, slot: Slot) -> Place
@@ -43,7 +37,7 @@ pub fn resolve(chain: &Chain, name: &Text) -> Place
         if is_global(link.kind) {
             return Place::Global;
         }
-        if let Some(binding) = first_named(name, &link.names) {
+        if let Some(binding) = present.innermost_binding(name) {
             return place_of(hops, binding.kind, binding.slot);
         }
         if link.env {

@@ -1,4 +1,5 @@
 pub mod ChainWalk
+pub mod FirstPlaces
 pub mod ResolveFits
 pub mod ResolveRows
 pub mod SlotRows

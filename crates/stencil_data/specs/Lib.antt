@@ -1,4 +1,5 @@
 pub mod ChainFalls
+pub mod FirstPlaces
 pub mod Fits
 pub mod LinkView
 pub mod Links

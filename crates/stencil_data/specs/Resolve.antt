@@ -33,6 +33,11 @@ environment_count chain = sum_by environments_of chain
 abbrev pub first_named : List ℕ → List LinkName → Option LinkName
 first_named name names = find (λ binding. bytes_eq binding.text name) names
 
+-- the bindings of the innermost scope of a chain
+abbrev pub innermost_names : List LinkView → List LinkName
+innermost_names [] = []
+innermost_names (link ∷ outer) = link.names
+
 -- a slot, seen from a use that passes this many environments before the slot's own
 abbrev pub place_of : ℕ → BindKind → Slot → Place
 place_of hops kind slot.Global = place.Global

@@ -1,7 +1,12 @@
 //! Chains: the scopes around a place of the source, as a function that is compiled on its own needs them.
+//!
+//! A chain finds a name in its innermost link by an index of the link's names, which is made where the
+//! link is pushed, so that a use of a name costs no walk along the names of a scope.
 ghost use Rattle.std.specs.Prelude.{◌≡◌, ◌↔◌, [], ◌∷◌, false, IfOk, IfSome, IsTrue, MatchOption, ◌<◌, length, drop, slice_get, option_copied};
 ghost use Rattle.stencil_data.specs.LinksOutside.{links_outside};
+ghost use Rattle.stencil_data.specs.Resolve.{first_named, innermost_names};
 
+use crate::indexed_link::IndexedLink;
 use crate::scopes::{BindKind, ScopeKind, Slot};
 use crate::texts::Text;
 use std::alloc::{AllocError, Global};
@@ -32,11 +37,12 @@ impl Model for Link {
     ghost view = { λ link. record { kind = link.kind; env = link.env; names = link.names.items } };
 }
 
-/// A list of links, innermost first. Chains share the links that they have in common, so a chain takes
-/// memory for its own innermost link alone.
+/// A list of links, innermost first. Chains share the links that they have in common, with their indexes,
+/// so a chain takes memory for its own innermost link alone, and for the index of its names where these
+/// are more than a few.
 #[derive(Debug)]
 pub struct Chain {
-    first: Arc<Link>,
+    first: Arc<IndexedLink>,
     outer: Option<Arc<Chain>>,
 }
 
@@ -82,7 +88,7 @@ impl Chain {
             env: false,
             names: Vec::new(alloc),
         };
-        let first = Arc::new(alloc, link)?;
+        let first = Arc::new(alloc, IndexedLink::new(alloc, link)?)?;
         Ok(Chain { first, outer: None })
     }
 
@@ -90,7 +96,7 @@ impl Chain {
     pub fn push(&self, alloc: Global, link: Link) -> Result<Chain, AllocError>
         ensures { IfOk result (λ chain. chain ≡ link ∷ self.now) }
     {
-        let first = Arc::new(alloc, link)?;
+        let first = Arc::new(alloc, IndexedLink::new(alloc, link)?)?;
         let outer = Arc::new(alloc, self.copy()?)?;
         Ok(Chain {
             first,
@@ -122,8 +128,16 @@ impl Chain {
                 Some(outer) => chain = outer,
             }
         }
-        Some(&chain.first)
+        Some(chain.first.link())
     }
+
+    /// The first binding of this name in the innermost link. It takes no memory.
+    pub fn innermost_binding(&self, name: &Text) -> Option<&LinkName>
+        ensures { option_copied result ≡ first_named name.now (innermost_names self.now) }
+    {
+        self.first.first_named(name)
+    }
+
     /// Whether both chains are equal lists. It takes no memory.
     pub fn same(&self, other: &Chain) -> bool
         ensures { IsTrue result ↔ (self.now ≡ other.now) }
@@ -131,7 +145,7 @@ impl Chain {
         let mut one = self;
         let mut two = other;
         loop {
-            if !one.first.same(&two.first) {
+            if !one.first.link().same(two.first.link()) {
                 return false;
             }
             match one.outer() {
@@ -152,8 +166,7 @@ impl Chain {
         ensures all { self.now ≡ result.0.now ∷ links_outside result.1 }
         ensures outside { IfSome result.1 (λ outer. 0 < length outer.now) }
     {
-        let first: &Link = &self.first;
-        (first, self.outer())
+        (self.first.link(), self.outer())
     }
 
     fn outer(&self) -> Option<&Chain>

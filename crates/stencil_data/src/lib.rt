@@ -15,6 +15,7 @@
 
 pub mod chains;
 pub mod functions;
+mod indexed_link;
 pub mod records;
 pub mod scopes;
 pub mod stencils;

@@ -1,4 +1,4 @@
-//! Texts and chains, once each on their way, and a chain of very many links.
+//! Texts and chains, once each on their way, a chain of very many links, and links of few and of many names.
 use crate::{BindKind, Chain, Link, LinkName, ScopeKind, Slot, Text};
 use std::alloc::{AllocError, Global};
 use std::test::Fail;
@@ -55,5 +55,55 @@ fn a_long_chain_is_dropped_in_a_loop(rt: HostRuntime) -> Result<(), Fail> {
     assert!(rt; chain.same(&copy));
     drop(chain);
     assert!(rt; copy.link(200_000).is_some() && copy.link(200_001).is_none());
+    Ok(())
+}
+
+// A variable whose name has this one unit, in the frame slot of this number.
+fn variable(alloc: Global, unit: u16, slot: u32) -> Result<LinkName, AllocError> {
+    Ok(LinkName {
+        text: Text::of(alloc, &[unit])?,
+        kind: BindKind::Var,
+        slot: Slot::Frame(slot),
+    })
+}
+
+// The frame slot of the binding of a name of one unit.
+fn slot_of(alloc: Global, chain: &Chain, unit: u16) -> Result<Option<Slot>, AllocError> {
+    let name = Text::of(alloc, &[unit])?;
+    Ok(chain.innermost_binding(&name).map(|binding| binding.slot))
+}
+
+// A function of the names of the units from 0 on, and of the first one once more.
+fn function(alloc: Global, count: u16) -> Result<Link, AllocError> {
+    let mut names = Vec::new(alloc);
+    for unit in 0..count {
+        names.push(variable(alloc, unit, u32::from(unit))?)?;
+    }
+    names.push(variable(alloc, 0, u32::from(count))?)?;
+    Ok(Link {
+        kind: ScopeKind::Function,
+        env: false,
+        names,
+    })
+}
+
+#[test]
+fn a_name_has_its_first_binding(rt: HostRuntime) -> Result<(), Fail> {
+    let global = Chain::global(rt.alloc())?;
+    for count in [1_u16, 7, 8, 100] {
+        let chain = global.push(rt.alloc(), function(rt.alloc(), count)?)?;
+        for unit in 0..count {
+            let slot = slot_of(rt.alloc(), &chain, unit)?;
+            assert_eq!(rt; slot, Some(Slot::Frame(u32::from(unit))));
+        }
+        assert!(rt; slot_of(rt.alloc(), &chain, count)?.is_none());
+        let inner = chain.push(rt.alloc(), block(rt.alloc(), 200)?)?;
+        assert!(rt;
+            slot_of(rt.alloc(), &inner, 0)?.is_none(),
+            "it is of the link outside"
+        );
+        assert!(rt; slot_of(rt.alloc(), &inner, 200)? == Some(Slot::Env(0)));
+    }
+    assert!(rt; slot_of(rt.alloc(), &global, 0)?.is_none());
     Ok(())
 }

@@ -19,6 +19,6 @@ loop-preserved c =
 pub returns : goal.returns
 returns c =
     let end : c.loop.counter ≡ c.args.n = omega arith in
-    ap Some c.deref.ensures ∙
+    ap Some (c.link.ensures ∙ c.deref.ensures) ∙
     sym (here_at c.args.n c.args.self.now (arc_value c.chain-2.inside.first) (outer_links c.chain-2.inside.outer)
     (c.chain-2.view_is ∙ c.loop.invariant ∙ ap (λ n. drop n c.args.self.now) end))

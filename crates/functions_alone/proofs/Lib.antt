@@ -1,0 +1,10 @@
+pub mod Alone
+pub mod Carrying
+pub mod Halves
+pub mod Holding
+pub mod InnerFunctions
+pub mod Lasting
+pub mod Loosening
+pub mod Matched
+pub mod Refitting
+pub mod Shallower

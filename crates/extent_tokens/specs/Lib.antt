@@ -1,0 +1,2 @@
+-- What a part of a file is that can be scanned alone.
+pub mod Inside

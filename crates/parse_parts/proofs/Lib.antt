@@ -1,6 +1,13 @@
+pub mod AlonePending
 pub mod Clauses
+pub mod Completed
+pub mod Gained
+pub mod HeadLaws
+pub mod InnerBodies
 pub mod OwnBody
 pub mod OwnClauses
+pub mod OwnPending
+pub mod PendingClauses
 pub mod Present
 pub mod Quiet
 pub mod Refills

@@ -41,7 +41,7 @@ records_after (Read a (q ∷ qs) us) k e h = absurd (cc)
 records_after (Bad rs us) k e h = e
 records_after (Deep rs us) k e h = e
 
-end_records : {A : Type 0} (a : A) (us : List Lexeme) → records (end_of a us) ≡ []
+pub end_records : {A : Type 0} (a : A) (us : List Lexeme) → records (end_of a us) ≡ []
 unfolding end_of
 end_records a us = by (is_end (head_of us).kind)
   where
@@ -87,10 +87,10 @@ module _ (bodies : ℕ → Body) (braced : AreBraced bodies) (room : ℕ) (f : F
   abbrev own_record : Head → List Lexeme → Recorded
   own_record h us = record_at bodies room f h.start (is_simple h.params) us
 
-  abbrev over : Head → List Lexeme → Reply Function
+  abbrev pub over : Head → List Lexeme → Reply Function
   over h us = from_body sub f (passing bodies room) h us
 
-  abbrev whole : Head → List Lexeme → Reply Function
+  abbrev pub whole : Head → List Lexeme → Reply Function
   whole h us = from_body sub f (reading (everything (passed_over bodies) room).stmts) h us
 
   abbrev with_own : List Lexeme → BodyParser → Reply Function
@@ -149,6 +149,7 @@ module _ (bodies : ℕ → Body) (braced : AreBraced bodies) (room : ℕ) (f : F
     pub behind : List Lexeme
     pub opens : is_mark mark.OPEN_BRACE first.kind ≡ true
     pub there : b.from ≡ first ∷ behind
+    pub recorded_are : records (passes ts) ≡ before ++ b ∷ []
     pub passed_there : passes ts ≡ noted before (over head (first ∷ behind))
     pub read_there : pass_alone bodies braced room f ts ≡ noted before (whole head (first ∷ behind))
 
@@ -164,6 +165,7 @@ module _ (bodies : ℕ → Body) (braced : AreBraced bodies) (room : ℕ) (f : F
         behind = us;
         opens = m;
         there = sym (ap (λ (x : Recorded). x.from) (last_same qs rs (own_record h (t ∷ us)) b (sym (recorded_last ts h qs t us m k) ∙ e)));
+        recorded_are = recorded_last ts h qs t us m k ∙ ap (λ x. qs ++ x ∷ []) (last_same qs rs (own_record h (t ∷ us)) b (sym (recorded_last ts h qs t us m k) ∙ e));
         passed_there = k;
         read_there = l;
       }

@@ -55,7 +55,7 @@ last_pending g (p ∷ ps) (r ∷ rs) b e = let x = last_pending g ps rs b (tail 
     tail : g p ∷ map g ps ≡ r ∷ (rs ++ b ∷ []) → map g ps ≡ rs ++ b ∷ []
     tail e = cc
 
-map_last : (g : Pending → Recorded) (ps : List Pending) (p : Pending) → map g (ps ++ p ∷ []) ≡ map g ps ++ g p ∷ []
+pub map_last : (g : Pending → Recorded) (ps : List Pending) (p : Pending) → map g (ps ++ p ∷ []) ≡ map g ps ++ g p ∷ []
 map_last g [] p = refl
 map_last g (q ∷ ps) p = ap (λ y. g q ∷ y) (map_last g ps p)
 
@@ -149,7 +149,7 @@ module _ (s : Source) (h : IsSource s) (i : Interpretation) (f : FuncForm) (n : 
     passes_alone old p o e a = subst (λ ps. Answers (FuncOf i shows shows_body) s i p o (map (recorded s i) ps) (pure.alone_of (env_at i 0) f (front s i start))) e a
 
     -- what it recorded is pending
-    all_pending : (p : Place) (o : Result (NodeFunc E B) ParseFault) → lacks_memory o ≡ false → Passes p o → agrees.records (passes (body_at i) (given i) depth_limit f (front s i start)) ≡ map (recorded s i) p.pending.items
+    pub all_pending : (p : Place) (o : Result (NodeFunc E B) ParseFault) → lacks_memory o ≡ false → Passes p o → agrees.records (passes (body_at i) (given i) depth_limit f (front s i start)) ≡ map (recorded s i) p.pending.items
     unfolding records
     all_pending p (Ok node) m a = let x = func_read i shows shows_body node a in ap (λ (g : Parser Function). agrees.records (g (front s i start))) (sym alone_here) ∙ ap agrees.records x.2.is
     all_pending p (Err (faults.Unexpected k)) m a = ap (λ (g : Parser Function). agrees.records (g (front s i start))) (sym alone_here) ∙ ap agrees.records a.is
@@ -157,8 +157,9 @@ module _ (s : Source) (h : IsSource s) (i : Interpretation) (f : FuncForm) (n : 
     all_pending p (Err faults.NoMemory) m a = absurd (cc)
 
     -- no body of its own was passed over: what was read is the function
-    pub without_own : (p : Place) (o : Result (NodeFunc E B) ParseFault) → lacks_memory o ≡ false → IsOutermost p.pending.items None → Passes p o → IsAlone i shows shows_body s f start p.at o
-    without_own p o m none a = by o a (none_own (body_at i) (given i) depth_limit f (front s i start) not_own)
+
+    pub no_own : (p : Place) (o : Result (NodeFunc E B) ParseFault) → lacks_memory o ≡ false → IsOutermost p.pending.items None → Passes p o → passes (body_at i) (given i) depth_limit f (front s i start) ≡ pass_alone (body_at i) (given i) depth_limit f (front s i start)
+    no_own p o m none a = none_own (body_at i) (given i) depth_limit f (front s i start) not_own
       where
         not_own : (rs : List Recorded) (b : Recorded) → agrees.records (passes (body_at i) (given i) depth_limit f (front s i start)) ≡ rs ++ b ∷ [] → b.room ≡ depth_limit → ⊥
         not_own rs b e q =
@@ -168,6 +169,9 @@ module _ (s : Source) (h : IsSource s) (i : Interpretation) (f : FuncForm) (n : 
             outer : (y : Pending) → depth_limit - y.depth ≡ depth_limit → y.depth ≡ 0
             outer y e = omega (arith, e)
 
+    pub without_own : (p : Place) (o : Result (NodeFunc E B) ParseFault) → lacks_memory o ≡ false → IsOutermost p.pending.items None → Passes p o → IsAlone i shows shows_body s f start p.at o
+    without_own p o m none a = by o a (no_own p o m none a)
+      where
         by : (o : Result (NodeFunc E B) ParseFault) → Passes p o → passes (body_at i) (given i) depth_limit f (front s i start) ≡ pass_alone (body_at i) (given i) depth_limit f (front s i start) → IsAlone i shows shows_body s f start p.at o
         by (Ok node) a e = let x = func_read i shows shows_body node a in alone_is p.at node x.0 x.1 (ap bare (sym e) ∙ ap (λ (g : Parser Function). bare (g (front s i start))) (sym alone_here) ∙ read_bare x.2)
         by (Err fault) a e = alone_refused shows shows_body p.at fault (subst (λ r. Faults s i fault (bare r)) e (subst (λ (g : Parser Function). Faults s i fault (bare (g (front s i start)))) alone_here (fault_bare s i p fault [] _ a)))
@@ -181,7 +185,7 @@ module _ (s : Source) (h : IsSource s) (i : Interpretation) (f : FuncForm) (n : 
       abbrev pub own_reply : Reply BodyRead
       own_reply = pure.reading (stmts_at i 0) f st.head.start (is_simple st.head.params) (front s i own.token)
 
-      own_here : own_reply ≡ own_body (body_at i) (given i) depth_limit f st.head (front s i own.token)
+      pub own_here : own_reply ≡ own_body (body_at i) (given i) depth_limit f st.head (front s i own.token)
       unfolding stmts_at all_at
       own_here = refl
 
@@ -211,12 +215,17 @@ module _ (s : Source) (h : IsSource s) (i : Interpretation) (f : FuncForm) (n : 
             same_memory (faults.TooDeep t) m = refl
             same_memory faults.NoMemory m = m
 
-        pub own_then_read : (node : NodeFunc E B) → Passes p (Ok node) → IsAlone i shows shows_body s f start q.at (Ok (record node { end = b.end; body = bodies.Braced b.node }))
+        -- the function with its own body, which is read where it stands
+        pub own_function : (node : NodeFunc E B) → Passes p (Ok node) → (x : Function) × ShowFunc i shows shows_body (record node { end = b.end; body = bodies.Braced b.node }) x × (bare (pass_alone (body_at i) (given i) depth_limit f (front s i start)) ≡ Read x [] (front s i q.at))
         unfolding with_body
-        own_then_read node k =
+        own_function node k =
             let x = func_read i shows shows_body node k in
             let reads : bare (passes (body_at i) (given i) depth_limit f (front s i start)) ≡ Read x.0 [] (front s i p.at) = ap (λ (g : Parser Function). bare (g (front s i start))) (sym alone_here) ∙ read_bare x.2 in
-            let r = end_reads _ (function_case f None st.head (record { body = BracedBody a.0; end = b.end })) x.0 (front s i q.at) (front s i p.at) (sym here.1 ∙ reads) in
-            alone_is q.at (record node { end = b.end; body = bodies.Braced b.node }) (function_case f None st.head (record { body = BracedBody a.0; end = b.end }))
-            (subst (ShowFunc i shows shows_body (record node { end = b.end; body = bodies.Braced b.node })) (ap (with_body b.end (BracedBody a.0)) (sym r.0)) (with_own i shows shows_body node x.0 x.1 b.end b.node a.0 a.1))
-            (here.0 ∙ r.2)
+            let r = end_reads _ (function_case f None st.head (record { body = BracedBody a.0; end = b.end })) x.0 (front s i q.at) (front s i p.at) (sym here.1 ∙ reads) in (
+              function_case f None st.head (record { body = BracedBody a.0; end = b.end }),
+              subst (ShowFunc i shows shows_body (record node { end = b.end; body = bodies.Braced b.node })) (ap (with_body b.end (BracedBody a.0)) (sym r.0)) (with_own i shows shows_body node x.0 x.1 b.end b.node a.0 a.1),
+              here.0 ∙ r.2,
+            )
+
+        pub own_then_read : (node : NodeFunc E B) → Passes p (Ok node) → IsAlone i shows shows_body s f start q.at (Ok (record node { end = b.end; body = bodies.Braced b.node }))
+        own_then_read node k = let x = own_function node k in alone_is q.at (record node { end = b.end; body = bodies.Braced b.node }) x.0 x.1 x.2

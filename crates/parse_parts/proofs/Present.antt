@@ -1,6 +1,6 @@
 -- A part that stands in front of the tokens behind it is read, where no token of it is too deep. So there is none where the
 -- parser faults.
-use Rattle.std.proofs.Common.{◌≡◌, ◌∙◌, ℕ, suc, ◌+◌, List, [], ◌++◌, sym, ap, subst, Bool, Option, None}
+use Rattle.std.proofs.Common.{◌≡◌, ◌∙◌, ℕ, ◌+◌, List, [], ◌++◌, sym, ap, subst, Bool, Option, None}
 use Rattle.script_grammar.specs.declared.token.FuncForm.{FuncForm}
 use Rattle.script_grammar.specs.declared.token.Kind.TheVariants as kind
 use Rattle.script_grammar.specs.Fault.{depth_limit}
@@ -20,7 +20,7 @@ use Rattle.pure_parser.proofs.PassedBodies.{pass_braced, body_is_passed}
 use Rattle.pure_parser.proofs.PassedFunctions.{pass_alone, function_is_passed}
 use Rattle.pure_parser.proofs.PassedHeads.{pass_head, head_is_passed}
 use Rattle.parse_exprs.specs.Env.{body_at}
-use Rattle.parse_parts.specs.Parts.{IsHead, Taken, NoHead, NoBody, NoFunction}
+use Rattle.parse_parts.specs.Parts.{IsHead, NoHead, NoBody, NoFunction}
 use Rattle.parse_parts.proofs.Takes.{given}
 
 -- a parser reads nothing from these

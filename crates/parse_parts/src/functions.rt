@@ -6,6 +6,7 @@ ghost use Rattle.script_grammar.specs.Interpretation.{Interpretation, maybe_name
 ghost use Rattle.parse_exprs.specs.Source.{IsSource};
 ghost use Rattle.parse_bodies.specs.Whole.{lacks_memory};
 ghost use Rattle.parse_parts.specs.Answers.{IsHeaded, IsAlone, IsOutermost};
+ghost use Rattle.parse_parts.specs.Pending.{IsGained, CompletesHead, CompletesAlone};
 
 use parse_bodies::scripts;
 use parse_exprs::place::{ParseFault, Pending};
@@ -17,7 +18,7 @@ use script_grammar::token::FuncForm;
 use script_grammar::tree::Ident;
 
 /// Reads a function that is no arrow, from its parameters on, inside so many nodes that count for the depth. Its braced body is
-/// passed over.
+/// passed over, and put on the pending list behind those in its parameters.
 pub fn head<H: Handler>(
     state: &mut State<H>,
     source: &Source,
@@ -30,7 +31,9 @@ pub fn head<H: Handler>(
     requires depth { depth ≤ depth_limit }
     requires no_script { form ≡ FuncForm.Script → ⊥ }
     requires no_arrow { form ≡ FuncForm.Arrow → ⊥ }
-    ensures { (i : Interpretation) → IsHeaded i (H.shows_expr i) (H.shows_body i) source.now form (maybe_named i name) depth state.old.place.at state.new.place.at result }
+    ensures answer { (i : Interpretation) → IsHeaded i (H.shows_expr i) (H.shows_body i) source.now form (maybe_named i name) depth state.old.place.at state.new.place.at result }
+    ensures pending { IsGained source.now state.old.place state.new.place result }
+    ensures completes { (i : Interpretation) → CompletesHead i (H.shows_expr i) (H.shows_body i) source.now form (maybe_named i name) depth state.old.place state.new.place result }
 {
     let read = state.function(source, form, name, depth)?;
     Ok(read)
@@ -54,7 +57,7 @@ fn lacks_memory<T>(read: &Result<T, ParseFault>) -> bool
 }
 
 /// Reads the tokens from the present one up to the end of all as the parameters and the body of one function of this form, an
-/// arrow's mark between them included. Its own body is read. The answer has no name.
+/// arrow's mark between them included. Its own body is read, and is not on the pending list then. The answer has no name.
 pub fn alone<H: Handler>(
     state: &mut State<H>,
     source: &Source,
@@ -64,7 +67,9 @@ pub fn alone<H: Handler>(
     requires place { state.old.place.at < length source.now.tokens.now }
     requires none { state.old.place.pending.items ≡ [] }
     requires no_script { form ≡ FuncForm.Script → ⊥ }
-    ensures { (i : Interpretation) → IsAlone i (H.shows_expr i) (H.shows_body i) source.now form state.old.place.at state.new.place.at result }
+    ensures answer { (i : Interpretation) → IsAlone i (H.shows_expr i) (H.shows_body i) source.now form state.old.place.at state.new.place.at result }
+    ensures pending { IsGained source.now state.old.place state.new.place result }
+    ensures completes { (i : Interpretation) → CompletesAlone i (H.shows_expr i) (H.shows_body i) source.now form state.old.place state.new.place result }
 {
     let passed = scripts::alone(state, source, form, 0);
     if lacks_memory(&passed) {

@@ -36,6 +36,8 @@ const COMMA: (Kind, u64) = (Kind::Mark(mark::COMMA), 0);
 
 const PLUS: (Kind, u64) = (Kind::Mark(mark::PLUS), 0);
 
+const ASSIGN: (Kind, u64) = (Kind::Mark(mark::ASSIGN), 0);
+
 const ARROW: (Kind, u64) = (Kind::Mark(mark::ARROW), 0);
 
 const SEMICOLON: (Kind, u64) = (Kind::Mark(mark::SEMICOLON), 0);
@@ -344,6 +346,34 @@ fn a_function_faults_in_its_body(rt: HostRuntime) -> Result<(), Fail> {
         FuncForm::Function,
     )?;
     assert_eq!(rt; unexpected(more), Some(5));
+    Ok(())
+}
+
+#[test]
+fn bodies_in_parameters_come_first(rt: HostRuntime) -> Result<(), Fail> {
+    // (x=function(){}){return function(){}}
+    let kinds = [
+        OPEN, X, ASSIGN, FUNCTION, OPEN, CLOSE, BRACE, BRACED, CLOSE, BRACE, RETURN, FUNCTION,
+        OPEN, CLOSE, BRACE, BRACED, BRACED, END,
+    ];
+    let reading = alone_of(rt.alloc(), &kinds, FuncForm::Function)?;
+    assert_eq!(rt; reading.at, 17);
+    assert_eq!(rt; reading.pending.len(), 2);
+    assert_eq!(rt; reading.pending[0].token, 6);
+    assert_eq!(rt; reading.pending[1].token, 14);
+    Ok(())
+}
+
+#[test]
+fn bodies_in_front_of_a_fault_are_pending(rt: HostRuntime) -> Result<(), Fail> {
+    // (x=function(){}){x y}
+    let kinds = [
+        OPEN, X, ASSIGN, FUNCTION, OPEN, CLOSE, BRACE, BRACED, CLOSE, BRACE, X, Y, BRACED, END,
+    ];
+    let reading = alone_of(rt.alloc(), &kinds, FuncForm::Function)?;
+    assert_eq!(rt; reading.pending.len(), 1);
+    assert_eq!(rt; reading.pending[0].token, 6);
+    assert_eq!(rt; unexpected(reading), Some(11));
     Ok(())
 }
 

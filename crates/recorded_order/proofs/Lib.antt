@@ -1,0 +1,5 @@
+pub mod Rises
+pub mod RisesExprs
+pub mod RisesCalls
+pub mod RisesStmts
+pub mod RisesAll

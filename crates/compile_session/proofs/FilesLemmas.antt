@@ -1,9 +1,10 @@
 -- Many files: their answer is put together from those of each, and there is no other.
-use Rattle.std.proofs.Common.{◌≡◌, ℕ, zero, suc, ◌+◌, ◌<◌, ◌≤◌, Bool, true, false, List, [], ◌∷◌, ◌++◌, length, min, Option, Vec, String, map, take, drop, get_or, refl, ap, sym, ◌∙◌, subst, append_assoc, append-nil, arith}
-use Rattle.std.specs.Prelude.{◌||◌}
+use Rattle.std.proofs.Common.{◌≡◌, ℕ, zero, suc, ◌+◌, ◌<◌, ◌≤◌, Bool, true, false, List, [], ◌∷◌, ◌++◌, length, min, Option, Vec, map, take, drop, get_or, refl, ap, sym, ◌∙◌, subst, append_assoc, append-nil, arith, Some, None}
+use Rattle.std.specs.Prelude.{◌||◌, slice_get}
 use Rattle.std.specs.String.{string_bytes}
 use Rattle.std.specs.declared.alloc.Global.{Global}
-use Rattle.std.proofs.lemmas.List.{get_or-map, length-map}
+use Rattle.std.proofs.lemmas.List.{length-map}
+use Rattle.std.proofs.lemmas.Option.{slice_get_within, slice_get-get_or}
 use Rattle.outside.specs.Loops.{HasAtMost, HaveAtMost, IsWholeBehind, AreWholeBehind}
 use Rattle.command_words.specs.declared.options.FileJob.{FileJob}
 use Rattle.command_words.specs.Asked.{Job, job}
@@ -11,6 +12,7 @@ use Rattle.command_answer.specs.Answer.{most_bytes}
 use Rattle.compile_session.specs.declared.file.FileAnswer.{FileAnswer}
 use Rattle.compile_session.specs.Answers.{Settles, SettlesRead}
 use Rattle.compile_session.specs.Files.{SettlesAll}
+use Rattle.compile_session.specs.Workers.{SettleFiles}
 
 or_assoc : (a b c : Bool) → ((a || b) || c) ≡ (a || (b || c))
 or_assoc true b c = refl
@@ -128,24 +130,29 @@ within_at most reads index read all h is = subst (λ (r : Option (Vec ℕ Global
     by (r ∷ rs) (suc i) a k = by rs i a.1 (omega (arith, k))
 
 -- the loop goes on
-pub answered_more : (j : FileJob) (reads : List (Option (Vec ℕ Global))) (index count : ℕ) (text new name : List ℕ) (refused now : Bool) (item : String Global) (read : Option (Vec ℕ Global)) (answer : FileAnswer)
-    → index < length j.files.items → index < length reads → item ≡ get_or j.files.items index item → read ≡ get_or reads index read → name ≡ string_bytes item
-    → SettlesRead (job j) name read answer → new ≡ text ++ answer.text.items → now ≡ (refused || answer.refused) → count ≡ index + 1
-    → IsAnswering (job j) (map string_bytes j.files.items) reads index text refused → IsAnswering (job j) (map string_bytes j.files.items) reads count new now
-answered_more j reads index count text new name refused now item read answer h k is_item is_read named settles grown or one at =
+pub answered_more : (j : FileJob) (reads : List (Option (Vec ℕ Global))) (count index next : ℕ) (answers : List FileAnswer) (text new : List ℕ) (refused now : Bool) (answer : FileAnswer)
+    → SettleFiles (job j) reads count answers → count ≤ length j.files.items → count ≤ length reads → slice_get answers index ≡ Some answer
+    → new ≡ text ++ answer.text.items → now ≡ (refused || answer.refused) → next ≡ index + 1
+    → IsAnswering (job j) (map string_bytes j.files.items) reads index text refused → IsAnswering (job j) (map string_bytes j.files.items) reads next new now
+answered_more j reads count index next answers text new refused now answer all named are_read is grown or one at =
     let names : List (List ℕ) = map string_bytes j.files.items in
     let long : length names ≡ length j.files.items = length-map j.files.items string_bytes in
-    let placed : name ≡ get_or names index (string_bytes item) = named ∙ ap string_bytes is_item ∙ sym (get_or-map string_bytes j.files.items index item (string_bytes item) h) in
-    let more = answering_more (job j) names reads index text new answer.text.items refused answer.refused name read (string_bytes item) read (omega (arith, h, long)) k placed is_read settles grown at in
+    let inside : index < length answers = slice_get_within answers index answer is in
+    let counted = all.long in
+    let h : index < length names = omega (arith, inside, counted, named, long) in
+    let k : index < length reads = omega (arith, inside, counted, are_read) in
+    let settles : SettlesRead (job j) (get_or names index []) (get_or reads index None) answer =
+    all.each index answer is (get_or names index []) (get_or reads index None) (slice_get-get_or names index [] h) (slice_get-get_or reads index None k) in
+    let more = answering_more (job j) names reads index text new answer.text.items refused answer.refused (get_or names index []) (get_or reads index None) [] None h k refl refl settles grown at in
     subst (λ (n : ℕ). IsAnswering (job j) names reads n new now) (sym one) (subst (λ (x : Bool). IsAnswering (job j) names reads (index + 1) new x) (sym or) more)
 
 -- the loop is at its end
-pub answered_end : (j : FileJob) (reads : List (Option (Vec ℕ Global))) (index : ℕ) (text : List ℕ) (refused : Bool) → index ≡ min (length j.files.items) (length reads)
+pub answered_end : (j : FileJob) (reads : List (Option (Vec ℕ Global))) (count index : ℕ) (text : List ℕ) (refused : Bool) → count ≡ min (length j.files.items) (length reads) → count ≤ index
     → IsAnswering (job j) (map string_bytes j.files.items) reads index text refused
     → (held : List ℕ → List ℕ) → AreWholeBehind most_bytes held 0 (map string_bytes j.files.items) reads → SettlesAll (job j) held 0 (map string_bytes j.files.items) text refused
-answered_end j reads index text refused is at =
+answered_end j reads count index text refused is past at =
     let long : length (map string_bytes j.files.items) ≡ length j.files.items = length-map j.files.items string_bytes in
-    answering_end (job j) (map string_bytes j.files.items) reads index text refused (λ n a b. omega (arith, a, b, is, long)) at
+    answering_end (job j) (map string_bytes j.files.items) reads index text refused (λ n a b. omega (arith, a, b, is, past, long)) at
 
 -- whether one of them is refused, with one more
 pub or_first : (a b now : Bool) → a ≡ true → now ≡ true → now ≡ (a || b)

@@ -3,9 +3,12 @@ pub mod FilesLemmas
 pub mod InternLemmas
 pub mod KeptLemmas
 pub mod ListingLemmas
+pub mod OrderLemmas
 pub mod OutcomeLemmas
 pub mod ReadLemmas
 pub mod RunLemmas
 pub mod SourceLemmas
 pub mod TextLemmas
 pub mod TokenLemmas
+pub mod WordLaws
+pub mod WorkerLemmas

@@ -6,3 +6,4 @@ pub mod Known
 pub mod Listed
 pub mod Reading
 pub mod Tokens
+pub mod Workers

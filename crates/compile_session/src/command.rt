@@ -13,7 +13,8 @@ use crate::file::MOST_BYTES;
 use crate::files::answers_of;
 use crate::status::Status;
 use command_words::{Command, FileJob, Options, WordsFault, read_words};
-use outside::{Gate, Shelf, ShelfRefusal, Sink, SinkRefusal, Tally, read_files, write_bytes};
+use helper_tasks::Gate;
+use outside::{Shelf, ShelfRefusal, Sink, SinkRefusal, Tally, read_files, write_bytes};
 use std::alloc::Global;
 use std::sync::Wait;
 use std::thread::Threads;
@@ -47,13 +48,13 @@ fn job_of(alloc: Global, words: &[String]) -> Result<FileJob, Status>
 }
 
 /// Runs the command of these words: reads its files from the shelf, and gives the sink what is printed for them.
-pub fn run<R: Threads + Wait, L: Shelf, K: Sink, G: Gate, T: Tally>(
-    _rt: &R,
+pub fn run<R: Threads + Wait + Sync, L: Shelf, K: Sink, G: Gate, T: Tally>(
+    rt: &R,
     alloc: Global,
     words: &[String],
     shelf: &mut L,
     sink: &mut K,
-    _gate: &G,
+    gate: &G,
     tally: &mut T,
 ) -> Status
     requires room { 2 ^ 40 ≤ T.room tally.old }
@@ -96,7 +97,7 @@ pub fn run<R: Threads + Wait, L: Shelf, K: Sink, G: Gate, T: Tally>(
         Err(ShelfRefusal::Failed) => return Status::ReadFault,
         Err(ShelfRefusal::NoMemory) => return Status::NoMemory,
     };
-    let answer = match answers_of(alloc, &job, &reads) {
+    let answer = match answers_of(rt, alloc, &job, &reads, gate) {
         Ok(answer) => answer,
         Err(_) => return Status::NoMemory,
     };

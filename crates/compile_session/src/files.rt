@@ -1,31 +1,40 @@
 //! What is printed for all files of a command.
 
-ghost use Rattle.std.specs.Prelude.{◌≡◌, true, IfOk};
+ghost use Rattle.std.specs.Prelude.{◌≡◌, ◌≤◌, true, length, IfOk};
 ghost use Rattle.outside.specs.Loops.{HaveAtMost};
 ghost use Rattle.command_answer.specs.Answer.{most_bytes};
 ghost use Rattle.command_words.specs.Asked as asked;
 ghost use Rattle.compile_session.specs.Built.{is_built};
 ghost use Rattle.compile_session.specs.Files.{AnswersAll};
 
-use crate::file::{FileAnswer, answer_of};
+use crate::file::FileAnswer;
+use crate::workers::file_answers;
 use command_words::FileJob;
+use helper_tasks::Gate;
 use std::alloc::{AllocError, Global};
+use std::sync::Wait;
+use std::thread::Threads;
 
 /// What is printed for the files of a command, one behind another, of which these bytes were read, and whether one of them is
-/// refused.
-pub(crate) fn answers_of(
+/// refused. Workers answer the files, each by itself and in whatever order.
+pub(crate) fn answers_of<R: Threads + Wait + Sync, G: Gate>(
+    rt: &R,
     alloc: Global,
     job: &FileJob,
     reads: &[Option<Vec<u8>>],
+    gate: &G,
 ) -> Result<FileAnswer, AllocError>
     requires built { is_built job.now.command ≡ true }
     requires within { HaveAtMost most_bytes reads.now }
+    requires files { length job.now.files.items ≤ 64 }
+    requires workers { (1 ≤ job.now.workers) × (job.now.workers ≤ 16) }
     ensures { IfOk result (AnswersAll (asked.job job.now) reads.now) }
 {
+    let count = job.files.len().min(reads.len()) as u32;
+    let answers = file_answers(rt, alloc, job, reads, count, gate)?;
     let mut text = Vec::new(alloc);
     let mut refused = false;
-    for (name, read) in job.files.iter().zip(reads) {
-        let answer = answer_of(alloc, job, name.as_str(), read)?;
+    for answer in &answers {
         text.extend_from_slice(&answer.text)?;
         refused = refused || answer.refused;
     }

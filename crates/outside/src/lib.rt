@@ -11,7 +11,6 @@
 #![tactic(auto)]
 
 mod calls;
-mod gate;
 mod host;
 mod memory_shelf;
 mod memory_sink;
@@ -21,7 +20,6 @@ mod sink;
 mod tally;
 mod writing;
 
-pub use gate::{Gate, OpenGate};
 pub use host::{FileShelf, OutSink};
 pub use memory_shelf::{FirmShelf, MapShelf};
 pub use memory_sink::{FirmSink, VecSink};

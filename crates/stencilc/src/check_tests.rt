@@ -8,7 +8,7 @@ use std::test::Fail;
 use std::thread::Threads;
 
 /// Whether `check a.js` over a file with these bytes ends with this status and prints just this.
-fn checks<R: Threads + Wait>(
+fn checks<R: Threads + Wait + Sync>(
     rt: &R,
     alloc: Global,
     bytes: &[u8],

@@ -20,7 +20,7 @@ fn words_of(alloc: Global, words: &[&str]) -> Result<Vec<String>, AllocError> {
 }
 
 /// The status of a command over this shelf, and whether just this was printed.
-fn prints_from<R: Threads + Wait, L: Shelf>(
+fn prints_from<R: Threads + Wait + Sync, L: Shelf>(
     rt: &R,
     alloc: Global,
     words: &[&str],
@@ -37,7 +37,7 @@ fn prints_from<R: Threads + Wait, L: Shelf>(
 }
 
 /// The status of a command over these files, and whether just this was printed.
-fn prints<R: Threads + Wait>(
+fn prints<R: Threads + Wait + Sync>(
     rt: &R,
     alloc: Global,
     words: &[&str],
@@ -49,7 +49,7 @@ fn prints<R: Threads + Wait>(
 }
 
 /// Whether the command prints just this for the file `a.js` with this text.
-fn lists<R: Threads + Wait>(
+fn lists<R: Threads + Wait + Sync>(
     rt: &R,
     alloc: Global,
     words: &[&str],

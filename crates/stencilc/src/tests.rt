@@ -37,7 +37,7 @@ pub(crate) fn file(
 }
 
 /// The status of this command over the file `a.js` of the shelf.
-pub(crate) fn status_of<R: Threads + Wait, L: Shelf, K: Sink>(
+pub(crate) fn status_of<R: Threads + Wait + Sync, L: Shelf, K: Sink>(
     rt: &R,
     alloc: Global,
     command: &str,
@@ -55,7 +55,7 @@ pub(crate) fn status_of<R: Threads + Wait, L: Shelf, K: Sink>(
 }
 
 /// The status of `code a.js` over a file with these bytes, and whether just this was printed.
-fn prints<R: Threads + Wait>(
+fn prints<R: Threads + Wait + Sync>(
     rt: &R,
     alloc: Global,
     bytes: &[u8],
@@ -68,7 +68,7 @@ fn prints<R: Threads + Wait>(
 }
 
 /// Whether the file is listed so.
-fn lists<R: Threads + Wait>(
+fn lists<R: Threads + Wait + Sync>(
     rt: &R,
     alloc: Global,
     bytes: &[u8],
@@ -79,7 +79,7 @@ fn lists<R: Threads + Wait>(
 }
 
 /// Whether the file is refused so.
-fn refuses<R: Threads + Wait>(
+fn refuses<R: Threads + Wait + Sync>(
     rt: &R,
     alloc: Global,
     bytes: &[u8],
@@ -265,7 +265,11 @@ const SCRIPTS: [&[u8]; 9] = [
 ];
 
 /// Whether the file is listed.
-fn is_listed<R: Threads + Wait>(rt: &R, alloc: Global, bytes: &[u8]) -> Result<bool, AllocError> {
+fn is_listed<R: Threads + Wait + Sync>(
+    rt: &R,
+    alloc: Global,
+    bytes: &[u8],
+) -> Result<bool, AllocError> {
     let mut shelf = FirmShelf::new(alloc, file(alloc, "a.js", bytes)?);
     let mut sink = FirmSink::new(alloc);
     Ok(status_of(rt, alloc, "code", &mut shelf, &mut sink)? == Status::Done)
@@ -330,7 +334,7 @@ fn refuses_a_long_file_before_its_text(rt: HostRuntime) -> Result<(), Fail> {
 }
 
 /// The status over a shelf whose call of this number fails, and whether nothing was written.
-fn failing_read<R: Threads + Wait>(
+fn failing_read<R: Threads + Wait + Sync>(
     rt: &R,
     alloc: Global,
     name: &str,
@@ -362,7 +366,7 @@ fn fails_with_each_read(rt: HostRuntime) -> Result<(), Fail> {
 
 /// The status over a sink that takes a byte at a time and whose call of this number fails, and whether
 /// just the bytes before it were written.
-fn failing_write<R: Threads + Wait>(
+fn failing_write<R: Threads + Wait + Sync>(
     rt: &R,
     alloc: Global,
     call: usize,

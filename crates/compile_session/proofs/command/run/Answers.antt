@@ -1,6 +1,7 @@
 use Rattle.std.proofs.Common.{map}
 use Rattle.std.specs.String.{string_bytes}
 use Rattle.compile_session.proofs.RunLemmas.{settled_seen, front_of_answer, GainsFront-all, turned_front, turned_all}
+use Rattle.compile_session.proofs.WordLaws.{few_files, few_workers}
 use Rattle.compile_session.proofs.command.run.Goals as goal
 
 pub returns-in-Ok-write_bytes-clause-front : goal.returns-in-Ok-write_bytes-clause-front
@@ -28,3 +29,9 @@ returns-clause-names g c =
 pub returns-in-Ok-write_bytes-clause-all_names : goal.returns-in-Ok-write_bytes-clause-all_names
 returns-in-Ok-write_bytes-clause-all_names g c = λ held tells whole.
     turned_all (map string_bytes c.args.words.now) c.in-Ok.job c.deref.result.now (g.L.Shelf.held c.args.shelf.now) held c.in-Ok-read_files.reads.items (g.L.Shelf.turned c.args.shelf.now) (g.L.Shelf.turned c.read_files.new.shelf) c.in-Ok.ensures c.deref.ensures.value tells c.in-Ok-read_files.ensures.read c.in-Ok-read_files.ensures.names
+
+pub answers_of-requires-clause-files : goal.answers_of-requires-clause-files
+answers_of-requires-clause-files g c κs within = few_files (map string_bytes c.args.words.now) c.in-Ok.job c.in-Ok.ensures.0
+
+pub answers_of-requires-clause-workers : goal.answers_of-requires-clause-workers
+answers_of-requires-clause-workers g c κs within = few_workers (map string_bytes c.args.words.now) c.in-Ok.job c.in-Ok.ensures.0

@@ -1,8 +1,8 @@
-use Rattle.std.proofs.Common.{length, map}
+use Rattle.std.proofs.Common.{map}
 use Rattle.std.specs.String.{string_bytes}
 use Rattle.command_words.specs.Asked as asked
 use Rattle.compile_session.proofs.FilesLemmas.{IsAnswering}
 use Rattle.compile_session.proofs.files.answers_of.Given as goal
 
-abbrev pub invariant-loop-name : goal.invariant-loop-name
-invariant-loop-name l = IsAnswering (asked.job l.job) (map string_bytes l.job.files.items) l.reads (length l.yielded) l.text.items l.refused
+abbrev pub invariant-loop-answer : goal.invariant-loop-answer
+invariant-loop-answer g l = IsAnswering (asked.job l.job) (map string_bytes l.job.files.items) l.reads l.answer-index l.text.items l.refused

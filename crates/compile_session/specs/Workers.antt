@@ -1,0 +1,26 @@
+-- The files of a command, each answered by itself: by which worker, and after which others, is of no matter.
+use Rattle.std.specs.Prelude.{◌≡◌, ℕ, ◌≤◌, true, List, length, Option, Some, Vec, slice_get}
+use Rattle.std.specs.declared.alloc.Global.{Global}
+use Rattle.outside.specs.Loops.{HaveAtMost}
+use Rattle.command_words.specs.declared.options.FileJob.{FileJob}
+use Rattle.command_words.specs.Asked.{Job}
+use Rattle.command_answer.specs.Answer.{most_bytes}
+use Rattle.compile_session.specs.declared.file.FileAnswer.{FileAnswer}
+use Rattle.compile_session.specs.Answers.{SettlesRead}
+use Rattle.compile_session.specs.Built.{is_built}
+
+-- the command is built, and so many of its files were read, none of more bytes than there may be
+pub record CanBeAnswered (job : FileJob) (reads : List (Option (Vec ℕ Global))) (count : ℕ) : Type 0 where
+  pub built : is_built job.command ≡ true
+  pub within : HaveAtMost most_bytes reads
+  pub named : count ≤ length job.files.items
+  pub read : count ≤ length reads
+
+-- this is the answer for the file of this number, by what was read of it
+abbrev pub SettlesFile : Job → List (Option (Vec ℕ Global)) → ℕ → FileAnswer → Type 0
+SettlesFile job reads number answer = (name : List ℕ) (read : Option (Vec ℕ Global)) → slice_get job.files number ≡ Some name → slice_get reads number ≡ Some read → SettlesRead job name read answer
+
+-- these are the answers for so many files, in their order
+pub record SettleFiles (job : Job) (reads : List (Option (Vec ℕ Global))) (count : ℕ) (answers : List FileAnswer) : Type 0 where
+  pub long : length answers ≡ count
+  pub each : (number : ℕ) (answer : FileAnswer) → slice_get answers number ≡ Some answer → SettlesFile job reads number answer

@@ -1,0 +1,4 @@
+pub mod Steps
+pub mod Survey
+pub mod Verdicts
+pub mod Parts

@@ -1,0 +1,14 @@
+pub mod Anew
+pub mod Apart
+pub mod CodeLoop
+pub mod Complete
+pub mod Firsts
+pub mod Halves
+pub mod Items
+pub mod Loops
+pub mod OneImage
+pub mod Ranges
+pub mod Renamed
+pub mod Sound
+pub mod Stencils
+pub mod Steps

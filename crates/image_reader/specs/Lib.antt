@@ -1,0 +1,9 @@
+pub mod Atoms
+pub mod Canonical
+pub mod Parts
+pub mod Reading
+pub mod Unique
+pub mod UniqueParts
+pub mod UniqueWhole
+pub mod Whole
+pub mod Within

@@ -1,6 +1,6 @@
 //! What one instruction does to the stack, and where it goes.
 
-ghost use Rattle.std.specs.Prelude.{◌≡◌, ℕ, ◌+◌, ◌%◌, ◌^◌, ◌<◌, Some};
+ghost use Rattle.std.specs.Prelude.{◌≡◌, ◌+◌, ◌%◌, ◌^◌, ◌<◌};
 ghost use Rattle.std.specs.Int.{cast_unsigned, w64};
 ghost use Rattle.bytecode_buf.specs.Machine as machine;
 ghost use Rattle.bytecode_buf.specs.Layout.{Numbered, instr_at};

@@ -1,6 +1,6 @@
 //! The depths that are found at the offsets of code.
 
-ghost use Rattle.std.specs.Prelude.{◌≡◌, ℕ, ◌+◌, ◌-◌, ◌^◌, ◌<◌, ◌≤◌, false, slice_index_or, ◌++◌, ◌∷◌, [], List, Some, None, IsSome, IfOk, IfErr, IfSome, IfNone, OnOk, length, replicate};
+ghost use Rattle.std.specs.Prelude.{◌≡◌, ℕ, ◌+◌, ◌-◌, ◌^◌, ◌<◌, ◌≤◌, false, slice_index_or, [], List, Some, None, IsSome, IfOk, IfErr, IfSome, OnOk, length, replicate};
 ghost use Rattle.bytecode_buf.specs.Machine as machine;
 ghost use Rattle.code_check.specs.Survey.{Arrives, AreStarts, Blocked, Clashes, Follows, Goes, HasNoTable, IsAt, IsLookedAt, IsSearched, Lands, StopsFor, depth_at};
 

@@ -1,9 +1,9 @@
 // Codes by hand.
-use crate::{Verdict, verify_code};
+use crate::{Verdict, verify, verify_code};
 use bytecode_buf::{CodeBuf, Op};
 use std::alloc::{AllocError, Global};
 use std::test::Fail;
-use stencil_data::TryNote;
+use stencil_data::{Entry, Extent, FuncKind, FunctionStencil, MergedStencil, TryNote};
 
 // Instructions without operands.
 fn plain(alloc: Global, ops: &[Op]) -> Result<Vec<u8>, AllocError> {
@@ -136,5 +136,35 @@ fn throws(rt: HostRuntime) -> Result<(), Fail> {
         verify_code(alloc, &code, &[high])?,
         Verdict::Sound { depth: 2 }
     );
+    Ok(())
+}
+
+// A part without scopes, notes and inner functions.
+fn part(alloc: Global, ops: &[Op]) -> Result<FunctionStencil, AllocError> {
+    Ok(FunctionStencil {
+        extent: Extent { start: 0, end: 0 },
+        kind: FuncKind::Declared,
+        name: None,
+        params: 0,
+        scopes: Vec::new(alloc),
+        code: plain(alloc, ops)?,
+        notes: Vec::new(alloc),
+        inner: Vec::new(alloc),
+    })
+}
+
+// The parts of a merged stencil by their numbers.
+#[test]
+fn parts(rt: HostRuntime) -> Result<(), Fail> {
+    let alloc = rt.alloc();
+    let function = part(alloc, &[Op::One, Op::One, Op::Return])?;
+    let merged = MergedStencil {
+        texts: Vec::new(alloc),
+        top: part(alloc, &[Op::Pop])?,
+        records: Vec::new(alloc),
+        entries: vec![in alloc; Entry::Lazy, Entry::Compiled(function)]?,
+    };
+    assert_eq!(rt; verify(alloc, &merged, 0)?, Verdict::Unsound);
+    assert_eq!(rt; verify(alloc, &merged, 2)?, Verdict::Sound { depth: 2 });
     Ok(())
 }

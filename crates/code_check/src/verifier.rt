@@ -1,8 +1,6 @@
 //! Whether code never takes from an empty stack and never leaves its instructions.
 
-ghost use Rattle.std.specs.Prelude.{◌≡◌, ℕ, ◌≤◌, List, option_copied, IfOk, IfErr, IfSome, IsSome, Option, Some};
-ghost use Rattle.stencil_data.specs.MergedView.{MergedView};
-ghost use Rattle.bytecode_buf.specs.InRange.{InRange};
+ghost use Rattle.std.specs.Prelude.{◌≡◌, option_copied, IfOk, IfErr, IfSome, IsSome, Some};
 ghost use Rattle.bytecode_buf.specs.Machine as machine;
 ghost use Rattle.code_check.specs.Parts.{part_of};
 ghost use Rattle.code_check.specs.Survey.{HasNoTable, StopsFor, depth_at};

@@ -1,0 +1,14 @@
+-- The known words among the texts that atoms index.
+use Rattle.std.specs.Prelude.{◌≡◌, ℕ, List, codes, slice_get, Some}
+use Rattle.script_grammar.specs.Lexeme.{get_text, set_text}
+use Rattle.parse_track.specs.declared.region.Known.{Known}
+
+-- Each atom of a known word has the word's text.
+pub record HasWords (texts : List (List ℕ)) (known : Known) : Type 0 where
+  pub eval : slice_get texts known.eval ≡ Some (codes "eval")
+  pub arguments : slice_get texts known.arguments ≡ Some (codes "arguments")
+  pub this : slice_get texts known.this ≡ Some (codes ".this")
+  pub proto : slice_get texts known.proto ≡ Some (codes "__proto__")
+  pub get : slice_get texts known.get ≡ Some get_text
+  pub set : slice_get texts known.set ≡ Some set_text
+  pub strict : slice_get texts known.strict ≡ Some (codes "use strict")

@@ -1,0 +1,13 @@
+pub mod Shown
+pub mod Reading
+pub mod Cut
+pub mod InnerStarts
+pub mod OwnInner
+pub mod Slices
+pub mod Places
+pub mod Scanned
+pub mod Bodies
+pub mod Shifting
+pub mod ReadingExtents
+pub mod Fields
+pub mod Again

@@ -1,0 +1,4 @@
+pub mod Alone
+pub mod Extents
+pub mod Words
+pub mod Shifted

@@ -1,0 +1,4 @@
+pub mod Alone
+pub mod Delazified
+pub mod Forms
+pub mod OwnTexts

@@ -13,7 +13,7 @@ use Rattle.lazy_compile.specs.Eager.{Site, compiled_at, sites_in, top_sites}
 use Rattle.lazy_compile.specs.Shown.{Wanted, All, Numbers, shown}
 use Rattle.script_image.specs.ScriptLines.{code_text, scope_text, lazy_line, listed_merged}
 use Rattle.command_answer.specs.Answer.{file_line}
-use Rattle.command_answer.specs.Generated.{generated}
+use Rattle.generated_texts.specs.Generated.{generated}
 use Rattle.command_answer.specs.Refusals.{TooLong, BadUtf8, Unexpected, TooDeep, Early, NoFunction, NoImage, refusal_line}
 
 -- the functions at these sites and in them, at so many depths

@@ -12,8 +12,8 @@ use Rattle.command_words.specs.Words.{asked_of}
 use Rattle.lazy_compile.specs.Shown.{IsShown}
 use Rattle.lazy_compile.specs.Shown as shown
 use Rattle.script_image.specs.ScriptLines.{code_text, scope_text, instruction_count, listed_merged}
-use Rattle.command_answer.specs.Generated.{generated}
-use Rattle.command_answer.specs.Images.{IsImage, IsImageFor, IsNoImage, AreVerifiedLines}
+use Rattle.generated_texts.specs.Generated.{generated}
+use Rattle.image_answers.specs.Images.{IsImage, IsImageFor, IsNoImage, AreVerifiedLines}
 use Rattle.command_answer.specs.Refusals.{Refusal, TooLong, NoImage, refusal_line}
 use Rattle.command_answer.specs.Sources.{Source, IsScript, IsRefused, IsSource, HasAll}
 

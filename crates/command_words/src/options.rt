@@ -26,12 +26,12 @@ pub enum Want {
     Numbers(Vec<u32>),
 }
 
-/// In which order functions are handed out to workers. The output does not depend on it.
+/// In which order files, or functions of them, are handed out to workers. The output does not depend on it.
 #[derive(Clone, Copy, Debug, PartialEq, Eq)]
 pub enum Order {
     /// By rising number.
     First,
-    /// By falling length of extent, and by rising number among equals.
+    /// By falling length, and by rising number among equals.
     Large,
     /// By falling number.
     Reverse,

@@ -1,5 +1,5 @@
 -- What a file is that is taken as an image, and what is written of it.
-use Rattle.std.specs.Prelude.{◌≡◌, ℕ, ◌+◌, ◌≤◌, Bool, true, false, ◌||◌, List, [], ◌∷◌, ◌++◌, Option, Some, codes}
+use Rattle.std.specs.Prelude.{◌≡◌, ℕ, ◌+◌, Bool, true, false, ◌||◌, List, [], ◌∷◌, ◌++◌, codes}
 use Rattle.std.specs.Fmt.{decimal}
 use Rattle.stencil_data.specs.declared.stencils.Entry.{Entry}
 use Rattle.stencil_data.specs.declared.stencils.Entry.TheVariants as entry
@@ -7,19 +7,16 @@ use Rattle.stencil_data.specs.declared.stencils.TryNote.{TryNote}
 use Rattle.stencil_data.specs.MergedView.{MergedView}
 use Rattle.stencil_data.specs.Named.{NamedMerged}
 use Rattle.stencil_data.specs.StandsFor.{MergedStandsFor}
-use Rattle.bytecode_buf.specs.Command.{Command, Listed, listed, ShowsCommands}
-use Rattle.bytecode_buf.specs.Machine.{IsLeastTable, HasDepthTable}
+use Rattle.bytecode_buf.specs.Command.{Command, Listed, ShowsCommands}
+use Rattle.script_image.specs.Listed.{ShowsListed}
 use Rattle.stencil_xdr.specs.Image.{IsImageOf}
+use Rattle.code_verdicts.specs.Verdicts.{Soundness, Sound, Unsound, IsVerified}
 
 -- the image of a script: the bytes of a stencil in range that stands for it
 pub record IsImage (merged : NamedMerged (List Command)) (bytes : List ℕ) : Type 0 where
   pub stencil : MergedView
   pub stands : MergedStandsFor ShowsCommands stencil merged
   pub is : IsImageOf stencil bytes
-
--- bytes stand for these instructions
-abbrev pub ShowsListed : List (List ℕ) → List ℕ → List Listed → Type 0
-ShowsListed texts code ls = listed texts code ≡ ls
 
 -- the bytes are the image of a stencil that stands for these scripts
 pub record IsImageFor (bytes : List ℕ) (merged : NamedMerged (List Listed)) : Type 0 where
@@ -31,25 +28,6 @@ abbrev pub IsNoImage : List ℕ → Type 0
 IsNoImage bytes = (stencil : MergedView) → IsImageOf stencil bytes → ⊥
 
 -- ---- the code of scripts, verified
-
--- Whether code never takes from an empty stack and never leaves its instructions; if so, how deep its stack gets at most.
-pub data Soundness : Type 0 where
-  Sound : ℕ → Soundness
-  Unsound : Soundness
-
-pub record IsGreatest (table : ℕ → Option ℕ) (depth : ℕ) : Type 0 where
-  pub at : ℕ
-  pub is : table at ≡ Some depth
-  pub most : (offset other : ℕ) → table offset ≡ Some other → other ≤ depth
-
-pub record IsSound (code : List ℕ) (notes : List TryNote) (depth : ℕ) : Type 0 where
-  pub table : ℕ → Option ℕ
-  pub least : IsLeastTable code notes table
-  pub greatest : IsGreatest table depth
-
-abbrev pub IsVerified : List ℕ → List TryNote → Soundness → Type 0
-IsVerified code notes (Sound depth) = IsSound code notes depth
-IsVerified code notes Unsound = HasDepthTable code notes → ⊥
 
 abbrev pub soundness_text : Soundness → List ℕ
 soundness_text (Sound depth) = codes "sound depth " ++ decimal depth

@@ -2,7 +2,11 @@ pub mod Arrivals
 pub mod Catches
 pub mod Greatest
 pub mod Looks
+pub mod Nodes
 pub mod Operands
+pub mod Rows
 pub mod Searches
+pub mod SortedNotes
+pub mod Spreading
 pub mod StartWalk
 pub mod Stops

@@ -11,6 +11,9 @@ use Rattle.code_check.specs.declared.step.Landing.{Landing}
 use Rattle.code_check.specs.declared.step.Step.{Step}
 use Rattle.code_check.specs.Steps.{GainsLittle, IsStepOf, landed, landed_if}
 use Rattle.code_check.specs.Survey.{Found, Has, Follows, Goes, HasNoTable, IsAt, IsLookedAt, Lands, Blocked}
+use Rattle.code_check.specs.NoteIndex.{Index, IsIndexed}
+use Rattle.code_check.specs.Catches.{Catches, HasLanding, landing}
+use Rattle.code_check.proofs.Catches.{indexed_on}
 use Rattle.code_check.proofs.StartWalk.{decoded_at}
 use Rattle.code_check.proofs.Operands.{AreBytes, decoded_fits, AreBytes-drop}
 use Rattle.code_check.proofs.Arrivals.{step_may_arrive, arrived, not_arrived, arrives_size, follows_nothing, follows_both, still_at, stuck_none}
@@ -155,8 +158,16 @@ module _ (code : List ℕ) (notes : List TryNote) (starts : List Bool) (old : Fo
       at_two : IsAt code notes starts two s
       at_two = still_at code notes starts one two s at_one gone_away.goes
 
-      pub catch_stops : ((c : List ℕ) → IsAt c notes starts two s → HasNoTable c notes) → HasNoTable code notes
-      catch_stops f = f code at_two
+      module _ (index : Index) (i : IsIndexed notes (length code) (HasLanding old) index) where
+        indexed_two : IsIndexed notes (length code) (HasLanding two) index
+        indexed_two = indexed_on notes (length code) (HasLanding old) (HasLanding two) index (λ note was. gone_away.goes.has (landing note) (gone.goes.has (landing note) was)) i
 
-      pub all_looked : (new : Found) → ((c : List ℕ) → IsAt c notes starts two s → Follows c notes two new (caught notes s)) → Goes code notes old new × IsLookedAt code notes new s
-      all_looked new f = looked code notes starts s step r old one two new enough gone gone_away (f code at_two)
+        pub catch_stops : ((c : List ℕ) → IsAt c notes starts two s → IsIndexed notes (length c) (HasLanding two) index → HasNoTable c notes) → HasNoTable code notes
+        catch_stops f = f code at_two indexed_two
+
+        module _ (new : Found) (after : Index) (f : (c : List ℕ) → IsAt c notes starts two s → IsIndexed notes (length c) (HasLanding two) index → Catches c notes s two new after) where
+          pub all_looked : Goes code notes old new × IsLookedAt code notes new s
+          all_looked = looked code notes starts s step r old one two new enough gone gone_away (f code at_two indexed_two).follows
+
+          pub all_indexed : IsIndexed notes (length code) (HasLanding new) after
+          all_indexed = (f code at_two indexed_two).indexed

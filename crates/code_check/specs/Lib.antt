@@ -1,4 +1,6 @@
 pub mod Steps
 pub mod Survey
+pub mod NoteIndex
+pub mod Catches
 pub mod Verdicts
 pub mod Parts

@@ -1,9 +1,12 @@
 //! The depths that are found at the offsets of code.
 
-ghost use Rattle.std.specs.Prelude.{◌≡◌, ℕ, ◌+◌, ◌-◌, ◌^◌, ◌<◌, ◌≤◌, false, slice_index_or, [], List, Some, None, IsSome, IfOk, IfErr, IfSome, OnOk, length, replicate};
+ghost use Rattle.std.specs.Prelude.{◌≡◌, ℕ, ◌+◌, ◌-◌, ◌*◌, ◌^◌, ◌<◌, ◌≤◌, false, slice_index_or, [], List, Some, None, IsSome, IfOk, IfErr, IfSome, OnOk, length, replicate};
 ghost use Rattle.bytecode_buf.specs.Machine as machine;
-ghost use Rattle.code_check.specs.Survey.{Arrives, AreStarts, Blocked, Clashes, Follows, Goes, HasNoTable, IsAt, IsLookedAt, IsSearched, Lands, StopsFor, depth_at};
+ghost use Rattle.code_check.specs.Catches.{Catches, CatchesAt, HasLanding, HasShape, StandsAt};
+ghost use Rattle.code_check.specs.NoteIndex.{AreLinked, IsIndexed};
+ghost use Rattle.code_check.specs.Survey.{Arrives, AreStarts, Blocked, Clashes, Goes, HasNoTable, IsAt, IsLookedAt, IsSearched, Lands, StopsFor, depth_at};
 
+use crate::note_index::NoteIndex;
 use crate::step::{Landing, step_of};
 use bytecode_buf::decode_at;
 use std::alloc::{AllocError, AllocFailed, Global};
@@ -61,13 +64,6 @@ fn starts_at(starts: &[bool], at: u64) -> bool
     starts.get(at as usize).copied().unwrap_or(false)
 }
 
-/// Whether a throw at an offset with so many values on the stack may go to the note's end.
-fn is_caught_by(at: usize, depth: u64, note: TryNote) -> bool
-    ensures { result ≡ machine.is_caught_by (record { at = at; depth = depth }) note }
-{
-    note.start <= at as u64 && (at as u64) < note.end && u64::from(note.depth) <= depth
-}
-
 impl Survey {
     /// No depth, for code of this size.
     pub(crate) fn new(alloc: Global, size: usize) -> Result<Survey, AllocError>
@@ -120,22 +116,47 @@ impl Survey {
         }
     }
 
+    /// Goes where a throw may go by the notes of a node that are no deeper than the stack.
+    fn catch_at(
+        &mut self,
+        index: &mut NoteIndex,
+        notes: &[TryNote],
+        starts: &[bool],
+        node: usize,
+        depth: u64,
+    ) -> Result<(), Stop>
+        requires size { length starts.now ≡ length self.old.depths }
+        requires node { node < length index.old.heads }
+        requires linked { AreLinked index.old.entries }
+        ensures shape { OnOk result (HasShape self.old self.new index.old index.new) }
+        ensures ok { OnOk result ((code : List ℕ) (at : ℕ) (rows : ℕ → List TryNote) → StandsAt code notes.now starts.now node (record { at = at; depth = depth }) self.old index.old rows → CatchesAt code notes.now node depth self.old self.new rows index.new) }
+        ensures err { IfErr result (λ stop. StopsFor stop ((code : List ℕ) (at : ℕ) (rows : ℕ → List TryNote) → StandsAt code notes.now starts.now node (record { at = at; depth = depth }) self.old index.old rows → HasNoTable code notes.now)) }
+    {
+        while let Some(note) = index.take(notes, node, depth) {
+            self.arrive(starts, note.end, u64::from(note.depth))?;
+        }
+        Ok(())
+    }
+
     /// Goes where a throw at a state may go.
     fn catch(
         &mut self,
-        starts: &[bool],
+        index: &mut NoteIndex,
         notes: &[TryNote],
+        starts: &[bool],
         at: usize,
         depth: u64,
     ) -> Result<(), Stop>
-        requires { length starts.now ≡ length self.old.depths }
-        ensures ok { OnOk result ((code : List ℕ) → IsAt code notes.now starts.now self.old (record { at = at; depth = depth }) → Follows code notes.now self.old self.new (machine.caught notes.now (record { at = at; depth = depth }))) }
-        ensures err { IfErr result (λ stop. StopsFor stop ((code : List ℕ) → IsAt code notes.now starts.now self.old (record { at = at; depth = depth }) → HasNoTable code notes.now)) }
+        requires size { length starts.now ≡ length self.old.depths }
+        requires inside { 2 * at < length index.old.heads }
+        requires linked { AreLinked index.old.entries }
+        ensures ok { OnOk result ((code : List ℕ) → IsAt code notes.now starts.now self.old (record { at = at; depth = depth }) → IsIndexed notes.now (length code) (HasLanding self.old) index.old → Catches code notes.now (record { at = at; depth = depth }) self.old self.new index.new) }
+        ensures err { IfErr result (λ stop. StopsFor stop ((code : List ℕ) → IsAt code notes.now starts.now self.old (record { at = at; depth = depth }) → IsIndexed notes.now (length code) (HasLanding self.old) index.old → HasNoTable code notes.now)) }
     {
-        for note in notes {
-            if is_caught_by(at, depth, *note) {
-                self.arrive(starts, note.end, u64::from(note.depth))?;
-            }
+        let mut node = index.leaf(at);
+        while node > 0 {
+            self.catch_at(index, notes, starts, node, depth)?;
+            node /= 2;
         }
         Ok(())
     }
@@ -154,15 +175,18 @@ impl Survey {
     /// Looks at the instruction at a state that was found, and puts the states down to which it may lead.
     fn look(
         &mut self,
+        index: &mut NoteIndex,
         code: &[u8],
         notes: &[TryNote],
         starts: &[bool],
         at: usize,
         depth: u64,
     ) -> Result<(), Stop>
-        requires { IsAt code.now notes.now starts.now self.old (record { at = at; depth = depth }) }
+        requires at { IsAt code.now notes.now starts.now self.old (record { at = at; depth = depth }) }
+        requires indexed { IsIndexed notes.now (length code.now) (HasLanding self.old) index.old }
         ensures goes { OnOk result (Goes code.now notes.now self.old self.new) }
         ensures looked { OnOk result (IsLookedAt code.now notes.now self.new (record { at = at; depth = depth })) }
+        ensures indexed { OnOk result (IsIndexed notes.now (length code.now) (HasLanding self.new) index.new) }
         ensures err { IfErr result (λ stop. StopsFor stop (HasNoTable code.now notes.now)) }
     {
         let Some(instr) = decode_at(code, at) else {
@@ -174,25 +198,27 @@ impl Survey {
         }
         self.land(starts, depth, step.taken, step.next)?;
         self.land(starts, depth, step.taken, step.target)?;
-        self.catch(starts, notes, at, depth)?;
+        self.catch(index, notes, starts, at, depth)?;
         Ok(())
     }
 
     /// Looks at each instruction that is reached.
     pub(crate) fn search(
         &mut self,
+        index: &mut NoteIndex,
         code: &[u8],
         notes: &[TryNote],
         starts: &[bool],
     ) -> Result<(), Stop>
         requires starts { AreStarts code.now starts.now }
         requires searched { IsSearched code.now notes.now self.old }
+        requires indexed { IsIndexed notes.now (length code.now) (HasLanding self.old) index.old }
         ensures ok { OnOk result (machine.IsLeastTable code.now notes.now (depth_at self.new.depths)) }
         ensures err { IfErr result (λ stop. StopsFor stop (HasNoTable code.now notes.now)) }
     {
         while let Some(at) = self.pending.pop() {
             let depth = self.depth_at(at);
-            self.look(code, notes, starts, at, depth)?;
+            self.look(index, code, notes, starts, at, depth)?;
         }
         Ok(())
     }

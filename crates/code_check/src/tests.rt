@@ -139,6 +139,179 @@ fn throws(rt: HostRuntime) -> Result<(), Fail> {
     Ok(())
 }
 
+// Code that pushes a value and throws it, and then ends at each of `ends` offsets.
+fn thrower(alloc: Global, ends: usize) -> Result<Vec<u8>, AllocError> {
+    let mut code = plain(alloc, &[Op::One, Op::Throw])?;
+    for _ in 0..ends {
+        code.push(Op::RetRval.byte())?;
+    }
+    Ok(code)
+}
+
+// Notes within one another, each with an end of its own, the widest first and last.
+#[test]
+fn nested(rt: HostRuntime) -> Result<(), Fail> {
+    let alloc = rt.alloc();
+    let mut code = thrower(alloc, 40)?;
+    let mut notes = Vec::new(alloc);
+    for i in 0..40 {
+        notes.push(TryNote {
+            start: 0,
+            end: 41 - i,
+            depth: 0,
+        })?;
+    }
+    for i in 0..40 {
+        notes.push(TryNote {
+            start: 1,
+            end: 2 + i,
+            depth: 0,
+        })?;
+    }
+    assert_eq!(rt;
+        verify_code(alloc, &code, &notes)?,
+        Verdict::Sound { depth: 1 }
+    );
+    if let Some(last) = code.get_mut(41) {
+        *last = Op::Pop.byte();
+    }
+    assert_eq!(rt; verify_code(alloc, &code, &notes)?, Verdict::Unsound);
+    Ok(())
+}
+
+// Nested notes of which each is one deeper than the one around it.
+#[test]
+fn deeper_inside(rt: HostRuntime) -> Result<(), Fail> {
+    let alloc = rt.alloc();
+    let mut code = plain(alloc, &[Op::One, Op::One, Op::One, Op::One, Op::Throw])?;
+    for _ in 0..3 {
+        code.push(Op::Pop.byte())?;
+    }
+    code.push(Op::RetRval.byte())?;
+    let mut notes = Vec::new(alloc);
+    for i in 0..4 {
+        notes.push(TryNote {
+            start: i,
+            end: 8 - i,
+            depth: i as u32,
+        })?;
+    }
+    assert_eq!(rt;
+        verify_code(alloc, &code, &notes)?,
+        Verdict::Sound { depth: 4 }
+    );
+    if let Some(note) = notes.get_mut(1) {
+        note.depth = 2;
+    }
+    assert_eq!(rt; verify_code(alloc, &code, &notes)?, Verdict::Unsound);
+    Ok(())
+}
+
+// Notes that catch nothing, since they are too deep, around no offset, or behind the code.
+#[test]
+fn idle_notes(rt: HostRuntime) -> Result<(), Fail> {
+    let alloc = rt.alloc();
+    let code = plain(alloc, &[Op::One, Op::One, Op::Throw, Op::Pop, Op::RetRval])?;
+    let deep = TryNote {
+        start: 0,
+        end: 9,
+        depth: 3,
+    };
+    let empty = TryNote {
+        start: 2,
+        end: 2,
+        depth: 0,
+    };
+    let backward = TryNote {
+        start: 3,
+        end: 1,
+        depth: 0,
+    };
+    let behind = TryNote {
+        start: 5,
+        end: 7,
+        depth: 0,
+    };
+    let far = TryNote {
+        start: 18_446_744_073_709_551_614,
+        end: 18_446_744_073_709_551_615,
+        depth: 0,
+    };
+    let notes = [deep, empty, backward, behind, far];
+    assert_eq!(rt;
+        verify_code(alloc, &code, &notes)?,
+        Verdict::Sound { depth: 2 }
+    );
+    assert_eq!(rt; verify_code(alloc, &[], &notes)?, Verdict::Unsound);
+    Ok(())
+}
+
+// A note that ends behind the code, where it catches.
+#[test]
+fn ends_outside(rt: HostRuntime) -> Result<(), Fail> {
+    let alloc = rt.alloc();
+    let code = plain(alloc, &[Op::One, Op::Throw])?;
+    for end in [2, 3, 18_446_744_073_709_551_615] {
+        let note = TryNote {
+            start: 1,
+            end,
+            depth: 0,
+        };
+        assert_eq!(rt; verify_code(alloc, &code, &[note])?, Verdict::Unsound);
+    }
+    Ok(())
+}
+
+// Notes with one end, with one depth and with two.
+#[test]
+fn lands_twice(rt: HostRuntime) -> Result<(), Fail> {
+    let alloc = rt.alloc();
+    let code = plain(alloc, &[Op::One, Op::One, Op::Throw, Op::RetRval])?;
+    let note = TryNote {
+        start: 0,
+        end: 3,
+        depth: 0,
+    };
+    let inner = TryNote { start: 2, ..note };
+    assert_eq!(rt;
+        verify_code(alloc, &code, &[note, inner, note])?,
+        Verdict::Sound { depth: 2 }
+    );
+    let deeper = TryNote { depth: 1, ..inner };
+    assert_eq!(rt;
+        verify_code(alloc, &code, &[note, deeper])?,
+        Verdict::Unsound
+    );
+    assert_eq!(rt;
+        verify_code(alloc, &code, &[deeper, note])?,
+        Verdict::Unsound
+    );
+    Ok(())
+}
+
+// As many notes as pairs of instructions, most of them around most of the code, and every second one too deep.
+#[test]
+fn many_notes(rt: HostRuntime) -> Result<(), Fail> {
+    let alloc = rt.alloc();
+    let mut code = Vec::new(alloc);
+    let mut notes = Vec::new(alloc);
+    for i in 0..2000 {
+        code.push(Op::One.byte())?;
+        code.push(Op::Pop.byte())?;
+        notes.push(TryNote {
+            start: i,
+            end: 4000 - i % 3 * 2,
+            depth: (i % 2 * 2) as u32,
+        })?;
+    }
+    code.push(Op::RetRval.byte())?;
+    assert_eq!(rt;
+        verify_code(alloc, &code, &notes)?,
+        Verdict::Sound { depth: 1 }
+    );
+    Ok(())
+}
+
 // A part without scopes, notes and inner functions.
 fn part(alloc: Global, ops: &[Op]) -> Result<FunctionStencil, AllocError> {
     Ok(FunctionStencil {

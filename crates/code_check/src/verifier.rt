@@ -1,26 +1,31 @@
 //! Whether code never takes from an empty stack and never leaves its instructions.
 
 ghost use Rattle.std.specs.Prelude.{◌≡◌, option_copied, IfOk, IfErr, IfSome, IsSome, Some};
+ghost use Rattle.std.specs.List.Sorted.{IsNonDecreasingBy};
 ghost use Rattle.bytecode_buf.specs.Machine as machine;
 ghost use Rattle.code_check.specs.Parts.{part_of};
 ghost use Rattle.code_check.specs.Survey.{HasNoTable, StopsFor, depth_at};
-ghost use Rattle.code_check.specs.Verdicts.{IsGreatest, IsNeverStuck, IsVerified, soundness};
+ghost use Rattle.code_check.specs.Verdicts.{IsNeverStuck, soundness};
+ghost use Rattle.code_verdicts.specs.Verdicts.{IsGreatest, IsVerified};
 
+use crate::note_index::{NoteIndex, sorted_notes};
 use crate::starts::instruction_starts;
 use crate::survey::{Stop, Survey};
 use crate::verdict::Verdict;
 use std::alloc::{AllocError, Global};
 use stencil_data::{Entry, FunctionStencil, MergedStencil, TryNote};
 
-/// The least depth table: the depths at the offsets of the code.
+/// The least depth table, by notes of rising depth: the depths at the offsets of the code.
 fn least_table(alloc: Global, code: &[u8], notes: &[TryNote]) -> Result<Vec<Option<u64>>, Stop>
+    requires { IsNonDecreasingBy (λ note. note.depth) notes.now }
     ensures ok { IfOk result (λ depths. machine.IsLeastTable code.now notes.now (depth_at depths.items)) }
     ensures err { IfErr result (λ stop. StopsFor stop (HasNoTable code.now notes.now)) }
 {
     let starts = instruction_starts(alloc, code)?;
+    let mut index = NoteIndex::new(alloc, notes, code.len())?;
     let mut survey = Survey::new(alloc, code.len())?;
     survey.arrive(&starts, 0, 0)?;
-    survey.search(code, notes, &starts)?;
+    survey.search(&mut index, code, notes, &starts)?;
     Ok(survey.into_depths())
 }
 
@@ -45,7 +50,8 @@ pub fn verify_code(alloc: Global, code: &[u8], notes: &[TryNote]) -> Result<Verd
     ensures verdict { IfOk result (λ v. IsVerified code.now notes.now (soundness v)) }
     ensures free { IfOk result (λ v. IsNeverStuck code.now notes.now v) }
 {
-    match least_table(alloc, code, notes) {
+    let sorted = sorted_notes(alloc, notes)?;
+    match least_table(alloc, code, &sorted) {
         Ok(depths) => Ok(Verdict::Sound {
             depth: greatest(&depths),
         }),

@@ -1,0 +1,5 @@
+pub mod SameSteps
+pub mod SameVerdict
+pub mod ImageCodes
+pub mod OneListing
+pub mod OneVerdict

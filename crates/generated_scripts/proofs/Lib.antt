@@ -1,0 +1,14 @@
+pub mod Commands
+pub mod Counting
+pub mod Digits
+pub mod Lines
+pub mod LinesRead
+pub mod NamesAndNumbers
+pub mod Quiet
+pub mod Scanning
+pub mod Shallow
+pub mod Shapes
+pub mod SpelledParts
+pub mod Trees
+pub mod Valid
+pub mod WholeTexts

@@ -1,0 +1,9 @@
+pub mod Instructions
+pub mod Joining
+pub mod Landing
+pub mod Reading
+pub mod Running
+pub mod Starts
+pub mod Staying
+pub mod Tables
+pub mod Within

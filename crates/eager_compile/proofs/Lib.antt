@@ -1,7 +1,7 @@
 mod Atoms
 mod Bodies
-mod Found
-mod Shown
+pub mod Found
+pub mod Shown
 pub mod Entries
 pub mod Functions
 pub mod Instructions

@@ -1,0 +1,11 @@
+pub mod CodeParts
+pub mod Places
+pub mod ExprCodes
+pub mod StmtCodes
+pub mod FunctionCodes
+pub mod TryTokens
+pub mod ScopeSizes
+pub mod Numbers
+pub mod Sites
+pub mod FunctionSizes
+pub mod Scripts

@@ -1,0 +1,2 @@
+-- How many bytes points take.
+pub mod Widths

@@ -1,0 +1,5 @@
+use Rattle.image_writer.proofs.Naming.{bytes_named}
+use Rattle.image_writer.proofs.numbering.NumberingSink.number.Goals as goal
+
+pub returns : goal.returns
+returns c = bytes_named c.args.self.now _

@@ -1,0 +1,144 @@
+-- Texts that are interned one after another, and their atoms.
+use Rattle.std.proofs.Common.{◌≡◌, ℕ, zero, suc, ◌+◌, ◌-◌, ◌^◌, ◌<◌, ◌≤◌, ◌⊎◌, inl, inr, List, [], ◌∷◌, ◌++◌, length, map, take, drop, get_or, Option, Some, None, refl, sym, ◌∙◌, ap, ap₂, subst, append_assoc, append-nil, arith, length-append, take-append-drop}
+use Rattle.std.specs.Prelude.{slice_get}
+use Rattle.std.proofs.lemmas.List.{get_or_past, get_or_append_left, get_or_read, map-append, take_all, take_more}
+use Rattle.std.proofs.lemmas.Option.{get_or_from_slice_get, slice_get_within}
+use Rattle.stencil_data.specs.StandsFor.{text_at}
+use Rattle.parser_atoms.specs.Places.{AreWithoutEquals, StandsIn, Interns}
+use Rattle.parser_atoms.proofs.Interning.{slice_get-append_old, slice_get-append_last, slice_get-append_cases}
+use Rattle.stencil_merge.specs.Atoms.{no_text, atom_by, AreAtoms, TakesIn}
+use Rattle.stencil_merge.proofs.Listing.{AreEqualTexts}
+use Rattle.stencil_merge.proofs.Moves.{Moves}
+
+-- ---- atoms of texts
+
+-- texts that are put behind change no atom
+pub are_atoms_grow : (texts other more : List (List ℕ)) (atoms : List ℕ) → AreAtoms texts other atoms → AreAtoms texts (other ++ more) atoms
+are_atoms_grow [] other more [] h = refl
+are_atoms_grow [] other more (a ∷ atoms) h = absurd (cc)
+are_atoms_grow (t ∷ texts) other more [] h = absurd (cc)
+are_atoms_grow (t ∷ texts) other more (a ∷ atoms) h =
+    let here : slice_get other a ≡ Some t = cc in
+    let rest : AreAtoms texts other atoms = cc in
+    ap₂ (λ (x : Option (List ℕ)) (xs : List (Option (List ℕ))). x ∷ xs) (slice_get-append_old other more a t here) (are_atoms_grow texts other more atoms rest)
+
+are_atoms_push : (texts other : List (List ℕ)) (atoms : List ℕ) (text : List ℕ) (atom : ℕ) → AreAtoms texts other atoms → slice_get other atom ≡ Some text → AreAtoms (texts ++ text ∷ []) other (atoms ++ atom ∷ [])
+are_atoms_push texts other atoms text atom h here =
+    map-append (slice_get other) atoms (atom ∷ [])
+    ∙ (ap₂ (λ (xs ys : List (Option (List ℕ))). xs ++ ys) h (ap (λ (x : Option (List ℕ)). x ∷ []) here) ∙ sym (map-append (λ (t : List ℕ). Some t) texts (text ∷ [])))
+
+-- what is no text's atom becomes none's either, and so each atom is changed for one of an equal text
+pub equal_texts : (texts other : List (List ℕ)) (atoms : List ℕ) → AreAtoms texts other atoms → length other < 2 ^ 32 → AreEqualTexts texts other atoms
+equal_texts [] other [] h few a = get_or_past other no_text [] (omega (arith, few))
+equal_texts [] other (n ∷ atoms) h few a = absurd (cc)
+equal_texts (t ∷ texts) other [] h few a = absurd (cc)
+equal_texts (t ∷ texts) other (n ∷ atoms) h few zero = let here : slice_get other n ≡ Some t = cc in get_or_from_slice_get other n t [] here
+equal_texts (t ∷ texts) other (n ∷ atoms) h few (suc a) = let rest : AreAtoms texts other atoms = cc in equal_texts texts other atoms rest few a
+
+atoms_within : (texts other : List (List ℕ)) (atoms : List ℕ) → AreAtoms texts other atoms → (a : ℕ) → a < length texts → atom_by atoms a < length other
+atoms_within [] other atoms h a lt = absurd (omega arith)
+atoms_within (t ∷ texts) other [] h a lt = absurd (cc)
+atoms_within (t ∷ texts) other (n ∷ atoms) h zero lt = let here : slice_get other n ≡ Some t = cc in slice_get_within other n t here
+atoms_within (t ∷ texts) other (n ∷ atoms) h (suc a) lt = let rest : AreAtoms texts other atoms = cc in atoms_within texts other atoms rest a (omega (arith, lt))
+
+pub moves_by : (texts other : List (List ℕ)) (atoms : List ℕ) → AreAtoms texts other atoms → length other < 2 ^ 32 → Moves texts other (atom_by atoms)
+moves_by texts other atoms h few = record { within = atoms_within texts other atoms h; same = λ a lt. equal_texts texts other atoms h few a }
+
+-- atoms stay as they are where texts are put behind
+pub moves_more : (texts more : List (List ℕ)) → Moves texts (texts ++ more) (λ a. a)
+moves_more texts more = record { within = λ a lt. omega (arith, lt, length-append texts more); same = λ a lt. get_or_append_left texts more [] a lt }
+
+-- ---- one text more
+
+stands_more : (texts : List (List ℕ)) (text other : List ℕ) → StandsIn texts other → StandsIn (texts ++ text ∷ []) other
+stands_more texts text other s = (s.0, slice_get-append_old texts (text ∷ []) s.0 other s.1)
+
+stands_last : (texts : List (List ℕ)) (text other : List ℕ) → text ≡ other → StandsIn (texts ++ text ∷ []) other
+stands_last texts text other e = subst (StandsIn (texts ++ text ∷ [])) e (length texts, slice_get-append_last texts text)
+
+among_more : (before texts : List (List ℕ)) (text other : List ℕ) → StandsIn before other ⊎ StandsIn texts other → StandsIn before other ⊎ StandsIn (texts ++ text ∷ []) other
+among_more before texts text other (inl s) = inl s
+among_more before texts text other (inr s) = inr (stands_more texts text other s)
+
+takes_same : (before texts now new : List (List ℕ)) (text : List ℕ) → new ≡ now → TakesIn before texts now → AreWithoutEquals new → TakesIn before (texts ++ text ∷ []) new
+takes_same before texts now new text same t apart = record {
+  more = t.more;
+  is = same ∙ t.is;
+  among = λ other s. among_more before texts text other (t.among other (subst (λ (l : List (List ℕ)). StandsIn l other) same s));
+  apart = apart;
+}
+
+takes_last : (before texts now new : List (List ℕ)) (text : List ℕ) → new ≡ now ++ text ∷ [] → TakesIn before texts now → AreWithoutEquals new → TakesIn before (texts ++ text ∷ []) new
+takes_last before texts now new text longer t apart = record {
+  more = t.more ++ text ∷ [];
+  is = longer ∙ (ap (λ (l : List (List ℕ)). l ++ text ∷ []) t.is ∙ append_assoc before t.more (text ∷ []));
+  among = λ other s. by other (subst (λ (l : List (List ℕ)). StandsIn l other) longer s);
+  apart = apart;
+}
+  where
+    by : (other : List ℕ) → StandsIn (now ++ text ∷ []) other → StandsIn before other ⊎ StandsIn (texts ++ text ∷ []) other
+    by other s = elim (slice_get-append_cases now text s.0 other s.1) [
+      | inl old ↦ among_more before texts text other (t.among other (s.0, old))
+      | inr last ↦ inr (stands_last texts text other last.1)
+    ]
+
+-- ---- the loop
+
+-- these texts were interned, with these atoms
+pub record Interned (before texts now : List (List ℕ)) (atoms : List ℕ) : Type 0 where
+  pub numbers : AreAtoms texts now atoms
+  pub taken : TakesIn before texts now
+  pub few : length now ≤ length before + length texts
+
+pub takes_none : (before : List (List ℕ)) → AreWithoutEquals before → TakesIn before [] before
+takes_none before apart = record { more = []; is = sym (append-nil before); among = λ text s. inl s; apart = apart }
+
+pub interned_none : (before : List (List ℕ)) → AreWithoutEquals before → Interned before [] before []
+interned_none before apart = record { numbers = refl; taken = takes_none before apart; few = omega arith }
+
+pub interned_more : (before texts now new : List (List ℕ)) (atoms : List ℕ) (text : List ℕ) (atom : ℕ) → Interned before texts now atoms → Interns now new text atom → AreWithoutEquals new → Interned before (texts ++ text ∷ []) new (atoms ++ atom ∷ [])
+interned_more before texts now new atoms text atom i (inl there) apart = record {
+  numbers = are_atoms_push texts new atoms text atom (subst (λ (l : List (List ℕ)). AreAtoms texts l atoms) (sym there.1) i.numbers) (ap (λ (l : List (List ℕ)). slice_get l atom) there.1 ∙ there.0);
+  taken = takes_same before texts now new text there.1 i.taken apart;
+  few = omega (arith, i.few, ap length there.1, length-append texts (text ∷ []));
+}
+interned_more before texts now new atoms text atom i (inr put) apart = record {
+  numbers = are_atoms_push texts new atoms text atom (subst (λ (l : List (List ℕ)). AreAtoms texts l atoms) (sym put.2) (are_atoms_grow texts now (text ∷ []) atoms i.numbers))
+      (ap (λ (l : List (List ℕ)). slice_get l atom) put.2 ∙ (ap (slice_get (now ++ text ∷ [])) put.1 ∙ slice_get-append_last now text));
+  taken = takes_last before texts now new text put.2 i.taken apart;
+  few = omega (arith, i.few, ap length put.2, length-append texts (text ∷ []), length-append now (text ∷ []));
+}
+
+-- fewer texts than are to be interned
+pub takes_among : (before texts rest now : List (List ℕ)) → TakesIn before texts now → TakesIn before (texts ++ rest) now
+takes_among before texts rest now t = record { more = t.more; is = t.is; among = λ text s. wider text (t.among text s); apart = t.apart }
+  where
+    wider : (text : List ℕ) → StandsIn before text ⊎ StandsIn texts text → StandsIn before text ⊎ StandsIn (texts ++ rest) text
+    wider text (inl s) = inl s
+    wider text (inr s) = inr (s.0, slice_get-append_old texts rest s.0 text s.1)
+
+-- ---- how far the loop has come in the list
+
+pub interned_next : (before all now new : List (List ℕ)) (atoms atoms_new : List ℕ) (i : ℕ) (text units : List ℕ) (atom : ℕ) → i < length all → text ≡ get_or all i text → units ≡ text → Interned before (take i all) now atoms
+    → Interns now new units atom → AreWithoutEquals new → atoms_new ≡ atoms ++ atom ∷ [] → Interned before (take (i + 1) all) new atoms_new
+interned_next before all now new atoms atoms_new i text units atom lt item units_is so_far interns apart longer =
+    subst (Interned before (take (i + 1) all) new) (sym longer)
+    (subst (λ (ts : List (List ℕ)). Interned before ts new (atoms ++ atom ∷ [])) (ap (λ (t : List ℕ). take i all ++ t ∷ []) (units_is ∙ get_or_read all i text lt item []) ∙ sym (take_more all i [] lt))
+    (interned_more before (take i all) now new atoms units atom so_far interns apart))
+
+pub interned_all : (before all now : List (List ℕ)) (atoms : List ℕ) (i : ℕ) → length all ≤ i → Interned before (take i all) now atoms → Interned before all now atoms
+interned_all before all now atoms i end so_far = subst (λ (ts : List (List ℕ)). Interned before ts now atoms) (take_all i all end) so_far
+
+pub taken_so_far : (before all now : List (List ℕ)) (atoms : List ℕ) (i : ℕ) → Interned before (take i all) now atoms → TakesIn before all now
+taken_so_far before all now atoms i so_far = subst (λ (ts : List (List ℕ)). TakesIn before ts now) (take-append-drop i all) (takes_among before (take i all) (drop i all) now so_far.taken)
+
+pub few_so_far : (before all now : List (List ℕ)) (atoms : List ℕ) (i : ℕ) → Interned before (take i all) now atoms → length now ≤ length before + length all
+few_so_far before all now atoms i so_far = omega (arith, so_far.few, length-append (take i all) (drop i all), ap length (take-append-drop i all))
+
+-- there is room for one more
+pub room_for_one : (before all now : List (List ℕ)) (atoms : List ℕ) (i : ℕ) → i < length all → length before + length all < 2 ^ 32 - 1 → Interned before (take i all) now atoms → length now < 2 ^ 32 - 1
+room_for_one before all now atoms i lt few so_far = omega (arith, few, few_so_far before all now atoms i so_far)
+
+-- no texts have no equals
+pub none_apart : AreWithoutEquals []
+none_apart text i j one two = absurd (cc)

@@ -1,0 +1,9 @@
+mod Decoding
+mod Interning
+mod Listing
+mod Merges
+mod Mergers
+mod Moves
+mod Outermost
+mod Renumbering
+mod Wholes

@@ -1,0 +1,145 @@
+-- What a merger knows of its parts: as it begins, as texts are interned, as a function is added.
+use Rattle.std.proofs.Common.{◌≡◌, ◌↔◌, IsTrue, Bool, true, false, true≢false, ℕ, ◌+◌, ◌-◌, ◌^◌, ◌<◌, ◌≤◌, List, [], ◌∷◌, ◌++◌, length, map, get_or, sym, ◌∙◌, ap, ap₂, subst, subst₂, arith}
+use Rattle.std.proofs.Math.ListN.{set, replicate}
+use Rattle.std.proofs.lemmas.List.{length-map, length-set, length-replicate, get_or-map, get_or_default}
+use Rattle.stencil_data.specs.declared.stencils.Entry.{Entry}
+use Rattle.stencil_data.specs.declared.stencils.Entry.TheVariants as entry
+use Rattle.stencil_data.specs.MergedView.{MergedView}
+use Rattle.stencil_data.specs.StandsFor.{MergedStandsFor}
+use Rattle.stencil_data.specs.Views.{RecordView, FunctionView, InitialView}
+use Rattle.bytecode_buf.specs.Command.{ShowsCommands}
+use Rattle.stencil_merge.specs.Atoms.{record_by, AreAtoms, TakesIn}
+use Rattle.stencil_merge.specs.Functions.{inner_of, numbers_in, outermost}
+use Rattle.stencil_merge.specs.Instructions.{ShowsListed, numbered_list, numbered_commands}
+use Rattle.stencil_merge.specs.Parts.{IsFunctionBy}
+use Rattle.stencil_merge.specs.Merging.{all_lazy, KeepsBy, AddsBy, Begins, Keeps, Adds, IsCompiled, IsSettled, AreSettled, IsMerging}
+use Rattle.stencil_merge.proofs.Merges.{settled_by, settled_more, are_settled_more, are_settled_set, are_settled_lazy, IsReading, by_list, by_commands, merged_more, added_already, added, begun}
+
+abbrev pub view : List (List ℕ) → FunctionView → List RecordView → List Entry → MergedView
+view texts top records entries = record { texts = texts; top = top; records = records; entries = entries }
+
+-- ---- texts that are interned
+
+module _ (texts new added_texts : List (List ℕ)) (top : FunctionView) (records : List RecordView) (entries : List Entry) (merging : IsMerging (view texts top records entries)) (taken : TakesIn texts added_texts new) (few : length new < 2 ^ 32) where
+  room : length (texts ++ taken.more) < 2 ^ 32
+  room = subst (λ (l : List (List ℕ)). length l < 2 ^ 32) taken.is few
+
+  pub grown : IsMerging (view new top records entries)
+  grown = record {
+    few = few;
+    apart = taken.apart;
+    many = merging.many;
+    top = subst (λ (l : List (List ℕ)). IsSettled l top.code) (sym taken.is) (settled_more texts taken.more top.code room merging.top);
+    entries = subst (λ (l : List (List ℕ)). AreSettled l entries) (sym taken.is) (are_settled_more texts taken.more entries room merging.entries);
+  }
+
+  grown_by : {Code : Type 0} (shows : List (List ℕ) → List ℕ → Code → Type 0) (numbered : List ℕ → Code → Code) → IsReading shows numbered → KeepsBy shows (view texts top records entries) (view new top records entries)
+  grown_by shows numbered reading named s =
+      subst (λ (l : List (List ℕ)). MergedStandsFor shows (view l top records entries) named) (sym taken.is) (merged_more shows numbered reading texts taken.more top records entries named room merging.top merging.entries s)
+
+  pub keeps : Keeps (view texts top records entries) (view new top records entries)
+  keeps = record { listed = grown_by ShowsListed numbered_list by_list; commands = grown_by ShowsCommands numbered_commands by_commands }
+
+  -- ---- a function that is added
+
+  module _ (number : ℕ) (stencil part : FunctionView) (atoms : List ℕ) (are : AreAtoms added_texts new atoms) (by : IsFunctionBy atoms (numbers_in (inner_of records) number) stencil part) where
+    pub merging_more : IsMerging (view new top records (set entries (number - 1) (entry.Compiled part)))
+    merging_more = record {
+      few = few;
+      apart = taken.apart;
+      many = length-set entries (number - 1) (entry.Compiled part) ∙ merging.many;
+      top = grown.top;
+      entries = are_settled_set new entries (number - 1) part grown.entries (settled_by added_texts new atoms (numbers_in (inner_of records) number) stencil.code part.code are few by.code);
+    }
+
+    adds_by : {Code : Type 0} (shows : List (List ℕ) → List ℕ → Code → Type 0) (numbered : List ℕ → Code → Code) → IsReading shows numbered → (IsCompiled (get_or entries (number - 1) entry.Lazy) → ⊥)
+        → AddsBy shows numbered number stencil added_texts (view texts top records entries) (view new top records (set entries (number - 1) (entry.Compiled part)))
+    adds_by shows numbered reading lazy named f s stands =
+        added shows numbered reading new added_texts top records entries named number atoms stencil part f lazy are few by stands (grown_by shows numbered reading named s)
+
+    pub adds : (IsCompiled (get_or entries (number - 1) entry.Lazy) → ⊥) → Adds number stencil added_texts (view texts top records entries) (view new top records (set entries (number - 1) (entry.Compiled part)))
+    adds lazy = record { listed = adds_by ShowsListed numbered_list by_list lazy; commands = adds_by ShowsCommands numbered_commands by_commands lazy }
+
+-- one that was added already
+pub adds_already : (merged : MergedView) (number : ℕ) (stencil : FunctionView) (texts : List (List ℕ)) → IsCompiled (get_or merged.entries (number - 1) entry.Lazy) → Adds number stencil texts merged merged
+adds_already merged number stencil texts compiled = record {
+  listed = λ named f s stands. added_already ShowsListed numbered_list by_list merged number f named compiled s;
+  commands = λ named f s stands. added_already ShowsCommands numbered_commands by_commands merged number f named compiled s;
+}
+
+-- ---- where no function is compiled
+
+module _ (parts : InitialView) (new : List (List ℕ)) (top : FunctionView) (atoms : List ℕ) (records : List RecordView) (entries : List Entry) (taken : TakesIn [] parts.texts new) (few : length new < 2 ^ 32) (are : AreAtoms parts.texts new atoms)
+    (by : IsFunctionBy atoms (outermost (inner_of parts.records)) parts.top top) (records_are : records ≡ map (record_by atoms) parts.records) (entries_are : entries ≡ replicate (length records) entry.Lazy) where
+  same_length : length records ≡ length parts.records
+  same_length = ap length records_are ∙ length-map parts.records (record_by atoms)
+
+  pub merging_begun : IsMerging (view new top records entries)
+  merging_begun = record {
+    few = few;
+    apart = taken.apart;
+    many = ap length entries_are ∙ length-replicate (length records) entry.Lazy;
+    top = settled_by parts.texts new atoms (outermost (inner_of parts.records)) parts.top.code top.code are few by.code;
+    entries = subst (AreSettled new) (sym entries_are) (are_settled_lazy new (length records));
+  }
+
+  whole : view new top (map (record_by atoms) parts.records) (replicate (length parts.records) entry.Lazy) ≡ view new top records entries
+  whole = ap₂ (view new top) (sym records_are) (ap (λ (n : ℕ). replicate n entry.Lazy) (sym same_length) ∙ sym entries_are)
+
+  pub begins : Begins parts (view new top records entries)
+  begins = record {
+    listed = λ named s. subst (λ (m : MergedView). MergedStandsFor ShowsListed m (all_lazy numbered_list named)) whole (begun ShowsListed numbered_list by_list parts new top atoms named are few by s);
+    commands = λ named s. subst (λ (m : MergedView). MergedStandsFor ShowsCommands m (all_lazy numbered_commands named)) whole (begun ShowsCommands numbered_commands by_commands parts new top atoms named are few by s);
+  }
+
+-- ---- what the code knows
+
+-- there are few texts still
+pub few_after : (merged : MergedView) (inside new added_texts : List (List ℕ)) → inside ≡ merged.texts → length merged.texts + length added_texts < 2 ^ 32 - 1 → length new ≤ length inside + length added_texts → length new < 2 ^ 32
+few_after merged inside new added_texts is few more = omega (arith, few, more, ap length is)
+
+-- the numbers that a record has
+pub numbers_are : (records : List RecordView) (number : ℕ) (lazy : RecordView) (given : List ℕ) → number - 1 < length records → lazy ≡ get_or records (number - 1) lazy → given ≡ lazy.inner → given ≡ numbers_in (inner_of records) number
+numbers_are records number lazy given lt is given_is =
+    given_is ∙ (ap (λ (l : RecordView). l.inner) is ∙ sym (get_or-map (λ (l : RecordView). l.inner) records (number - 1) lazy [] lt))
+
+here_is : (entries : List Entry) (place : ℕ) (e : Entry) → place < length entries → e ≡ get_or entries place e → e ≡ get_or entries place entry.Lazy
+here_is entries place e lt is = is ∙ get_or_default entries place e entry.Lazy lt
+
+pub is_compiled_here : (entries : List Entry) (place : ℕ) (e : Entry) (b : Bool) → place < length entries → e ≡ get_or entries place e → b ≡ true → (IsTrue b ↔ IsCompiled e) → IsCompiled (get_or entries place entry.Lazy)
+is_compiled_here entries place e b lt is compiled tells = subst IsCompiled (here_is entries place e lt is) (tells.0 compiled)
+
+pub is_lazy_here : (entries : List Entry) (place : ℕ) (e : Entry) (b : Bool) → place < length entries → e ≡ get_or entries place e → b ≡ false → (IsTrue b ↔ IsCompiled e) → IsCompiled (get_or entries place entry.Lazy) → ⊥
+is_lazy_here entries place e b lt is no_more tells compiled = true≢false (sym (tells.1 (subst IsCompiled (sym (here_is entries place e lt is)) compiled)) ∙ no_more)
+
+-- the place of a function's number
+pub place_within : (merged : MergedView) (records : List RecordView) (number : ℕ) → records ≡ merged.records → (1 ≤ number) × (number ≤ length merged.records) → number - 1 < length records
+place_within merged records number is h = omega (arith, ap length is, h.0, h.1)
+
+-- the parts of a script, in which no function is compiled
+pub both_begun : (parts : InitialView) (start given new : List (List ℕ)) (atoms given_atoms more_atoms numbers : List ℕ) (given_top top : FunctionView) (given_records more_records records : List RecordView) (entries : List Entry) (count : ℕ)
+    → start ≡ [] → given ≡ parts.texts → given_top ≡ parts.top → given_records ≡ parts.records → more_records ≡ parts.records → given_atoms ≡ atoms → more_atoms ≡ atoms → numbers ≡ outermost (inner_of given_records) → length parts.texts < 2 ^ 32 - 1
+    → TakesIn start given new → length new ≤ length start + length given → AreAtoms given new atoms → IsFunctionBy given_atoms numbers given_top top → records ≡ map (record_by more_atoms) more_records → entries ≡ replicate count entry.Lazy → count ≡ length records
+    → IsMerging (view new top records entries) × Begins parts (view new top records entries)
+both_begun parts start given new atoms given_atoms more_atoms numbers given_top top given_records more_records records entries count start_is given_is top_is records_is more_is atoms_is more_atoms_is numbers_is room_is taken few are by made filled count_is = (
+  merging_begun parts new top atoms records entries taken' few' are' by' made' filled',
+  begins parts new top atoms records entries taken' few' are' by' made' filled',
+)
+  where
+    taken' : TakesIn [] parts.texts new
+    taken' = subst₂ (λ (s g : List (List ℕ)). TakesIn s g new) start_is given_is taken
+
+    few' : length new < 2 ^ 32
+    few' = omega (arith, few, room_is, ap length start_is, ap length given_is)
+
+    are' : AreAtoms parts.texts new atoms
+    are' = subst (λ (g : List (List ℕ)). AreAtoms g new atoms) given_is are
+
+    by' : IsFunctionBy atoms (outermost (inner_of parts.records)) parts.top top
+    by' = subst₂ (λ (xs ns : List ℕ). IsFunctionBy xs ns parts.top top) atoms_is (numbers_is ∙ ap (λ (ls : List RecordView). outermost (inner_of ls)) records_is) (subst (λ (t : FunctionView). IsFunctionBy given_atoms numbers t top) top_is by)
+
+    made' : records ≡ map (record_by atoms) parts.records
+    made' = made ∙ ap₂ (λ (xs : List ℕ) (ls : List RecordView). map (record_by xs) ls) more_atoms_is more_is
+
+    filled' : entries ≡ replicate (length records) entry.Lazy
+    filled' = filled ∙ ap (λ (n : ℕ). replicate n entry.Lazy) count_is

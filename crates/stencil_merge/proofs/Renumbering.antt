@@ -1,0 +1,206 @@
+-- A loop over instructions, some of which get another operand.
+use Rattle.std.proofs.Common.{◌≡◌, ℕ, ◌+◌, ◌<◌, ◌≤◌, List, [], ◌∷◌, ◌++◌, length, take, drop, map, Option, Some, None, option_map, refl, sym, ◌∙◌, ap, ap₂, subst, append_assoc, arith, length-drop, length-take-le, take-append-drop, take-add, drop-drop, drop_at, IsTrue, IsSomeAnd, Bool, true, false}
+use Rattle.std.specs.Prelude.{unwrap_or}
+use Rattle.bytecode_buf.specs.declared.instruction.Instr.{Instr}
+use Rattle.bytecode_buf.specs.declared.opcode.Op.{Op}
+use Rattle.bytecode_buf.specs.declared.opcode.Op.TheVariants as op
+use Rattle.bytecode_buf.specs.declared.opcode.Shape.{Shape}
+use Rattle.bytecode_buf.specs.declared.opcode.Shape.TheVariants as shape
+use Rattle.bytecode_buf.specs.Bytes.{le_bytes, written}
+use Rattle.bytecode_buf.specs.Width.{shape_of, width_of, is_jump, is_jump_shape, has_number, has_number_shape}
+use Rattle.bytecode_buf.specs.Layout.{Numbered, decoded, instructions, instr_at, instr_by, renumbered, BeginsNumbered}
+use Rattle.bytecode_buf.proofs.Decode.{numbered_widths}
+use Rattle.stencil_merge.specs.Instructions.{made_number, new_operand_of, new_operand, instruction_by, AreInstructionsBy}
+use Rattle.stencil_merge.proofs.Decoding.{instructions_some, instructions_no, decoded_local, decoded_room, take_written, drop_written}
+
+-- ---- the loop
+
+-- where the instructions from the offset on become these with their new operands, all do
+abbrev pub Renumbering : List ℕ → List ℕ → List ℕ → List ℕ → ℕ → Type 0
+Renumbering atoms numbers before now at =
+    (drop at now ≡ drop at before)
+    × ((rest : List ℕ) → instructions rest ≡ map (instruction_by atoms numbers) (instructions (drop at before)) → instructions (take at now ++ rest) ≡ map (instruction_by atoms numbers) (instructions before))
+
+-- this instruction stands at the offset, and then its like with its new operand
+record Turn (atoms numbers now new : List ℕ) (at next : ℕ) : Type 0 where
+  pub i : Numbered
+  pub was : decoded (drop at now) ≡ Some i
+  pub next_is : at + width_of i.op ≡ next
+  pub front : take at new ≡ take at now
+  pub is : decoded (drop at new) ≡ Some (instruction_by atoms numbers i)
+  pub back : drop next new ≡ drop next now
+
+turned : (atoms numbers before now new : List ℕ) (at next : ℕ) → Turn atoms numbers now new at next → Renumbering atoms numbers before now at → Renumbering atoms numbers before new next
+turned atoms numbers before now new at next t r = (t.back ∙ same_back, λ rest is. ap instructions (cut rest) ∙ r.1 (take w (drop at new) ++ rest) (moved rest is))
+  where
+    w : ℕ
+    w = width_of t.i.op
+
+    same_back : drop next now ≡ drop next before
+    same_back = sym (drop-drop w at now ∙ ap (λ (n : ℕ). drop n now) t.next_is) ∙ (ap (drop w) r.0 ∙ (drop-drop w at before ∙ ap (λ (n : ℕ). drop n before) t.next_is))
+
+    cut : (rest : List ℕ) → take next new ++ rest ≡ take at now ++ (take w (drop at new) ++ rest)
+    cut rest = ap (λ (l : List ℕ). l ++ rest) (sym (ap (λ (n : ℕ). take n new) t.next_is) ∙ (take-add at w new ∙ ap (λ (l : List ℕ). l ++ take w (drop at new)) t.front)) ∙ append_assoc (take at now) (take w (drop at new)) rest
+
+    here : (rest : List ℕ) → instructions (take w (drop at new) ++ rest) ≡ instruction_by atoms numbers t.i ∷ instructions rest
+    here rest = instructions_some (take w (drop at new) ++ rest) (instruction_by atoms numbers t.i) (decoded_local (drop at new) rest (instruction_by atoms numbers t.i) t.is)
+        ∙ ap (λ (l : List ℕ). instruction_by atoms numbers t.i ∷ instructions l) (drop_at (take w (drop at new)) rest w (front_width))
+      where
+        front_width : length (take w (drop at new)) ≡ w
+        front_width = length-take-le w (drop at new) (decoded_room (drop at new) (instruction_by atoms numbers t.i) t.is)
+
+    old : instructions (drop at before) ≡ t.i ∷ instructions (drop next before)
+    old = instructions_some (drop at before) t.i (ap decoded (sym r.0) ∙ t.was) ∙ ap (λ (l : List ℕ). t.i ∷ instructions l) (drop-drop w at before ∙ ap (λ (n : ℕ). drop n before) t.next_is)
+
+    moved : (rest : List ℕ) → instructions rest ≡ map (instruction_by atoms numbers) (instructions (drop next before)) → instructions (take w (drop at new) ++ rest) ≡ map (instruction_by atoms numbers) (instructions (drop at before))
+    moved rest is = here rest ∙ (ap (λ (l : List Numbered). instruction_by atoms numbers t.i ∷ l) is ∙ sym (ap (map (instruction_by atoms numbers)) old))
+
+-- ---- what is read at the offset
+
+record Reads (code : List ℕ) (at : ℕ) (instr : Instr) : Type 0 where
+  pub i : Numbered
+  pub is : instr ≡ instr_at at i
+  pub at_place : decoded (drop at code) ≡ Some i
+
+reads_by : (code : List ℕ) (at : ℕ) (instr : Instr) (d : Option Numbered) → decoded (drop at code) ≡ d → Some instr ≡ option_map (instr_at at) d → Reads code at instr
+reads_by code at instr None found is = absurd (cc)
+reads_by code at instr (Some i) found is = record { i = i; is = cc; at_place = found }
+
+reads : (code : List ℕ) (at : ℕ) (instr : Instr) → Some instr ≡ option_map (instr_at at) (decoded (drop at code)) → Reads code at instr
+reads code at instr is = reads_by code at instr (decoded (drop at code)) refl is
+
+by_op : (b : Bool) (o : Op) (a c next : ℕ) → (instr_by b o a c next).op ≡ o
+by_op true o a c next = refl
+by_op false o a c next = refl
+
+by_next : (b : Bool) (o : Op) (a c next : ℕ) → (instr_by b o a c next).next ≡ next
+by_next true o a c next = refl
+by_next false o a c next = refl
+
+op_is : (code : List ℕ) (at : ℕ) (instr : Instr) (r : Reads code at instr) → instr.op ≡ r.i.op
+op_is code at instr r = ap (λ (x : Instr). x.op) r.is ∙ by_op (is_jump r.i.op) r.i.op r.i.a r.i.b (at + width_of r.i.op)
+
+next_is : (code : List ℕ) (at : ℕ) (instr : Instr) (r : Reads code at instr) → at + width_of r.i.op ≡ instr.next
+next_is code at instr r = sym (ap (λ (x : Instr). x.next) r.is ∙ by_next (is_jump r.i.op) r.i.op r.i.a r.i.b (at + width_of r.i.op))
+
+none_by : (code : List ℕ) (at : ℕ) (d : Option Numbered) → decoded (drop at code) ≡ d → None ≡ option_map (instr_at at) d → decoded (drop at code) ≡ None
+none_by code at None found is = found
+none_by code at (Some i) found is = absurd (cc)
+
+reads_none : (code : List ℕ) (at : ℕ) → None ≡ option_map (instr_at at) (decoded (drop at code)) → decoded (drop at code) ≡ None
+reads_none code at is = none_by code at (decoded (drop at code)) refl is
+
+-- ---- one with no other operand
+
+-- whether there is another operand is a matter of the opcode
+unmade_by : (numbers : List ℕ) (o : Op) (p a : ℕ) → made_number numbers o p ≡ None → made_number numbers o a ≡ None
+unmade_by numbers op.Lambda p a none = absurd (cc)
+unmade_by numbers _ p a none = refl
+
+same_by : (atoms numbers : List ℕ) (o : Op) (s : Shape) (p a : ℕ) → new_operand_of atoms numbers o s p ≡ None → new_operand_of atoms numbers o s a ≡ None
+same_by atoms numbers o shape.Atom p a none = absurd (cc)
+same_by atoms numbers o _ p a none = unmade_by numbers o p a none
+
+unmade : (atoms numbers : List ℕ) (o : Op) (p a : ℕ) → new_operand atoms numbers o p ≡ None → unwrap_or (new_operand atoms numbers o a) a ≡ a
+unmade atoms numbers o p a none = ap (λ (x : Option ℕ). unwrap_or x a) (same_by atoms numbers o (shape_of o) p a none)
+
+-- ---- one with another operand
+
+lambda_op : (numbers : List ℕ) (o : Op) (place number : ℕ) → made_number numbers o place ≡ Some number → o ≡ op.Lambda
+lambda_op numbers op.Lambda place number is = refl
+lambda_op numbers _ place number is = absurd (cc)
+
+numbered_by : (atoms numbers : List ℕ) (o : Op) (s : Shape) (a n : ℕ) → s ≡ shape_of o → new_operand_of atoms numbers o s a ≡ Some n → has_number_shape s ≡ true
+numbered_by atoms numbers o shape.Atom a n is made = refl
+numbered_by atoms numbers o _ a n is made = ap has_number_shape (is ∙ ap shape_of (lambda_op numbers o a n made))
+
+no_jump : (s : Shape) → has_number_shape s ≡ true → is_jump_shape s ≡ false
+no_jump shape.Atom is = refl
+no_jump shape.Num is = refl
+no_jump shape.Jump is = absurd (cc)
+no_jump _ is = refl
+
+is_numbered : (atoms numbers : List ℕ) (o : Op) (a n : ℕ) → new_operand atoms numbers o a ≡ Some n → has_number o ≡ true
+is_numbered atoms numbers o a n made = numbered_by atoms numbers o (shape_of o) a n refl made
+
+-- ---- the parts of a proof
+
+pub begins : (atoms numbers code : List ℕ) → Renumbering atoms numbers code code 0
+begins atoms numbers code = (refl, λ rest is. is)
+
+-- the loop's measure falls
+pub falls : (code : List ℕ) (at : ℕ) (instr : Instr) → Some instr ≡ option_map (instr_at at) (decoded (drop at code)) → (at < instr.next) × (instr.next ≤ length code)
+falls code at instr is = (omega (arith, next), omega (arith, next, room, length-drop at code, some))
+  where
+    r : Reads code at instr
+    r = reads code at instr is
+
+    next : at + width_of r.i.op ≡ instr.next
+    next = next_is code at instr r
+
+    room : width_of r.i.op ≤ length (drop at code)
+    room = decoded_room (drop at code) r.i r.at_place
+
+    some : 1 ≤ width_of r.i.op
+    some = omega arith
+
+-- an instruction with no other operand is passed over
+pub passes : (atoms numbers before now : List ℕ) (at : ℕ) (instr : Instr) → Some instr ≡ option_map (instr_at at) (decoded (drop at now)) → None ≡ new_operand atoms numbers instr.op instr.a → Renumbering atoms numbers before now at → Renumbering atoms numbers before now instr.next
+passes atoms numbers before now at instr is none r = turned atoms numbers before now now at instr.next (record {
+  i = read.i;
+  was = read.at_place;
+  next_is = next_is now at instr read;
+  front = refl;
+  is = read.at_place ∙ ap (λ (n : Numbered). Some n) (sym (ap (λ (x : ℕ). let n : Numbered = record { op = read.i.op; a = x; b = read.i.b } in n) (unmade atoms numbers read.i.op instr.a read.i.a (ap (λ (o : Op). new_operand atoms numbers o instr.a) (sym (op_is now at instr read)) ∙ sym none))));
+  back = refl;
+}) r
+  where
+    read : Reads now at instr
+    read = reads now at instr is
+
+pub begins_numbered : (atoms numbers code : List ℕ) (at : ℕ) (instr : Instr) (n : ℕ) → Some instr ≡ option_map (instr_at at) (decoded (drop at code)) → Some n ≡ new_operand atoms numbers instr.op instr.a → BeginsNumbered (drop at code)
+begins_numbered atoms numbers code at instr n is made = subst (λ (d : Option Numbered). IsSomeAnd d (λ i. IsTrue (has_number i.op))) (sym read.at_place) (subst (λ (o : Op). IsTrue (has_number o)) (op_is code at instr read) (is_numbered atoms numbers instr.op instr.a n (sym made)))
+  where
+    read : Reads code at instr
+    read = reads code at instr is
+
+same_operand : (instr : Instr) (at : ℕ) (i : Numbered) → instr ≡ instr_at at i → is_jump i.op ≡ false → instr.a ≡ i.a
+same_operand instr at i is plain = ap (λ (x : Instr). x.a) is ∙ ap (λ (b : Bool). (instr_by b i.op i.a i.b (at + width_of i.op)).a) plain
+
+-- an instruction with another operand gets it
+pub makes : (atoms numbers before now new : List ℕ) (at : ℕ) (instr : Instr) (n : ℕ) → Some instr ≡ option_map (instr_at at) (decoded (drop at now)) → Some n ≡ new_operand atoms numbers instr.op instr.a
+    → new ≡ written (at + 1) (le_bytes 4 n) now → decoded (drop at new) ≡ option_map (renumbered n) (decoded (drop at now)) → Renumbering atoms numbers before now at → Renumbering atoms numbers before new instr.next
+makes atoms numbers before now new at instr n is made bytes operand r = turned atoms numbers before now new at instr.next (record {
+  i = read.i;
+  was = read.at_place;
+  next_is = next_is now at instr read;
+  front = ap (take at) bytes ∙ take_written at (le_bytes 4 n) now (omega (arith, room, length-drop at now, width));
+  is = operand ∙ (ap (option_map (renumbered n)) read.at_place ∙ ap (λ (x : ℕ). let i : Numbered = record { op = read.i.op; a = x; b = read.i.b } in Some i) (sym number_is));
+  back = ap (drop instr.next) bytes ∙ drop_written at instr.next (le_bytes 4 n) now (omega (arith, next_is now at instr read, width)) (omega (arith, room, length-drop at now, width));
+}) r
+  where
+    read : Reads now at instr
+    read = reads now at instr is
+
+    numbered : has_number read.i.op ≡ true
+    numbered = ap has_number (sym (op_is now at instr read)) ∙ is_numbered atoms numbers instr.op instr.a n (sym made)
+
+    width : width_of read.i.op ≡ 5
+    width = let w = numbered_widths (shape_of read.i.op) numbered in omega (arith, w.0, w.1)
+
+    room : width_of read.i.op ≤ length (drop at now)
+    room = decoded_room (drop at now) read.i read.at_place
+
+    made_here : new_operand atoms numbers read.i.op read.i.a ≡ Some n
+    made_here = ap₂ (λ (o : Op) (a : ℕ). new_operand atoms numbers o a) (sym (op_is now at instr read)) (sym (same_operand instr at read.i read.is (no_jump (shape_of read.i.op) numbered))) ∙ sym made
+
+    number_is : unwrap_or (new_operand atoms numbers read.i.op read.i.a) read.i.a ≡ n
+    number_is = ap (λ (x : Option ℕ). unwrap_or x read.i.a) made_here
+
+-- nothing more is read
+pub ends : (atoms numbers before now : List ℕ) (at : ℕ) → None ≡ option_map (instr_at at) (decoded (drop at now)) → Renumbering atoms numbers before now at → AreInstructionsBy atoms numbers before now
+ends atoms numbers before now at none r =
+    ap instructions (sym (take-append-drop at now)) ∙ r.1 (drop at now) (nothing ∙ sym (ap (map (instruction_by atoms numbers)) (ap instructions (sym r.0) ∙ nothing)))
+  where
+    nothing : instructions (drop at now) ≡ []
+    nothing = instructions_no (drop at now) (reads_none now at none)

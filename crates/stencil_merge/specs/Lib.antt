@@ -1,0 +1,6 @@
+pub mod Atoms
+pub mod Functions
+pub mod Instructions
+pub mod Merging
+pub mod Parts
+pub mod Whole

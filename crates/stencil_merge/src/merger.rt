@@ -1,0 +1,151 @@
+//! The merger: the parts of a script, and functions of it one after another.
+
+ghost use Rattle.std.specs.Prelude.{◌≡◌, ◌+◌, ◌-◌, ◌^◌, ◌<◌, ◌≤◌, ◌↔◌, [], length, replicate, slice_index_or, IfOk, OnOk, OnErr, IsTrue};
+ghost use Rattle.stencil_data.specs.declared.stencils.Entry.TheVariants as entry;
+ghost use Rattle.parser_atoms.specs.Places.{AreWithoutEquals};
+ghost use Rattle.stencil_merge.specs.Atoms.{TakesIn};
+ghost use Rattle.stencil_merge.specs.Merging as merging;
+ghost use Rattle.stencil_merge.specs.Merging.{Adds, Begins, HasFunction, IsCompiled, Keeps, SameParts};
+
+use crate::atoms::intern_all;
+use crate::functions::outermost_of;
+use crate::parts::{function_by, records_by};
+use parser_atoms::Atoms;
+use std::alloc::{AllocError, Global};
+use std::marker::Model;
+use stencil_data::{Entry, FunctionStencil, InitialParts, LazyRecord, MergedStencil, Text};
+
+/// A script with some of its functions compiled, in the making. Its texts have no equals.
+///
+/// A contract sees the merged stencil so far.
+#[derive(Drop)]
+pub struct Merger {
+    atoms: Atoms,
+    top: FunctionStencil,
+    records: Vec<LazyRecord>,
+    entries: Vec<Entry>,
+}
+
+impl Model for Merger {
+    ghost use Rattle.stencil_data.specs.MergedView.{MergedView};
+    ghost use Rattle.stencil_merge.specs.Merging.{IsMerging};
+
+    ghost Value = { MergedView };
+
+    ghost view = { λ merger. record { texts = merger.atoms; top = merger.top; records = merger.records.items; entries = merger.entries.items } };
+
+    ghost invariant = { λ merger. IsMerging (record { texts = merger.atoms; top = merger.top; records = merger.records.items; entries = merger.entries.items }) };
+}
+
+// So many functions, none of which is compiled.
+fn lazy_entries(alloc: Global, count: usize) -> Result<Vec<Entry>, AllocError>
+    ensures { IfOk result (λ entries. entries.items ≡ replicate count entry.Lazy) }
+{
+    let mut entries = Vec::new(alloc);
+    for _ in 0..count {
+        entries.push(Entry::Lazy)?;
+    }
+    Ok(entries)
+}
+
+// Whether a function is compiled.
+fn is_compiled(entry: &Entry) -> bool
+    ensures { IsTrue result ↔ IsCompiled entry.now }
+{
+    match entry {
+        Entry::Lazy => false,
+        Entry::Compiled(_) => true,
+    }
+}
+
+impl Merger {
+    /// Begins with the parts of a script that was compiled lazily: no function is compiled, and in the code of the script each
+    /// function directly in it is named by its number, those being the ones that are in no other. Time is linear in the parts.
+    /// Only memory can fail.
+    pub fn new(alloc: Global, parts: &InitialParts) -> Result<Merger, AllocError>
+        requires texts { length parts.now.texts < 2 ^ 32 - 1 }
+        requires records { length parts.now.records < 2 ^ 32 }
+        ensures begins { IfOk result (Begins parts.now) }
+        ensures texts { IfOk result (λ merger. TakesIn [] parts.now.texts merger.texts) }
+        ensures few { IfOk result (λ merger. length merger.texts ≤ length parts.now.texts) }
+        ensures records { IfOk result (λ merger. length merger.records ≡ length parts.now.records) }
+    {
+        let mut atoms = Atoms::new(alloc);
+        let numbers = intern_all(alloc, &mut atoms, &parts.texts)?;
+        let outermost = outermost_of(alloc, &parts.records)?;
+        let top = function_by(alloc, &numbers, &outermost, &parts.top)?;
+        let records = records_by(alloc, &numbers, &parts.records)?;
+        let entries = lazy_entries(alloc, records.len())?;
+        Ok(Merger {
+            atoms,
+            top,
+            records,
+            entries,
+        })
+    }
+
+    /// Takes a compiled function in, whose atoms are indexes into `texts`. In its code a function directly in it is named by its
+    /// place; here it is named by its number. Where the function was added already, nothing changes. After an error there may be
+    /// more texts, which no part names. Time is linear in the texts and the function. Only memory can fail.
+    pub fn add(
+        &mut self,
+        alloc: Global,
+        number: u32,
+        stencil: &FunctionStencil,
+        texts: &[Text],
+    ) -> Result<(), AllocError>
+        requires function { (1 ≤ number) × (number ≤ length self.old.records) }
+        requires few { length self.old.texts + length texts.now < 2 ^ 32 - 1 }
+        ensures adds { OnOk result (Adds number stencil.now texts.now self.old self.new) }
+        ensures again { HasFunction self.old number → self.new ≡ self.old }
+
+        ensures error { OnErr result (SameParts self.old self.new) }
+        ensures keeps { OnErr result (Keeps self.old self.new) }
+
+        ensures texts { TakesIn self.old.texts texts.now self.new.texts }
+        ensures few { length self.new.texts ≤ length self.old.texts + length texts.now }
+        ensures records { self.new.records ≡ self.old.records }
+    {
+        let place = number as usize - 1;
+        if is_compiled(&self.entries[place]) {
+            return Ok(());
+        }
+        let atoms = intern_all(alloc, &mut self.atoms, texts)?;
+        let compiled = function_by(alloc, &atoms, &self.records[place].inner, stencil)?;
+        self.entries[place] = Entry::Compiled(compiled);
+        Ok(())
+    }
+
+    /// How many texts there are.
+    pub fn text_count(&self) -> usize
+        ensures { result ≡ length self.now.texts }
+    {
+        self.atoms.len()
+    }
+
+    /// How many functions the script has.
+    pub fn function_count(&self) -> usize
+        ensures { result ≡ length self.now.records }
+    {
+        self.records.len()
+    }
+
+    /// The merged stencil. It takes no memory.
+    pub fn finish(self) -> MergedStencil
+        ensures merged { result ≡ self }
+        ensures apart { AreWithoutEquals result.texts }
+    {
+        let Merger {
+            atoms,
+            top,
+            records,
+            entries,
+        } = self;
+        MergedStencil {
+            texts: atoms.into_texts(),
+            top,
+            records,
+            entries,
+        }
+    }
+}

@@ -1,34 +1,51 @@
 -- One file: what is printed is its answer.
-use Rattle.std.proofs.Common.{◌≡◌, ℕ, ◌+◌, ◌≤◌, Bool, true, false, List, length, Option, Some, Vec, refl, ◌∙◌, subst}
+use Rattle.std.proofs.Common.{◌≡◌, ℕ, ◌+◌, ◌≤◌, true, false, List, length, Option, Some, Vec, refl, sym, ◌∙◌, subst}
 use Rattle.std.specs.declared.alloc.Global.{Global}
 use Rattle.outside.specs.Loops.{IsWholeBehind}
-use Rattle.command_words.specs.Asked.{Job}
-use Rattle.command_answer.specs.Answer.{most_bytes}
+use Rattle.command_words.specs.declared.options.Command.{Command}
+use Rattle.command_words.specs.declared.options.Command.TheVariants as command
+use Rattle.command_words.specs.Asked.{Job, Wanted}
+use Rattle.command_answer.specs.Answer.{IsWritten, most_bytes}
 use Rattle.command_answer.specs.Refusals.{refusal_line}
 use Rattle.command_answer.specs.Sources.{IsScript, IsRefused}
-use Rattle.compile_session.specs.declared.file.Outcome.{Outcome}
-use Rattle.compile_session.specs.declared.file.Outcome.TheVariants as outcome
+use Rattle.compile_session.specs.declared.answer.FileAnswer.{FileAnswer}
 use Rattle.compile_session.specs.declared.refusal.Refusal.{Refusal}
-use Rattle.compile_session.specs.Built.{is_built}
-use Rattle.compile_session.specs.Answers.{IsOutcome, Settles, refusal_of}
-use Rattle.compile_session.proofs.SourceLemmas.{settles_source}
+use Rattle.compile_session.specs.declared.source.SourceScript.{SourceScript}
+use Rattle.compile_session.specs.declared.source.SourceText.{SourceText}
+use Rattle.compile_session.specs.declared.source.SourceText.TheVariants as source
+use Rattle.compile_session.specs.Built.{is_built, is_source}
+use Rattle.compile_session.specs.Answers.{IsAnswerFor, IsScriptOf, IsSourceText, SettlesRead, refusal_of}
+use Rattle.compile_session.proofs.SourceLemmas.{answers_source, settles_within}
 
--- the outcome of a file that was read whole
-outcome_whole : (j : Job) (name file seen : List ℕ) (before : ℕ) (read : Option (Vec ℕ Global)) (bytes : Vec ℕ Global) (o : Outcome) → read ≡ Some bytes → seen ≡ bytes.items → IsOutcome j name seen o → IsWholeBehind most_bytes before file read → IsOutcome j name file o × (before + length file ≤ most_bytes)
-outcome_whole j name file seen before read bytes o is same comes whole =
+-- ---- source text
+
+pub script_is : (want : Wanted) (file : List ℕ) (o : SourceText) (script : SourceScript) → IsSourceText want file o → o ≡ source.Script script → IsScriptOf want file script
+script_is want file o script comes is = subst (λ (x : SourceText). IsSourceText want file x) is comes
+
+pub answers_script : (c : Command) (want : Wanted) (name file : List ℕ) (o : SourceText) (script : SourceScript) (text : Vec ℕ Global) → is_source c ≡ true → IsSourceText want file o → o ≡ source.Script script
+    → ((is : IsScriptOf want file script) → IsWritten c want name (length file) is.items script.functions text.items) → IsAnswerFor c want name file (record { text = text; refused = false })
+answers_script c want name file o script text built comes is written =
+    let s = script_is want file o script comes is in
+    answers_source c want name file (record { text = text; refused = false }) (IsScript s.items script.functions) built s.has (written s, refl)
+
+pub answers_refused : (c : Command) (want : Wanted) (name file : List ℕ) (o : SourceText) (why : Refusal) (answer : FileAnswer) → is_source c ≡ true → IsSourceText want file o → o ≡ source.Refused why
+    → answer.text.items ≡ refusal_line name (refusal_of why) → answer.refused ≡ true → IsAnswerFor c want name file answer
+answers_refused c want name file o why answer built comes is printed is_refused =
+    answers_source c want name file answer (IsRefused (refusal_of why)) built (subst (λ (x : SourceText). IsSourceText want file x) is comes) (printed, is_refused)
+
+-- a command that is built takes files as source text, or is one of the two that take images
+pub is_of_source : (c : Command) → is_built c ≡ true → (c ≡ command.Load → ⊥) → (c ≡ command.Verify → ⊥) → is_source c ≡ true
+is_of_source command.Code b l v = refl
+is_of_source command.Scopes b l v = refl
+is_of_source command.Check b l v = refl
+is_of_source command.Save b l v = absurd (cc)
+is_of_source command.Load b l v = absurd (l refl)
+is_of_source command.Verify b l v = absurd (v refl)
+
+-- ---- a file that was read whole
+
+pub settles_read : (j : Job) (name seen : List ℕ) (read : Option (Vec ℕ Global)) (bytes : Vec ℕ Global) (c : Command) (answer : FileAnswer) → j.command ≡ c → read ≡ Some bytes → seen ≡ bytes.items → IsAnswerFor c j.want name seen answer → SettlesRead j name read answer
+settles_read j name seen read bytes c answer command is same answers before file whole =
     let w : IsWholeBehind most_bytes before file (Some bytes) = subst (λ (r : Option (Vec ℕ Global)). IsWholeBehind most_bytes before file r) is whole in
-    (subst (λ (l : List ℕ). IsOutcome j name l o) (same ∙ w.0) comes, w.1)
-
-pub settles_text : (j : Job) (name seen : List ℕ) (read : Option (Vec ℕ Global)) (bytes : Vec ℕ Global) (o : Outcome) (text : Vec ℕ Global) → is_built j.command ≡ true → read ≡ Some bytes → seen ≡ bytes.items → IsOutcome j name seen o → o ≡ outcome.Text text
-    → (before : ℕ) (file : List ℕ) → IsWholeBehind most_bytes before file read → Settles j before name file text.items false
-settles_text j name seen read bytes o text built is same comes is_text before file whole =
-    let w = outcome_whole j name file seen before read bytes o is same comes whole in
-    let got : IsOutcome j name file (outcome.Text text) = subst (λ (x : Outcome). IsOutcome j name file x) is_text w.0 in
-    settles_source j before name file text.items false (IsScript got.0 got.1) built w.1 got.2 (got.3, refl)
-
-pub settles_refused : (j : Job) (name seen : List ℕ) (read : Option (Vec ℕ Global)) (bytes : Vec ℕ Global) (o : Outcome) (why : Refusal) (text : List ℕ) (refused : Bool) → is_built j.command ≡ true → read ≡ Some bytes → seen ≡ bytes.items → IsOutcome j name seen o → o ≡ outcome.Refused why
-    → text ≡ refusal_line name (refusal_of why) → refused ≡ true → (before : ℕ) (file : List ℕ) → IsWholeBehind most_bytes before file read → Settles j before name file text refused
-settles_refused j name seen read bytes o why text refused built is same comes is_why printed is_refused before file whole =
-    let w = outcome_whole j name file seen before read bytes o is same comes whole in
-    let got : IsOutcome j name file (outcome.Refused why) = subst (λ (x : Outcome). IsOutcome j name file x) is_why w.0 in
-    settles_source j before name file text refused (IsRefused (refusal_of why)) built w.1 got (printed, is_refused)
+    settles_within j before name file answer w.1
+    (subst (λ (l : List ℕ). IsAnswerFor j.command j.want name l answer) (same ∙ w.0) (subst (λ (x : Command). IsAnswerFor x j.want name seen answer) (sym command) answers))

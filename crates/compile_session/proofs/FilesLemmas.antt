@@ -9,7 +9,7 @@ use Rattle.outside.specs.Loops.{HasAtMost, HaveAtMost, IsWholeBehind, AreWholeBe
 use Rattle.command_words.specs.declared.options.FileJob.{FileJob}
 use Rattle.command_words.specs.Asked.{Job, job}
 use Rattle.command_answer.specs.Answer.{most_bytes}
-use Rattle.compile_session.specs.declared.file.FileAnswer.{FileAnswer}
+use Rattle.compile_session.specs.declared.answer.FileAnswer.{FileAnswer}
 use Rattle.compile_session.specs.Answers.{Settles, SettlesRead}
 use Rattle.compile_session.specs.Files.{SettlesAll}
 use Rattle.compile_session.specs.Workers.{SettleFiles}

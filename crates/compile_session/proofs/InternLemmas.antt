@@ -1,46 +1,8 @@
--- What was interned stays where it stands.
-use Rattle.std.proofs.Common.{◌≡◌, ℕ, zero, suc, ◌+◌, ◌≤◌, List, [], ◌∷◌, ◌++◌, length, refl, ◌∙◌, ap, arith, length-append, inl, inr}
-use Rattle.std.specs.Prelude.{Some, slice_get}
-use Rattle.parser_atoms.specs.Places.{Interns}
+-- Of the known words, those that errors ask for.
+use Rattle.std.proofs.Common.{ℕ, List}
 use Rattle.parse_track.specs.declared.region.Known.{Known}
-use Rattle.script_scanner.specs.Stands.{Keeps}
-use Rattle.compile_session.specs.Known.{HasWords}
+use Rattle.script_errors.specs.Kept.{Knows}
+use Rattle.known_words.specs.Known.{HasWords}
 
-get_more : (texts more : List (List ℕ)) (n : ℕ) (text : List ℕ) → slice_get texts n ≡ Some text → slice_get (texts ++ more) n ≡ Some text
-get_more [] more n text h = absurd (cc)
-get_more (t ∷ texts) more zero text h = h
-get_more (t ∷ texts) more (suc n) text h = get_more texts more n text h
-
-get_last : (texts : List (List ℕ)) (text : List ℕ) → slice_get (texts ++ text ∷ []) (length texts) ≡ Some text
-get_last [] text = refl
-get_last (t ∷ texts) text = get_last texts text
-
-pub interned : (before after : List (List ℕ)) (text : List ℕ) (atom : ℕ) → Interns before after text atom → slice_get after atom ≡ Some text
-interned before after text atom (inl h) = ap (λ (ts : List (List ℕ)). slice_get ts atom) h.1 ∙ h.0
-interned before after text atom (inr h) = ap (λ (ts : List (List ℕ)). slice_get ts atom) h.2 ∙ ap (slice_get (before ++ text ∷ [])) h.1 ∙ get_last before text
-
-pub still_interned : (before after : List (List ℕ)) (text other : List ℕ) (atom n : ℕ) → Interns before after text atom → slice_get before n ≡ Some other → slice_get after n ≡ Some other
-still_interned before after text other atom n (inl h) is = ap (λ (ts : List (List ℕ)). slice_get ts n) h.1 ∙ is
-still_interned before after text other atom n (inr h) is = ap (λ (ts : List (List ℕ)). slice_get ts n) h.2 ∙ get_more before (text ∷ []) n other is
-
-pub still_kept : (before after : List (List ℕ)) (other : List ℕ) (n : ℕ) → Keeps before after → slice_get before n ≡ Some other → slice_get after n ≡ Some other
-still_kept before after other n k is = ap (λ (ts : List (List ℕ)). slice_get ts n) k.1 ∙ get_more before k.0 n other is
-
--- at most one more text
-pub interned_few : (before after : List (List ℕ)) (text : List ℕ) (atom : ℕ) → Interns before after text atom → length after ≤ length before + 1
-interned_few before after text atom (inl h) = let e = ap length h.1 in omega (arith, e)
-interned_few before after text atom (inr h) = let e = ap length h.2 ∙ length-append before (text ∷ []) in omega (arith, e)
-
--- the known words stay where other texts join
-pub words_kept : (before after : List (List ℕ)) (known : Known) → Keeps before after → HasWords before known → HasWords after known
-words_kept before after known k h = record {
-  knows = record {
-    eval = still_kept before after _ known.eval k h.knows.eval;
-    arguments = still_kept before after _ known.arguments k h.knows.arguments;
-    this = still_kept before after _ known.this k h.knows.this;
-    proto = still_kept before after _ known.proto k h.knows.proto;
-    strict = still_kept before after _ known.strict k h.knows.strict;
-  };
-  get = still_kept before after _ known.get k h.get;
-  set = still_kept before after _ known.set k h.set;
-}
+pub knows_of : (texts : List (List ℕ)) (known : Known) → HasWords texts known → Knows texts known
+knows_of texts known h = record { eval = h.eval; arguments = h.arguments; this = h.this; proto = h.proto; strict = h.strict }

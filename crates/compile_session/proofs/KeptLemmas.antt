@@ -40,7 +40,7 @@ use Rattle.command_answer.specs.Counted.{HasFunctions}
 use Rattle.command_answer.specs.Sources.{IsValid, HasAll, missing}
 use Rattle.command_answer.specs.Sources as source
 use Rattle.compile_session.specs.declared.file_tokens.FileTokens.{FileTokens}
-use Rattle.compile_session.specs.Built.{is_built}
+use Rattle.compile_session.specs.Built.{is_source}
 use Rattle.compile_session.specs.Listed.{is_listed}
 use Rattle.compile_session.specs.Tokens.{tokens_in, IsSound}
 use Rattle.compile_session.specs.Answers.{AreTokensOf, IsKeptScript, IsMissing}
@@ -137,8 +137,8 @@ compiles file size bytes items checked top closed sound t text found none seated
 
 -- ---- what is printed
 
--- a command that is built lists, unless it only checks
-pub lists : (c : Command) → is_built c ≡ true → (c ≡ command.Check → ⊥) → is_listed c ≡ true
+-- a command over source text lists, unless it only checks
+pub lists : (c : Command) → is_source c ≡ true → (c ≡ command.Check → ⊥) → is_listed c ≡ true
 lists command.Code b h = refl
 lists command.Scopes b h = refl
 lists command.Check b h = absurd (h refl)
@@ -148,6 +148,3 @@ lists command.Verify b h = absurd (cc)
 
 pub checked_line : (c : Command) (want : Wanted) (name : List ℕ) (size : ℕ) (items : Stmts) (count : ℕ) (out : List ℕ) → c ≡ command.Check → out ≡ name ++ codes ": ok, " ++ decimal count ++ codes " functions\n" → IsWritten c want name size items count out
 checked_line c want name size items count out is printed = subst (λ (x : Command). IsWritten x want name size items count out) (sym is) printed
-
-pub of_length : (c : Command) (want : Wanted) (name : List ℕ) (size other : ℕ) (items : Stmts) (count : ℕ) (out : List ℕ) → size ≡ other → IsWritten c want name size items count out → IsWritten c want name other items count out
-of_length c want name size other items count out same written = subst (λ (n : ℕ). IsWritten c want name n items count out) same written

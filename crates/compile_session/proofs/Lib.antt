@@ -1,5 +1,6 @@
 pub mod FileLemmas
 pub mod FilesLemmas
+pub mod ImageLemmas
 pub mod InternLemmas
 pub mod KeptLemmas
 pub mod ListingLemmas
@@ -10,5 +11,7 @@ pub mod RunLemmas
 pub mod SourceLemmas
 pub mod TextLemmas
 pub mod TokenLemmas
+pub mod TrialLemmas
 pub mod WordLaws
+pub mod WorkLemmas
 pub mod WorkerLemmas

@@ -2,6 +2,7 @@
 use Rattle.std.proofs.Common.{◌≡◌, ℕ, ◌+◌, ◌<◌, ◌≤◌, ◌⊎◌, inl, inr, Bool, true, cond, nat_lt, List, [], ◌∷◌, ◌++◌, length, take, get_or, Option, Some, None, MatchOption, ap, sym, subst, ◌∙◌, arith, filter, Contains, append-nil}
 use Rattle.std.proofs.lemmas.Bool.{lt-ltb, le-ltb}
 use Rattle.std.proofs.lemmas.List.Elements.{All-nil, All-same, All-push, All-weaker, Contains-append_left, Contains-push, filter_more}
+use Rattle.script_grammar.specs.declared.tree.Stmt.{Stmt}
 use Rattle.script_grammar.specs.Tree.{Stmts}
 use Rattle.stencil_data.specs.MergedView.{MergedView}
 use Rattle.stencil_data.specs.Named.{NamedMerged}
@@ -15,7 +16,8 @@ use Rattle.command_words.specs.declared.options.Command.TheVariants as command
 use Rattle.command_words.specs.Asked.{Wanted}
 use Rattle.command_answer.specs.Answer.{IsWritten, file_line, to_show}
 use Rattle.command_answer.specs.Sources.{IsLeastOf}
-use Rattle.eager_compile.specs.Compiles.{Shows}
+use Rattle.parse_track.specs.declared.region.ClosedAt.{ClosedAt}
+use Rattle.eager_compile.specs.Compiles.{IsOf, Shows}
 use Rattle.compile_session.specs.Listed.{is_listed, listed_text}
 
 -- ---- the least number that is missing
@@ -64,6 +66,14 @@ pub least_more : (count : ℕ) (ns : List ℕ) (i : ℕ) (one new : Option ℕ) 
     → MatchOption one (m ≡ get_or ns i 0) (λ k. (m ≡ k) ⊎ (m ≡ get_or ns i 0)) → (m ≤ get_or ns i 0) × MatchOption one (Unit {0}) (λ k. m ≤ k) → new ≡ Some m → IsLeast (above count (take (i + 1) ns)) new
 least_more count ns i one new m within high h is least same =
     subst (IsLeast (above count (take (i + 1) ns))) (sym same) (subst (λ (l : List ℕ). IsLeastOf l m) (sym (above_more count ns i within high)) (least_with (above count (take i ns)) one (get_or ns i 0) m h is least))
+
+-- ---- what is compiled
+
+-- the same of what the calls saw
+pub of_seen : (texts seen_texts : List (List ℕ)) (top seen_top : List Stmt) (closed seen_closed : List ClosedAt) (items : Stmts) → seen_texts ≡ texts → seen_top ≡ top → seen_closed ≡ closed → IsOf texts top closed items → IsOf seen_texts seen_top seen_closed items
+of_seen texts seen_texts top seen_top closed seen_closed items t s c of =
+    subst (λ (x : List (List ℕ)). IsOf x seen_top seen_closed items) (sym t)
+    (subst (λ (x : List Stmt). IsOf texts x seen_closed items) (sym s) (subst (λ (x : List ClosedAt). IsOf texts top x items) (sym c) of))
 
 -- ---- what is written
 

@@ -1,9 +1,5 @@
 -- What becomes of a file that was read, from the trees that were kept of it.
-use Rattle.std.proofs.Common.{◌≡◌, ℕ, zero, suc, ◌≤◌, ◌<◌, Bool, true, List, [], ◌∷◌, ◌++◌, length, map, get_or, Some, Vec, refl, ap, ◌∙◌, subst, arith, codes}
-use Rattle.std.specs.Prelude.{slice_get, ◌||◌, ◌&&◌}
-use Rattle.std.proofs.Math.Bool.{or-true}
-use Rattle.std.proofs.lemmas.Bool.{eq-eqb}
-use Rattle.std.specs.Str.{bytes_eq}
+use Rattle.std.proofs.Common.{◌≡◌, ℕ, zero, suc, ◌≤◌, ◌<◌, List, [], ◌∷◌, ◌++◌, length, map, get_or, Vec, refl, ap, ◌∙◌, subst, arith}
 use Rattle.std.specs.declared.alloc.Global.{Global}
 use Rattle.script_grammar.specs.declared.token.Token.{Token}
 use Rattle.script_grammar.specs.declared.tree.Stmt.{Stmt}
@@ -15,8 +11,8 @@ use Rattle.function_starts.specs.Own.{TokensRise}
 use Rattle.parse_bodies.specs.declared.whole.Script.{Script}
 use Rattle.parse_bodies.specs.Whole.{IsText}
 use Rattle.renamed_names.specs.Texts.{NamesAreFull}
-use Rattle.scope_analysis.specs.DeclaredNames.{has_text}
 use Rattle.scope_analysis.specs.FunctionTree.{KnowsNames}
+use Rattle.known_words.proofs.Found.{knows_names as names_known}
 use Rattle.script_errors.specs.Kept.{IsKept, AreKept}
 use Rattle.script_errors.specs.Kept as kept
 use Rattle.command_answer.specs.Sources.{IsRead}
@@ -26,6 +22,7 @@ use Rattle.compile_session.specs.Reading.{IsScriptKept}
 use Rattle.compile_session.specs.Tokens.{tokens_in, IsSound}
 use Rattle.compile_session.specs.Answers.{AreTokensOf, IsKeptScript}
 use Rattle.compile_session.proofs.SourceLemmas.{read_of}
+use Rattle.compile_session.proofs.InternLemmas.{knows_of}
 use Rattle.compile_session.proofs.TextLemmas.{one_text}
 
 -- ---- the offset of a token
@@ -80,7 +77,7 @@ of_file file items sound text = record {
   rise = rise_front text.inner (text.end ∷ []) 0 (subst (TokensRise 0) text.split sound.rise);
   names = names_of_text file items sound text;
   once = sound.apart;
-  knows = sound.words.knows;
+  knows = knows_of file.texts.items file.known sound.words;
 }
 
 -- what the trees that were kept stand for
@@ -98,18 +95,5 @@ kept_script file script h =
 
 -- ---- the known words are among the texts
 
-text_same : (x : List ℕ) → bytes_eq x x ≡ true
-text_same [] = refl
-text_same (c ∷ cs) = ap (λ (b : Bool). b && bytes_eq cs cs) (eq-eqb c c refl) ∙ text_same cs
-
-has_at : (texts : List (List ℕ)) (k : ℕ) (text : List ℕ) → slice_get texts k ≡ Some text → has_text texts text ≡ true
-has_at [] k text h = absurd (cc)
-has_at (t ∷ ts) zero text h = ap (λ (x : List ℕ). bytes_eq x text || has_text ts text) (let e : t ≡ text = cc in e) ∙ ap (λ (b : Bool). b || has_text ts text) (text_same text)
-has_at (t ∷ ts) (suc k) text h = ap (λ (b : Bool). bytes_eq t text || b) (has_at ts k text h) ∙ or-true (bytes_eq t text)
-
 pub knows_names : (file : FileTokens) → IsSound file → KnowsNames file.texts.items
-knows_names file sound = record {
-  few = sound.few;
-  arguments = has_at file.texts.items file.known.arguments (codes "arguments") sound.words.knows.arguments;
-  this = has_at file.texts.items file.known.this (codes ".this") sound.words.knows.this;
-}
+knows_names file sound = names_known file.texts.items file.known sound.few sound.words

@@ -1,56 +1,50 @@
 -- The command: what the sink has taken is a front of the answer.
-use Rattle.std.proofs.Common.{◌≡◌, ℕ, Bool, true, false, List, [], ◌∷◌, ◌++◌, Option, Some, None, Vec, String, map, refl, ap, sym, ◌∙◌, subst, append-nil, if◌then◌else◌, ◌+◌, ◌<◌, ◌≤◌, length}
-use Rattle.std.specs.String.{string_bytes}
+use Rattle.std.proofs.Common.{◌≡◌, ℕ, Bool, true, false, List, [], ◌∷◌, ◌++◌, Option, Some, None, Vec, refl, ap, sym, ◌∙◌, subst, append-nil, if◌then◌else◌, ◌+◌, ◌<◌, ◌≤◌, length}
 use Rattle.std.specs.declared.alloc.Global.{Global}
 use Rattle.std.proofs.lemmas.Bool.{le-leb, lt-leb}
 use Rattle.outside.specs.Shelf.{TurnsToFront, opened}
 use Rattle.outside.specs.Sink.{Gains, GainsFront}
 use Rattle.outside.specs.Loops.{ReadsAllWithin, AreWholeBehind}
-use Rattle.command_words.specs.declared.options.FileJob.{FileJob}
-use Rattle.command_words.specs.Asked.{Asked, Files, job}
+use Rattle.command_words.specs.Asked.{Asked}
 use Rattle.command_words.specs.Words.{asked_of}
 use Rattle.command_answer.specs.Answer.{IsAnswer, IsAnswerTo, most_bytes}
-use Rattle.compile_session.specs.declared.file.FileAnswer.{FileAnswer}
-use Rattle.compile_session.specs.Built.{built, built_of, is_built, names_of}
-use Rattle.compile_session.specs.Files.{AnswersAll, SettlesAll, opened_of}
+use Rattle.compile_session.specs.declared.answer.FileAnswer.{FileAnswer}
+use Rattle.compile_session.specs.Built.{built, built_of, is_built_work, files_of, names_of}
+use Rattle.compile_session.specs.Files.{AnswersWork, SettlesWork, opened_of}
 
 -- what the words ask for is built
-pub built_is : (words : List (List ℕ)) (j : FileJob) → asked_of words ≡ Some (Files (job j)) → is_built j.command ≡ true → built_of words ≡ Some (job j)
-built_is words j asked is = ap built asked ∙ by (is_built j.command) is
+pub built_is : (words : List (List ℕ)) (a : Asked) → asked_of words ≡ Some a → is_built_work a ≡ true → built_of words ≡ Some a
+built_is words a asked is = ap built asked ∙ by (is_built_work a) is
   where
-    by : (b : Bool) → b ≡ true → (if b then Some (job j) else None) ≡ Some (job j)
+    by : (b : Bool) → b ≡ true → (if b then Some a else None) ≡ Some a
     by true e = refl
     by false e = absurd (cc)
 
--- what is answered for the files, where the shelf tells what it holds
-pub settled : (j : FileJob) (shelf : Option (List ℕ → List ℕ)) (held : List ℕ → List ℕ) (reads : List (Option (Vec ℕ Global))) (answer : FileAnswer) → shelf ≡ Some held → ReadsAllWithin shelf (job j).files most_bytes reads → AnswersAll (job j) reads answer
-    → SettlesAll (job j) held 0 (job j).files answer.text.items answer.refused
-settled j shelf held reads answer tells read answers = answers held (subst (λ (s : Option (List ℕ → List ℕ)). ReadsAllWithin s (job j).files most_bytes reads) tells read)
-
--- the same, by what the calls saw of the names and of what was read
-pub settled_seen : (j : FileJob) (shelf : Option (List ℕ → List ℕ)) (held : List ℕ → List ℕ) (files : List (String Global)) (reads seen : List (Option (Vec ℕ Global))) (answer : FileAnswer) → files ≡ j.files.items → seen ≡ reads → shelf ≡ Some held
-    → ReadsAllWithin shelf (map string_bytes files) most_bytes reads → AnswersAll (job j) seen answer → SettlesAll (job j) held 0 (job j).files answer.text.items answer.refused
-settled_seen j shelf held files reads seen answer named is tells read answers =
-    settled j shelf held reads answer tells (subst (λ (l : List (String Global)). ReadsAllWithin shelf (map string_bytes l) most_bytes reads) named read) (subst (λ (l : List (Option (Vec ℕ Global))). AnswersAll (job j) l answer) is answers)
+-- what is answered, where the shelf tells what it holds, by what the calls saw of the names and of what was read
+pub settled_seen : (a : Asked) (shelf : Option (List ℕ → List ℕ)) (held : List ℕ → List ℕ) (names : List (List ℕ)) (reads seen : List (Option (Vec ℕ Global))) (answer : FileAnswer) → names ≡ files_of a → seen ≡ reads → shelf ≡ Some held
+    → ReadsAllWithin shelf names most_bytes reads → AnswersWork a seen answer → SettlesWork a held answer.text.items answer.refused
+settled_seen a shelf held names reads seen answer named is tells read answers =
+    (subst (λ (l : List (Option (Vec ℕ Global))). AnswersWork a l answer) is answers) held
+    (subst (λ (s : Option (List ℕ → List ℕ)). ReadsAllWithin s (files_of a) most_bytes reads) tells (subst (λ (l : List (List ℕ)). ReadsAllWithin shelf l most_bytes reads) named read))
 
 -- the text is the answer
-pub answers : (words : List (List ℕ)) (j : FileJob) (held : List ℕ → List ℕ) (text : List ℕ) (refused : Bool) → asked_of words ≡ Some (Files (job j)) → SettlesAll (job j) held 0 (job j).files text refused → IsAnswer words held text refused
-answers words j held text refused asked s = record { asked = Files (job j); form = asked; answer = s.is }
+pub answers : (words : List (List ℕ)) (a : Asked) (held : List ℕ → List ℕ) (text : List ℕ) (refused : Bool) → asked_of words ≡ Some a → SettlesWork a held text refused → IsAnswer words held text refused
+answers words a held text refused asked s = record { asked = a; form = asked; answer = s.is }
 
 some_same : (a b : Asked) → ◌≡◌ {A = Option Asked} (Some a) (Some b) → a ≡ b
 some_same a b h = cc
 
 -- there is no other answer
-pub only_answer : (words : List (List ℕ)) (j : FileJob) (held : List ℕ → List ℕ) (text out : List ℕ) (refused r : Bool) → asked_of words ≡ Some (Files (job j)) → SettlesAll (job j) held 0 (job j).files text refused → IsAnswer words held out r → text ≡ out
-only_answer words j held text out refused r asked s a =
-    let e : a.asked ≡ Files (job j) = some_same a.asked (Files (job j)) (sym a.form ∙ asked) in
-    sym (s.only out r (subst (λ (x : Asked). IsAnswerTo x held out r) e a.answer)).0
+pub only_answer : (words : List (List ℕ)) (a : Asked) (held : List ℕ → List ℕ) (text out : List ℕ) (refused r : Bool) → asked_of words ≡ Some a → SettlesWork a held text refused → IsAnswer words held out r → text ≡ out
+only_answer words a held text out refused r asked s other =
+    let e : other.asked ≡ a = some_same other.asked a (sym other.form ∙ asked) in
+    sym (s.only out r (subst (λ (x : Asked). IsAnswerTo x held out r) e other.answer)).0
 
 -- what was written in part is a front of every answer
-pub front_of_answer : (words : List (List ℕ)) (j : FileJob) (held : List ℕ → List ℕ) (text seen : List ℕ) (refused : Bool) (before now : Option (List ℕ)) → asked_of words ≡ Some (Files (job j)) → SettlesAll (job j) held 0 (job j).files text refused → seen ≡ text → GainsFront before now seen
+pub front_of_answer : (words : List (List ℕ)) (a : Asked) (held : List ℕ → List ℕ) (text seen : List ℕ) (refused : Bool) (before now : Option (List ℕ)) → asked_of words ≡ Some a → SettlesWork a held text refused → seen ≡ text → GainsFront before now seen
     → (out : List ℕ) (r : Bool) → IsAnswer words held out r → GainsFront before now out
-front_of_answer words j held text seen refused before now asked s same gained out r a =
-    subst (λ (l : List ℕ). GainsFront before now l) (same ∙ only_answer words j held text out refused r asked s a) gained
+front_of_answer words a held text seen refused before now asked s same gained out r other =
+    subst (λ (l : List ℕ). GainsFront before now l) (same ∙ only_answer words a held text out refused r asked s other) gained
 
 -- all is a front
 pub GainsFront-all : (before now : Option (List ℕ)) (bytes : List ℕ) → Gains before now bytes → GainsFront before now bytes
@@ -89,19 +83,19 @@ opened_front (n ∷ ns) (Some b ∷ rs) =
     (h.0, ap (λ (l : List (List ℕ)). n ∷ l) h.1)
 
 -- the names of the files that are read
-names_are : (words : List (List ℕ)) (j : FileJob) (files : List (String Global)) → (asked_of words ≡ Some (Files (job j))) × (is_built j.command ≡ true) → files ≡ j.files.items → map string_bytes files ≡ names_of (built_of words)
-names_are words j files is same = ap (map string_bytes) same ∙ sym (ap names_of (built_is words j is.0 is.1))
+names_are : (words : List (List ℕ)) (a : Asked) (names : List (List ℕ)) → (asked_of words ≡ Some a) × (is_built_work a ≡ true) → names ≡ files_of a → names ≡ names_of (built_of words)
+names_are words a names is same = same ∙ sym (ap names_of (built_is words a is.0 is.1))
 
 -- the shelf was turned to a front of them
-pub turned_front : (words : List (List ℕ)) (j : FileJob) (files : List (String Global)) (reads : List (Option (Vec ℕ Global))) (before now : List (List ℕ)) → (asked_of words ≡ Some (Files (job j))) × (is_built j.command ≡ true) → files ≡ j.files.items
-    → now ≡ before ++ opened (map string_bytes files) reads → TurnsToFront before now (names_of (built_of words))
-turned_front words j files reads before now is same turned =
-    let h = opened_front (map string_bytes files) reads in
-    subst (λ (ns : List (List ℕ)). TurnsToFront before now ns) (names_are words j files is same) (opened (map string_bytes files) reads, h.0, h.1, turned)
+pub turned_front : (words : List (List ℕ)) (a : Asked) (names : List (List ℕ)) (reads : List (Option (Vec ℕ Global))) (before now : List (List ℕ)) → (asked_of words ≡ Some a) × (is_built_work a ≡ true) → names ≡ files_of a
+    → now ≡ before ++ opened names reads → TurnsToFront before now (names_of (built_of words))
+turned_front words a names reads before now is same turned =
+    let h = opened_front names reads in
+    subst (λ (ns : List (List ℕ)). TurnsToFront before now ns) (names_are words a names is same) (opened names reads, h.0, h.1, turned)
 
 -- where the shelf tells what it holds, it was turned to those that are to be opened
-pub turned_all : (words : List (List ℕ)) (j : FileJob) (files : List (String Global)) (shelf : Option (List ℕ → List ℕ)) (held : List ℕ → List ℕ) (reads : List (Option (Vec ℕ Global))) (before now : List (List ℕ)) → (asked_of words ≡ Some (Files (job j))) × (is_built j.command ≡ true) → files ≡ j.files.items
-    → shelf ≡ Some held → ReadsAllWithin shelf (map string_bytes files) most_bytes reads → now ≡ before ++ opened (map string_bytes files) reads → now ≡ before ++ opened_of held 0 (names_of (built_of words))
-turned_all words j files shelf held reads before now is same tells read turned =
-    let whole : AreWholeBehind most_bytes held 0 (map string_bytes files) reads = subst (λ (s : Option (List ℕ → List ℕ)). ReadsAllWithin s (map string_bytes files) most_bytes reads) tells read in
-    turned ∙ ap (λ (ns : List (List ℕ)). before ++ ns) (opened_are held 0 (map string_bytes files) reads whole) ∙ ap (λ (ns : List (List ℕ)). before ++ opened_of held 0 ns) (names_are words j files is same)
+pub turned_all : (words : List (List ℕ)) (a : Asked) (names : List (List ℕ)) (shelf : Option (List ℕ → List ℕ)) (held : List ℕ → List ℕ) (reads : List (Option (Vec ℕ Global))) (before now : List (List ℕ)) → (asked_of words ≡ Some a) × (is_built_work a ≡ true) → names ≡ files_of a
+    → shelf ≡ Some held → ReadsAllWithin shelf names most_bytes reads → now ≡ before ++ opened names reads → now ≡ before ++ opened_of held 0 (names_of (built_of words))
+turned_all words a names shelf held reads before now is same tells read turned =
+    let whole : AreWholeBehind most_bytes held 0 names reads = subst (λ (s : Option (List ℕ → List ℕ)). ReadsAllWithin s names most_bytes reads) tells read in
+    turned ∙ ap (λ (ns : List (List ℕ)). before ++ ns) (opened_are held 0 names reads whole) ∙ ap (λ (ns : List (List ℕ)). before ++ opened_of held 0 ns) (names_are words a names is same)

@@ -24,8 +24,9 @@ use Rattle.command_answer.specs.Counted.{HasFunctions}
 use Rattle.command_answer.specs.Refusals as line
 use Rattle.command_answer.specs.Refusals.{Refusal, refusal_line}
 use Rattle.command_answer.specs.Sources.{Source, IsScript, IsRefused, IsSource, IsRead, IsValid, HasAll, FaultAt, ErrorAt, LacksFunction, IsLeastOf, missing}
-use Rattle.compile_session.specs.Built.{is_built}
-use Rattle.compile_session.specs.Answers.{Settles}
+use Rattle.compile_session.specs.declared.answer.FileAnswer.{FileAnswer}
+use Rattle.compile_session.specs.Built.{is_source}
+use Rattle.compile_session.specs.Answers.{IsAnswerFor, Settles}
 use Rattle.compile_session.specs.Faulty.{IsFaulty}
 use Rattle.compile_session.proofs.TextLemmas.{one_text, text_no_fault, one_offset, one_kind}
 
@@ -67,7 +68,7 @@ one_fault file a b x y h k =
     (one_kind (lexemes file) a b x y p q, one_offset (lexemes file) a b x y p q)
 
 -- the same tree and the same count
-same_valid : (file : List ℕ) (a b : Stmts) (m n : ℕ) → IsValid file a m → IsValid file b n → (a ≡ b) × (m ≡ n)
+pub same_valid : (file : List ℕ) (a b : Stmts) (m n : ℕ) → IsValid file a m → IsValid file b n → (a ≡ b) × (m ≡ n)
 same_valid file a b m n h k =
     let e = one_read file a b h.read k.read in
     (e, one_count b m n (subst (λ (x : Stmts). HasFunctions x m) e h.functions) k.functions)
@@ -144,7 +145,7 @@ sources_equal want file (IsRefused line.NoImage) two h k = absurd h
 
 -- ---- one text
 
-one_shown : (want : show.Wanted) (items : Stmts) (end : ℕ) (a b : NamedMerged (List Command)) → IsShown want items end a → IsShown want items end b → a ≡ b
+pub one_shown : (want : show.Wanted) (items : Stmts) (end : ℕ) (a b : NamedMerged (List Command)) → IsShown want items end a → IsShown want items end b → a ≡ b
 one_shown want items end a b h k =
     let e : IsEager items end h.0 h.1 = h.2 in
     let f : IsEager items end k.0 k.1 = k.2 in
@@ -152,7 +153,7 @@ one_shown want items end a b h k =
     h.3 ∙ ap (λ (t : NamedFunction (List Command)). shown want (closed_names items) t h.1) (e.script ∙ sym f.script)
     ∙ ap (λ (fs : List (NamedFunction (List Command))). shown want (closed_names items) k.0 fs) same ∙ sym k.3
 
-one_written : (command : Word) (want : Wanted) (name : List ℕ) (size : ℕ) (items : Stmts) (count : ℕ) (x y : List ℕ) → is_built command ≡ true → IsWritten command want name size items count x → IsWritten command want name size items count y → x ≡ y
+one_written : (command : Word) (want : Wanted) (name : List ℕ) (size : ℕ) (items : Stmts) (count : ℕ) (x y : List ℕ) → is_source command ≡ true → IsWritten command want name size items count x → IsWritten command want name size items count y → x ≡ y
 one_written word.Code want name size items count x y built h k =
     h.2 ∙ ap (λ (m : NamedMerged (List Command)). file_line name ++ code_text (listed_merged m)) (one_shown (to_show want) items size h.0 k.0 h.1 k.1) ∙ sym k.2
 one_written word.Scopes want name size items count x y built h k =
@@ -162,11 +163,11 @@ one_written word.Save want name size items count x y built h k = absurd (let e =
 one_written word.Load want name size items count x y built h k = absurd h
 one_written word.Verify want name size items count x y built h k = absurd h
 
-one_of_source : (command : Word) (want : Wanted) (name file : List ℕ) (source : Source) (x y : List ℕ) (r s : Bool) → is_built command ≡ true → IsOfSource command want name file source x r → IsOfSource command want name file source y s → (x ≡ y) × (r ≡ s)
+one_of_source : (command : Word) (want : Wanted) (name file : List ℕ) (source : Source) (x y : List ℕ) (r s : Bool) → is_source command ≡ true → IsOfSource command want name file source x r → IsOfSource command want name file source y s → (x ≡ y) × (r ≡ s)
 one_of_source command want name file (IsScript items count) x y r s built h k = (one_written command want name (length file) items count x y built h.0 k.0, h.1 ∙ sym k.1)
 one_of_source command want name file (IsRefused why) x y r s built h k = (h.0 ∙ sym k.0, h.1 ∙ sym k.1)
 
-from_source : (command : Word) (want : Wanted) (name file : List ℕ) (x : List ℕ) (r : Bool) → is_built command ≡ true → IsOf command want name file x r → FromSource command want name file x r
+from_source : (command : Word) (want : Wanted) (name file : List ℕ) (x : List ℕ) (r : Bool) → is_source command ≡ true → IsOf command want name file x r → FromSource command want name file x r
 from_source word.Code want name file x r built h = h
 from_source word.Scopes want name file x r built h = h
 from_source word.Check want name file x r built h = h
@@ -174,7 +175,7 @@ from_source word.Save want name file x r built h = h
 from_source word.Load want name file x r built h = absurd (let e = built in cc)
 from_source word.Verify want name file x r built h = absurd (let e = built in cc)
 
-to_source : (command : Word) (want : Wanted) (name file : List ℕ) (x : List ℕ) (r : Bool) → is_built command ≡ true → FromSource command want name file x r → IsOf command want name file x r
+to_source : (command : Word) (want : Wanted) (name file : List ℕ) (x : List ℕ) (r : Bool) → is_source command ≡ true → FromSource command want name file x r → IsOf command want name file x r
 to_source word.Code want name file x r built h = h
 to_source word.Scopes want name file x r built h = h
 to_source word.Check want name file x r built h = h
@@ -193,15 +194,22 @@ settles_long job before name file text refused long printed is = record {
 }
 
 -- the answer for a file of this source
-pub settles_source : (job : Job) (before : ℕ) (name file text : List ℕ) (refused : Bool) (source : Source) → is_built job.command ≡ true → before + length file ≤ most_bytes → IsSource job.want file source
-    → IsOfSource job.command job.want name file source text refused → Settles job before name file text refused
-settles_source job before name file text refused source built short is of = record {
-  is = inr (short, to_source job.command job.want name file text refused built (source, is, of));
+pub answers_source : (command : Word) (want : Wanted) (name file : List ℕ) (answer : FileAnswer) (source : Source) → is_source command ≡ true → IsSource want file source
+    → IsOfSource command want name file source answer.text.items answer.refused → IsAnswerFor command want name file answer
+answers_source command want name file answer source built is of = record {
+  is = to_source command want name file answer.text.items answer.refused built (source, is, of);
+  only = λ other r o.
+      let f = from_source command want name file other r built o in
+      let e = sources_equal want file f.0 source f.1 is in
+      one_of_source command want name file source other answer.text.items r answer.refused built (subst (λ (x : Source). IsOfSource command want name file x other r) e f.2) of;
+}
+
+-- the answer for a file that is not too long
+pub settles_within : (job : Job) (before : ℕ) (name file : List ℕ) (answer : FileAnswer) → before + length file ≤ most_bytes → IsAnswerFor job.command job.want name file answer → Settles job before name file answer.text.items answer.refused
+settles_within job before name file answer short a = record {
+  is = inr (short, a.is);
   only = λ other r o. elim o [
     | inl l ↦ absurd (let p = l.0 in omega (arith, p, short))
-    | inr s ↦
-        let f = from_source job.command job.want name file other r built s.1 in
-        let e = sources_equal job.want file f.0 source f.1 is in
-        one_of_source job.command job.want name file source other text r refused built (subst (λ (x : Source). IsOfSource job.command job.want name file x other r) e f.2) of
+    | inr s ↦ a.only other r s.1
   ];
 }

@@ -1,13 +1,10 @@
 -- What the words of a command can ask for: how many files, and how many workers.
 use Rattle.std.proofs.Common.{◌≡◌, ℕ, ◌≤◌, Bool, true, false, List, [], ◌∷◌, length, Option, Some, None, refl, subst, arith}
-use Rattle.std.specs.String.{string_bytes}
-use Rattle.std.proofs.lemmas.List.{length-map}
-use Rattle.command_words.specs.declared.options.FileJob.{FileJob}
 use Rattle.std.specs.Prelude.{nat_le, ◌&&◌, option_map, option_and_then, if◌then◌else◌, codes, bytes_eq}
 use Rattle.std.proofs.lemmas.Bool.{leb-true}
 use Rattle.command_words.specs.declared.options.Command.{Command}
 use Rattle.command_words.specs.declared.options.Command.TheVariants as command
-use Rattle.command_words.specs.Asked.{job, Job, Asked, Files, Trial, Churn}
+use Rattle.command_words.specs.Asked.{Job, Asked, Files, Trial, Churn}
 use Rattle.command_words.specs.Numbers.{number_in, is_number, value}
 use Rattle.command_words.specs.Words.{Given, nothing_given, Taken, once, workers_of, want_of, order_of, with_want, with_workers, with_order, with_option, is_option, take_options, all_file_names, or_else, job_of, with_names, files_form, Generated, generated_of, text_form, form_of, asked_of}
 
@@ -134,13 +131,3 @@ bounded_form word rest j e =
 pub asked_bounded : (words : List (List ℕ)) (j : Job) → asked_of words ≡ Some (Files j) → Bounded j
 asked_bounded [] j e = absurd (cc)
 asked_bounded (word ∷ rest) j e = bounded_form word rest j e
-
--- the same of a command over files
-pub few_files : (words : List (List ℕ)) (j : FileJob) → asked_of words ≡ Some (Files (job j)) → length j.files.items ≤ 64
-few_files words j e =
-    let few = (asked_bounded words (job j) e).files in
-    let long = length-map j.files.items string_bytes in
-    omega (arith, few, long)
-
-pub few_workers : (words : List (List ℕ)) (j : FileJob) → asked_of words ≡ Some (Files (job j)) → (1 ≤ j.workers) × (j.workers ≤ 16)
-few_workers words j e = let b = asked_bounded words (job j) e in (b.one, b.workers)

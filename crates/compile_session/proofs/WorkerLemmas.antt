@@ -8,7 +8,7 @@ use Rattle.helper_tasks.specs.Jobs.{GivesEach}
 use Rattle.outside.specs.Loops.{HasAtMost, HaveAtMost}
 use Rattle.command_words.specs.declared.options.FileJob.{FileJob}
 use Rattle.command_words.specs.Asked.{job}
-use Rattle.compile_session.specs.declared.file.FileAnswer.{FileAnswer}
+use Rattle.compile_session.specs.declared.answer.FileAnswer.{FileAnswer}
 use Rattle.compile_session.specs.Answers.{SettlesRead}
 use Rattle.compile_session.specs.Workers.{SettlesFile, SettleFiles}
 

@@ -8,13 +8,17 @@ use Rattle.outside.specs.Loops.{IsWholeBehind}
 use Rattle.parse_bodies.specs.declared.whole.Script.{Script}
 use Rattle.parse_bodies.specs.Whole.{IsText}
 use Rattle.script_errors.specs.Kept.{AreKept}
+use Rattle.command_words.specs.declared.options.Command.{Command}
 use Rattle.command_words.specs.Asked.{Wanted, Job}
-use Rattle.command_answer.specs.Answer.{IsOfFile, IsWritten, most_bytes}
+use Rattle.command_answer.specs.Answer as answer
+use Rattle.command_answer.specs.Answer.{IsOfFile, most_bytes}
 use Rattle.command_answer.specs.Refusals as line
 use Rattle.command_answer.specs.Sources.{IsSource, IsRefused, HasAll, IsLeastOf, missing}
-use Rattle.compile_session.specs.declared.file.FileAnswer.{FileAnswer}
-use Rattle.compile_session.specs.declared.file.Outcome.{Outcome}
-use Rattle.compile_session.specs.declared.file.Outcome.TheVariants as outcome
+use Rattle.eager_compile.specs.Compiles.{IsOf}
+use Rattle.compile_session.specs.declared.answer.FileAnswer.{FileAnswer}
+use Rattle.compile_session.specs.declared.source.SourceScript.{SourceScript}
+use Rattle.compile_session.specs.declared.source.SourceText.{SourceText}
+use Rattle.compile_session.specs.declared.source.SourceText.TheVariants as source
 use Rattle.compile_session.specs.declared.file_tokens.FileTokens.{FileTokens}
 use Rattle.compile_session.specs.declared.refusal.Refusal.{Refusal}
 use Rattle.compile_session.specs.declared.refusal.Refusal.TheVariants as refusal
@@ -28,16 +32,24 @@ refusal_of (refusal.Unexpected offset) = line.Unexpected offset
 refusal_of (refusal.TooDeep offset) = line.TooDeep offset
 refusal_of (refusal.Early offset rule) = line.Early offset rule
 refusal_of (refusal.NoFunction number) = line.NoFunction number
+refusal_of refusal.NoImage = line.NoImage
 
 -- no wanted number is above this count of functions, or this is the least that is
 abbrev pub IsMissing : Wanted → ℕ → Option ℕ → Type 0
 IsMissing want count None = missing count want ≡ []
 IsMissing want count (Some number) = IsLeastOf (missing count want) number
 
--- a file that is within the limit is written so, or refused
-abbrev pub IsOutcome : Job → List ℕ → List ℕ → Outcome → Type 0
-IsOutcome job name file (outcome.Text text) = (items : Stmts) × (count : ℕ) × HasAll file job.want items count × IsWritten job.command job.want name (length file) items count text.items
-IsOutcome job name file (outcome.Refused why) = IsSource job.want file (IsRefused (refusal_of why))
+-- The script that a file is has these statements, and the functions that are wanted.
+pub record IsScriptOf (want : Wanted) (file : List ℕ) (script : SourceScript) : Type 0 where
+  pub items : Stmts
+  pub has : HasAll file want items script.functions
+  pub of : IsOf script.texts.items script.top.items script.closed.items items
+  pub long : script.size ≡ length file
+
+-- what a file of source text is
+abbrev pub IsSourceText : Wanted → List ℕ → SourceText → Type 0
+IsSourceText want file (source.Script script) = IsScriptOf want file script
+IsSourceText want file (source.Refused why) = IsSource want file (IsRefused (refusal_of why))
 
 -- kept trees stand for this script of the file, and for its bodies
 pub record IsKeptScript (file : FileTokens) (script : Script (Vec Stmt Global)) (items : Stmts) : Type 0 where
@@ -50,6 +62,11 @@ pub record AreTokensOf (file : FileTokens) (size : ℕ) (bytes : List ℕ) : Typ
   pub tokens : tokens_in file ≡ lexemes bytes
   pub long : size ≡ length bytes
   pub short : length bytes ≤ most_bytes
+
+-- what is written for a file that is within the limit, and whether it is refused: this, and nothing else
+pub record IsAnswerFor (command : Command) (want : Wanted) (name file : List ℕ) (given : FileAnswer) : Type 0 where
+  pub is : answer.IsOf command want name file given.text.items given.refused
+  pub only : (other : List ℕ) (other_refused : Bool) → answer.IsOf command want name file other other_refused → (other ≡ given.text.items) × (other_refused ≡ given.refused)
 
 -- The text and whether the file is refused are the answer for a file that has these bytes, and there is no other.
 pub record Settles (job : Job) (before : ℕ) (name file : List ℕ) (text : List ℕ) (refused : Bool) : Type 0 where

@@ -1,10 +1,9 @@
--- Which commands are built so far: those whose answer for a source is a text, over any files and with any options. What words ask
--- for is command_words' `asked_of`.
+-- Which commands are built so far: all but `save` and `churn`, with any options. What words ask for is command_words' `asked_of`.
 use Rattle.std.specs.Prelude.{◌≡◌, ℕ, Bool, true, false, if◌then◌else◌, List, [], Option, Some, None, Result, Ok, Err}
 use Rattle.command_words.specs.declared.options.Command.{Command}
 use Rattle.command_words.specs.declared.options.Command.TheVariants as command
-use Rattle.command_words.specs.declared.options.FileJob.{FileJob}
-use Rattle.command_words.specs.Asked.{Job, Asked, Files, Trial, Churn, job}
+use Rattle.command_words.specs.declared.options.Options.{Options}
+use Rattle.command_words.specs.Asked.{Asked, Files, Trial, Churn, asked}
 use Rattle.command_words.specs.Words.{asked_of}
 use Rattle.compile_session.specs.declared.status.Status.{Status}
 use Rattle.compile_session.specs.declared.status.Status.TheVariants as status
@@ -14,30 +13,47 @@ is_built command.Code = true
 is_built command.Scopes = true
 is_built command.Check = true
 is_built command.Save = false
-is_built command.Load = false
-is_built command.Verify = false
+is_built command.Load = true
+is_built command.Verify = true
 
-abbrev pub built : Option Asked → Option Job
+-- those of them that take files as source text
+abbrev pub is_source : Command → Bool
+is_source command.Code = true
+is_source command.Scopes = true
+is_source command.Check = true
+is_source command.Save = false
+is_source command.Load = false
+is_source command.Verify = false
+
+abbrev pub is_built_work : Asked → Bool
+is_built_work (Files j) = is_built j.command
+is_built_work (Trial number size workers) = true
+is_built_work (Churn number size workers) = false
+
+abbrev pub built : Option Asked → Option Asked
 built None = None
-built (Some (Files j)) = if is_built j.command then Some j else None
-built (Some (Trial number size workers)) = None
-built (Some (Churn number size workers)) = None
+built (Some a) = if is_built_work a then Some a else None
 
 -- what these words ask for, where it is built
-abbrev pub built_of : List (List ℕ) → Option Job
+abbrev pub built_of : List (List ℕ) → Option Asked
 built_of words = built (asked_of words)
 
 -- the names of the files that are read for it
-abbrev pub names_of : Option Job → List (List ℕ)
-names_of None = []
-names_of (Some j) = j.files
+abbrev pub files_of : Asked → List (List ℕ)
+files_of (Files j) = j.files
+files_of (Trial number size workers) = []
+files_of (Churn number size workers) = []
 
--- the job that the words ask for, or why there is none
-abbrev pub IsJobOf : List (List ℕ) → Result FileJob Status → Type 0
-IsJobOf words (Ok j) = (asked_of words ≡ Some (Files (job j))) × (is_built j.command ≡ true)
-IsJobOf words (Err status.BadWords) = built_of words ≡ None
-IsJobOf words (Err status.NoMemory) = Unit {0}
-IsJobOf words (Err status.Done) = ⊥
-IsJobOf words (Err status.Refused) = ⊥
-IsJobOf words (Err status.ReadFault) = ⊥
-IsJobOf words (Err status.WriteFault) = ⊥
+abbrev pub names_of : Option Asked → List (List ℕ)
+names_of None = []
+names_of (Some a) = files_of a
+
+-- the work that the words ask for, or why there is none
+abbrev pub IsWorkOf : List (List ℕ) → Result Options Status → Type 0
+IsWorkOf words (Ok work) = (asked_of words ≡ Some (asked work)) × (is_built_work (asked work) ≡ true)
+IsWorkOf words (Err status.BadWords) = built_of words ≡ None
+IsWorkOf words (Err status.NoMemory) = Unit {0}
+IsWorkOf words (Err status.Done) = ⊥
+IsWorkOf words (Err status.Refused) = ⊥
+IsWorkOf words (Err status.ReadFault) = ⊥
+IsWorkOf words (Err status.WriteFault) = ⊥

@@ -1,10 +1,11 @@
 -- How a command ends, and what it answers for all its files.
-use Rattle.std.specs.Prelude.{◌≡◌, ℕ, ◌+◌, nat_le, Bool, true, false, if◌then◌else◌, List, [], ◌∷◌, length, Vec, Option}
+use Rattle.std.specs.Prelude.{◌≡◌, ℕ, ◌+◌, ◌≤◌, nat_le, Bool, true, false, if◌then◌else◌, List, [], ◌∷◌, length, Vec, Option}
 use Rattle.std.specs.declared.alloc.Global.{Global}
 use Rattle.outside.specs.Loops.{AreWholeBehind}
-use Rattle.command_words.specs.Asked.{Job}
-use Rattle.command_answer.specs.Answer.{IsOfFiles, most_bytes}
-use Rattle.compile_session.specs.declared.file.FileAnswer.{FileAnswer}
+use Rattle.command_words.specs.Asked.{Job, Asked, Files, Trial, Churn}
+use Rattle.command_answer.specs.Answer.{IsAnswerTo, IsOfFiles, most_bytes}
+use Rattle.compile_session.specs.declared.answer.FileAnswer.{FileAnswer}
+use Rattle.compile_session.specs.Built.{files_of}
 use Rattle.compile_session.specs.declared.status.Status.{Status}
 use Rattle.compile_session.specs.declared.status.Status.TheVariants as status
 
@@ -38,6 +39,21 @@ pub record SettlesAll (job : Job) (held : List ℕ → List ℕ) (before : ℕ) 
 -- the same of what was read of the files of a command
 abbrev pub AnswersAll : Job → List (Option (Vec ℕ Global)) → FileAnswer → Type 0
 AnswersAll job reads answer = (held : List ℕ → List ℕ) → AreWholeBehind most_bytes held 0 job.files reads → SettlesAll job held 0 job.files answer.text.items answer.refused
+
+-- The text and whether a file is refused are the answer to what is asked, and there is no other.
+pub record SettlesWork (asked : Asked) (held : List ℕ → List ℕ) (text : List ℕ) (refused : Bool) : Type 0 where
+  pub is : IsAnswerTo asked held text refused
+  pub only : (other : List ℕ) (other_refused : Bool) → IsAnswerTo asked held other other_refused → (other ≡ text) × (other_refused ≡ refused)
+
+-- the same of what was read of its files
+abbrev pub AnswersWork : Asked → List (Option (Vec ℕ Global)) → FileAnswer → Type 0
+AnswersWork asked reads answer = (held : List ℕ → List ℕ) → AreWholeBehind most_bytes held 0 (files_of asked) reads → SettlesWork asked held answer.text.items answer.refused
+
+-- what words may ask for is no more than this
+abbrev pub IsBounded : Asked → Type 0
+IsBounded (Files j) = (length j.files ≤ 64) × (1 ≤ j.workers) × (j.workers ≤ 16)
+IsBounded (Trial number size workers) = size ≤ 100000
+IsBounded (Churn number size workers) = size ≤ 100000
 
 -- of the files of these names, behind so many bytes of others, those that are opened: up to and including the first with which
 -- the files are more than 16,777,215 bytes, all where there is no such

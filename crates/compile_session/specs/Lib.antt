@@ -2,7 +2,6 @@ pub mod Answers
 pub mod Built
 pub mod Faulty
 pub mod Files
-pub mod Known
 pub mod Listed
 pub mod Reading
 pub mod Tokens

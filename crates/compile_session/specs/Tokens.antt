@@ -6,8 +6,8 @@ use Rattle.script_scanner.specs.Stands.{HasOneLast}
 use Rattle.function_starts.specs.Own.{TokensRise}
 use Rattle.renamed_names.specs.Texts.{NamesAreFull}
 use Rattle.parse_exprs.specs.Source.{IsScanned}
+use Rattle.known_words.specs.Known.{HasWords}
 use Rattle.compile_session.specs.declared.file_tokens.FileTokens.{FileTokens}
-use Rattle.compile_session.specs.Known.{HasWords}
 
 abbrev pub tokens_in : FileTokens → List Lexeme
 tokens_in file = map (lexeme_of file.known.get file.known.set file.texts.items) file.tokens.items

@@ -5,7 +5,7 @@ use Rattle.outside.specs.Loops.{HaveAtMost}
 use Rattle.command_words.specs.declared.options.FileJob.{FileJob}
 use Rattle.command_words.specs.Asked.{Job}
 use Rattle.command_answer.specs.Answer.{most_bytes}
-use Rattle.compile_session.specs.declared.file.FileAnswer.{FileAnswer}
+use Rattle.compile_session.specs.declared.answer.FileAnswer.{FileAnswer}
 use Rattle.compile_session.specs.Answers.{SettlesRead}
 use Rattle.compile_session.specs.Built.{is_built}
 

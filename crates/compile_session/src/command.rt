@@ -5,47 +5,17 @@ ghost use Rattle.std.specs.String.{string_bytes};
 ghost use Rattle.outside.specs.Shelf.{TurnsToFront};
 ghost use Rattle.outside.specs.Sink.{Gains, GainsFront};
 ghost use Rattle.command_answer.specs.Answer.{IsAnswer};
-ghost use Rattle.compile_session.specs.Built as definition;
-ghost use Rattle.compile_session.specs.Built.{IsJobOf, built_of, names_of};
+ghost use Rattle.compile_session.specs.Built.{built_of, names_of};
 ghost use Rattle.compile_session.specs.Files.{IsBefore, IsWhole, opened_of, status_of};
 
 use crate::file::MOST_BYTES;
-use crate::files::answers_of;
 use crate::status::Status;
-use command_words::{Command, FileJob, Options, WordsFault, read_words};
+use crate::work::{answer_to, files_of, work_of};
 use helper_tasks::Gate;
 use outside::{Shelf, ShelfRefusal, Sink, SinkRefusal, Tally, read_files, write_bytes};
 use std::alloc::Global;
 use std::sync::Wait;
 use std::thread::Threads;
-
-fn is_built(command: Command) -> bool
-    ensures { result ≡ definition.is_built command }
-{
-    match command {
-        Command::Code | Command::Scopes | Command::Check => true,
-        Command::Save | Command::Load | Command::Verify => false,
-    }
-}
-
-/// What the words ask for, where it is built.
-fn job_of(alloc: Global, words: &[String]) -> Result<FileJob, Status>
-    ensures { IsJobOf (map string_bytes words.now) result }
-{
-    match read_words(alloc, words) {
-        Ok(Options::Files(job)) => {
-            if is_built(job.command) {
-                Ok(job)
-            } else {
-                Err(Status::BadWords)
-            }
-        }
-        Ok(Options::Trial { .. }) => Err(Status::BadWords),
-        Ok(Options::Churn { .. }) => Err(Status::BadWords),
-        Err(WordsFault::BadWords) => Err(Status::BadWords),
-        Err(WordsFault::NoMemory) => Err(Status::NoMemory),
-    }
-}
 
 /// Runs the command of these words: reads its files from the shelf, and gives the sink what is printed for them.
 pub fn run<R: Threads + Wait + Sync, L: Shelf, K: Sink, G: Gate, T: Tally>(
@@ -87,17 +57,17 @@ pub fn run<R: Threads + Wait + Sync, L: Shelf, K: Sink, G: Gate, T: Tally>(
     ensures count { T.count tally.new ≡ T.count tally.old }
     ensures left { T.room tally.new ≡ T.room tally.old }
 {
-    let job = match job_of(alloc, words) {
-        Ok(job) => job,
+    let work = match work_of(alloc, words) {
+        Ok(work) => work,
         Err(Status::BadWords) => return Status::BadWords,
         Err(_) => return Status::NoMemory,
     };
-    let reads = match read_files(alloc, shelf, &job.files, MOST_BYTES) {
+    let reads = match read_files(alloc, shelf, files_of(&work), MOST_BYTES) {
         Ok(reads) => reads,
         Err(ShelfRefusal::Failed) => return Status::ReadFault,
         Err(ShelfRefusal::NoMemory) => return Status::NoMemory,
     };
-    let answer = match answers_of(rt, alloc, &job, &reads, gate) {
+    let answer = match answer_to(rt, alloc, &work, &reads, gate) {
         Ok(answer) => answer,
         Err(_) => return Status::NoMemory,
     };

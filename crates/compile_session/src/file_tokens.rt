@@ -6,7 +6,7 @@ ghost use Rattle.unit_text.specs.Faults.{IsFaultOf};
 ghost use Rattle.script_scanner.specs.Lexemes.{lexemes};
 ghost use Rattle.compile_session.specs.Tokens.{tokens_in, IsSound};
 
-use crate::known::known_words;
+use known_words::known_words;
 use parse_track::region::Known;
 use parser_atoms::Atoms;
 use script_grammar::token::Token;

@@ -7,7 +7,7 @@ ghost use Rattle.command_words.specs.Asked as asked;
 ghost use Rattle.compile_session.specs.Built.{is_built};
 ghost use Rattle.compile_session.specs.Files.{AnswersAll};
 
-use crate::file::FileAnswer;
+use crate::answer::FileAnswer;
 use crate::workers::file_answers;
 use command_words::FileJob;
 use helper_tasks::Gate;

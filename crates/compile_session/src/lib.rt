@@ -4,26 +4,34 @@
 //! `helper_tasks`, by whose workers files are worked on side by side, on the text and the tokens of `unit_text` and
 //! `script_scanner`, on the parser of `parse_bodies`, by the handler of `parse_handlers` that keeps trees, on `script_errors`,
 //! which finds the early errors of kept trees, on `seated_bodies`, which puts bodies into their places, on `eager_compile`,
-//! which compiles a script with all its functions, and on `script_image`, which prints it. Its answer is that of the definitions
-//! of `command_answer`. Only the program stands on it. `known`, `file_tokens`, `reading`, `listing` and `file` are the steps of
-//! the way of one file, `file_order`, `workers` and `files` those of all files of a command, each with the definition that it
-//! meets in specs/.
+//! which compiles a script with all its functions, and on `script_image`, which prints it; for images on `image_commands`, and
+//! for generated texts on `generated_texts`. Its answer is that of the definitions of `command_answer`. Only the program stands
+//! on it.
+//!
+//! `work` says what words ask for. `file_tokens`, `reading`, `source`, `listing` and `printing` are the steps of the way of one
+//! file of source text, `image` is that of an image, `file_order`, `workers` and `files` those of all files of a command, and
+//! `trial` that of a generated text, each with the definition that it meets in specs/.
 //!
 //! The main contract is that of `run`: where all was done, the sink has taken the bytes of the definition's answer to the words
 //! and the files, and no others, whatever the number of workers and their schedule; each status comes exactly with its cause.
 #![tactic(auto)]
 
+mod answer;
 mod command;
 mod file;
 mod file_order;
 mod file_tokens;
 mod files;
-mod known;
+mod image;
 mod lines;
 mod listing;
+mod printing;
 mod reading;
 mod refusal;
+mod source;
 mod status;
+mod trial;
+mod work;
 mod workers;
 
 pub use command::run;

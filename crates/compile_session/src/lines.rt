@@ -10,7 +10,11 @@ use crate::refusal::Refusal;
 use std::alloc::{AllocError, Global};
 
 /// Appends the decimal digits of a number.
-fn append_decimal(alloc: Global, out: &mut Vec<u8>, number: u64) -> Result<(), AllocError>
+pub(crate) fn append_decimal(
+    alloc: Global,
+    out: &mut Vec<u8>,
+    number: u64,
+) -> Result<(), AllocError>
     ensures { OnOk result (out.new.items ≡ out.old.items ++ decimal number) }
 {
     let digits = number.to_string(alloc)?;
@@ -85,5 +89,6 @@ pub(crate) fn refusal_text(alloc: Global, name: &str, why: Refusal) -> Result<Ve
             out.extend_from_slice(b"\n")?;
             Ok(out)
         }
+        Refusal::NoImage => line_of_file(alloc, name, b": no image\n"),
     }
 }

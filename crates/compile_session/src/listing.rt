@@ -1,27 +1,24 @@
-//! The listing of a script that has no error.
+//! The stencil of a script that has no error, and its listing.
 
-ghost use Rattle.std.specs.Prelude.{◌≡◌, ◌≤◌, ◌⊎◌, ◌++◌, ℕ, List, true, IfOk, OnOk, MatchOption};
-ghost use Rattle.script_grammar.specs.Tree.{Stmts};
+ghost use Rattle.std.specs.Prelude.{◌≡◌, ◌≤◌, ◌⊎◌, ◌++◌, ℕ, List, length, IfOk, OnOk, MatchOption};
 ghost use Rattle.stencil_data.specs.Named.{NamedMerged};
 ghost use Rattle.stencil_data.specs.StandsFor.{MergedStandsFor};
 ghost use Rattle.bytecode_buf.specs.Command.{Listed};
 ghost use Rattle.script_image.specs.Listed.{ShowsListed};
 ghost use Rattle.command_answer.specs.Answer as answer;
-ghost use Rattle.command_answer.specs.Answer.{IsWritten};
 ghost use Rattle.eager_compile.specs.Numbers.{to_show};
 ghost use Rattle.command_words.specs.Asked as asked;
-ghost use Rattle.eager_compile.specs.Compiles.{IsOf};
-ghost use Rattle.compile_session.specs.Answers.{IsMissing};
-ghost use Rattle.compile_session.specs.Listed.{is_listed, listed_text};
+ghost use Rattle.eager_compile.specs.Compiles.{Shows};
+ghost use Rattle.compile_session.specs.Answers.{IsMissing, IsScriptOf};
+ghost use Rattle.compile_session.specs.Listed.{listed_text};
 
 use crate::lines::file_text;
-use command_words::{Command, FileJob, Want};
+use crate::source::SourceScript;
+use command_words::{Command, Want};
 use eager_compile::{Wanted, compile_script, merged};
-use parse_track::region::ClosedAt;
-use script_grammar::tree::Stmt;
 use script_image::{code_text, scope_text};
 use std::alloc::{AllocError, Global};
-use stencil_data::{MergedStencil, Text};
+use stencil_data::MergedStencil;
 
 /// Which functions are wanted compiled.
 fn wanted_of(want: &Want) -> Wanted<'_>
@@ -90,23 +87,37 @@ fn append_text(
     }
 }
 
-/// What is printed for the script of so many bytes that has these statements, with the bodies of its functions in their places.
+/// The stencil of a script, in which the functions that are wanted are compiled, and those around them.
+pub(crate) fn stencil_of(
+    alloc: Global,
+    script: SourceScript,
+    want: &Want,
+) -> Result<MergedStencil, AllocError>
+    requires { (wanted : asked.Wanted) × (bytes : List ℕ) × IsScriptOf wanted bytes script }
+    ensures { IfOk result (λ merged. (wanted : asked.Wanted) (bytes : List ℕ) (is : IsScriptOf wanted bytes script) → Shows (answer.to_show (asked.wanted want.now)) is.items (length bytes) merged) }
+{
+    let SourceScript {
+        top,
+        closed,
+        texts,
+        functions: _,
+        size,
+    } = script;
+    let compiled = compile_script(alloc, &top, size, &closed, &texts)?;
+    let shown = merged(alloc, compiled, texts, wanted_of(want))?;
+    Ok(shown)
+}
+
+/// What a command lists of a stencil, behind the line of the file.
 pub(crate) fn listing_of(
     alloc: Global,
-    job: &FileJob,
+    command: Command,
     name: &str,
-    size: u32,
-    top: &[Stmt],
-    closed: &[ClosedAt],
-    texts: Vec<Text>,
+    shown: &MergedStencil,
 ) -> Result<Vec<u8>, AllocError>
-    requires listed { is_listed job.now.command ≡ true }
-    requires of { (items : Stmts) × IsOf texts.items top.now closed.now items }
-    ensures { IfOk result (λ text. (items : Stmts) (count : ℕ) → IsOf texts.items top.now closed.now items → IsWritten job.now.command (asked.wanted job.now.want) name.now size items count text.items) }
+    ensures { IfOk result (λ text. (named : NamedMerged (List Listed)) → MergedStandsFor ShowsListed shown.now named → text.items ≡ answer.file_line name.now ++ listed_text command named) }
 {
-    let script = compile_script(alloc, top, size, closed, &texts)?;
-    let shown = merged(alloc, script, texts, wanted_of(&job.want))?;
     let mut out = file_text(alloc, name)?;
-    append_text(alloc, &mut out, job.command, &shown)?;
+    append_text(alloc, &mut out, command, shown)?;
     Ok(out)
 }

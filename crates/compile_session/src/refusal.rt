@@ -31,4 +31,6 @@ pub enum Refusal {
     NoFunction {
         number: u32,
     },
+    /// The bytes are the image of no stencil in range, for `load` and `verify`.
+    NoImage,
 }

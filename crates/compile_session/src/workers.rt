@@ -7,7 +7,8 @@ ghost use Rattle.command_words.specs.Asked as asked;
 ghost use Rattle.compile_session.specs.Built.{is_built};
 ghost use Rattle.compile_session.specs.Workers.{CanBeAnswered, SettlesFile, SettleFiles};
 
-use crate::file::{FileAnswer, answer_of};
+use crate::answer::FileAnswer;
+use crate::file::answer_of;
 use crate::file_order::file_order;
 use command_words::FileJob;
 use helper_tasks::{Gate, Job, run_tasks};

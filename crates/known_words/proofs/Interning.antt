@@ -1,7 +1,8 @@
 -- What was interned stays where it stands.
-use Rattle.std.proofs.Common.{◌≡◌, ℕ, zero, suc, ◌+◌, ◌≤◌, List, [], ◌∷◌, ◌++◌, length, refl, sym, ◌∙◌, ap, arith, length-append, inl, inr}
+use Rattle.std.proofs.Common.{◌≡◌, ℕ, zero, suc, ◌+◌, ◌≤◌, ◌<◌, ◌^◌, List, [], ◌∷◌, ◌++◌, length, refl, sym, ◌∙◌, ap, arith, length-append, inl, inr, subst}
 use Rattle.std.proofs.lemmas.List.{append-nil}
 use Rattle.std.specs.Prelude.{Some, slice_get}
+use Rattle.bytecode_buf.specs.InRange.{TextsSmall}
 use Rattle.parser_atoms.specs.Places.{Interns}
 use Rattle.parse_track.specs.declared.region.Known.{Known}
 use Rattle.script_scanner.specs.Stands.{Keeps}
@@ -15,6 +16,10 @@ get_more (t ∷ texts) more (suc n) text h = get_more texts more n text h
 get_last : (texts : List (List ℕ)) (text : List ℕ) → slice_get (texts ++ text ∷ []) (length texts) ≡ Some text
 get_last [] text = refl
 get_last (t ∷ texts) text = get_last texts text
+
+small_behind : (texts : List (List ℕ)) (text : List ℕ) → length text < 2 ^ 32 → TextsSmall texts → TextsSmall (texts ++ text ∷ [])
+small_behind [] text short small = (short, tt)
+small_behind (t ∷ texts) text short small = (small.0, small_behind texts text short small.1)
 
 pub interned : (before after : List (List ℕ)) (text : List ℕ) (atom : ℕ) → Interns before after text atom → slice_get after atom ≡ Some text
 interned before after text atom (inl h) = ap (λ (ts : List (List ℕ)). slice_get ts atom) h.1 ∙ h.0
@@ -36,6 +41,15 @@ interned_keeps before after text atom (inr h) = (text ∷ [], h.2)
 pub interned_few : (before after : List (List ℕ)) (text : List ℕ) (atom : ℕ) → Interns before after text atom → length after ≤ length before + 1
 interned_few before after text atom (inl h) = let e = ap length h.1 in omega (arith, e)
 interned_few before after text atom (inr h) = let e = ap length h.2 ∙ length-append before (text ∷ []) in omega (arith, e)
+
+-- all texts are short where they were
+pub interned_small : (before after : List (List ℕ)) (text : List ℕ) (atom : ℕ) → Interns before after text atom → length text < 2 ^ 32 → TextsSmall before → TextsSmall after
+interned_small before after text atom (inl h) short small = subst TextsSmall (sym h.1) small
+interned_small before after text atom (inr h) short small = subst TextsSmall (sym h.2) (small_behind before text short small)
+
+pub none_small : (texts : List (List ℕ)) → length texts ≡ 0 → TextsSmall texts
+none_small [] h = tt
+none_small (t ∷ ts) h = absurd (omega (arith, h))
 
 -- the known words stay where other texts join
 pub words_kept : (before after : List (List ℕ)) (known : Known) → Keeps before after → HasWords before known → HasWords after known

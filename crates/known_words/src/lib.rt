@@ -6,6 +6,7 @@
 #![tactic(auto)]
 
 ghost use Rattle.std.specs.Prelude.{◌≡◌, ◌≤◌, length, IfOk, OnOk};
+ghost use Rattle.bytecode_buf.specs.InRange.{TextsSmall};
 ghost use Rattle.parser_atoms.specs.Places.{AreWithoutEquals};
 ghost use Rattle.known_words.specs.Known.{HasWords};
 
@@ -39,6 +40,7 @@ pub fn known_words(alloc: Global, atoms: &mut Atoms) -> Result<Known, AllocError
     requires { length atoms.old ≡ 0 }
     ensures words { IfOk result (HasWords atoms.new) }
     ensures few { OnOk result (length atoms.new ≤ 7) }
+    ensures small { OnOk result (TextsSmall atoms.new) }
     ensures apart { OnOk result (AreWithoutEquals atoms.new) }
 {
     let eval = atoms.intern(alloc, &EVAL)?;

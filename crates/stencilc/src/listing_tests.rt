@@ -37,7 +37,7 @@ fn prints_from<R: Threads + Wait + Sync, L: Shelf>(
 }
 
 /// The status of a command over these files, and whether just this was printed.
-fn prints<R: Threads + Wait + Sync>(
+pub(crate) fn prints<R: Threads + Wait + Sync>(
     rt: &R,
     alloc: Global,
     words: &[&str],

@@ -4,8 +4,8 @@ use Rattle.function_starts.specs.Own.{TokensRise}
 use Rattle.renamed_names.specs.Texts.{NamesAreFull}
 use Rattle.token_starts.proofs.Rising.{lexemes_rise}
 use Rattle.token_names.proofs.FullNames.{names_are_full}
-use Rattle.compile_session.specs.Known.{HasWords}
-use Rattle.compile_session.proofs.InternLemmas.{words_kept}
+use Rattle.known_words.specs.Known.{HasWords}
+use Rattle.known_words.proofs.Interning.{words_kept}
 use Rattle.compile_session.proofs.TokenLemmas.{KnowsWords, file_tokens, file_scanned}
 use Rattle.compile_session.proofs.file_tokens.tokens_of.Goals as goal
 

@@ -1,7 +1,7 @@
 use Rattle.std.proofs.Common.{◌∙◌, ap}
 use Rattle.script_grammar.specs.declared.token.Token.{Token}
 use Rattle.compile_session.proofs.OutcomeLemmas.{starts_none, starts_at}
-use Rattle.compile_session.proofs.file.start_of.Goals as goal
+use Rattle.compile_session.proofs.source.start_of.Goals as goal
 
 pub returns-in-None : goal.returns-in-None
 returns-in-None c = λ get set texts. starts_none get set texts c.args.tokens.now c.args.token c.in-None.ensures.lookup.3

@@ -3,10 +3,10 @@ use Rattle.script_grammar.specs.Tree.{no_stmts}
 use Rattle.compile_session.specs.Tokens.{tokens_in}
 use Rattle.compile_session.proofs.OutcomeLemmas.{starts_same, fault_of, kept_script}
 use Rattle.compile_session.proofs.ReadLemmas.{read_unexpected, read_too_deep}
-use Rattle.compile_session.proofs.file.script_outcome.Goals as goal
+use Rattle.compile_session.proofs.source.script_source.Goals as goal
 
-pub kept_outcome-requires-clause-kept : goal.kept_outcome-requires-clause-kept
-kept_outcome-requires-clause-kept c = kept_script c.args.file c.in-Ok.script c.in-Ok.ensures
+pub kept_source-requires-clause-kept : goal.kept_source-requires-clause-kept
+kept_source-requires-clause-kept c = kept_script c.args.file c.in-Ok.script c.in-Ok.ensures
 
 pub returns-in-Err-Unexpected : goal.returns-in-Err-Unexpected
 returns-in-Err-Unexpected c = λ bytes t.

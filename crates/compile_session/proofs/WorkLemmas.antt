@@ -1,0 +1,50 @@
+-- What words ask for: files, or a generated text.
+use Rattle.std.proofs.Common.{◌≡◌, ℕ, ◌≤◌, true, List, length, Option, Some, Vec, sym, subst, arith}
+use Rattle.std.specs.String.{string_bytes}
+use Rattle.std.specs.declared.alloc.Global.{Global}
+use Rattle.std.proofs.lemmas.List.{length-map}
+use Rattle.command_words.specs.declared.options.FileJob.{FileJob}
+use Rattle.command_words.specs.declared.options.Options.{Options}
+use Rattle.command_words.specs.declared.options.Options.TheVariants as options
+use Rattle.command_words.specs.Asked.{Asked, Files, Trial, Churn, asked, job}
+use Rattle.command_words.specs.Words.{asked_of}
+use Rattle.generated_scripts.proofs.Commands.{trial_is_few, churn_is_few}
+use Rattle.compile_session.specs.declared.answer.FileAnswer.{FileAnswer}
+use Rattle.compile_session.specs.Built.{is_built, is_built_work}
+use Rattle.compile_session.specs.Files.{AnswersAll, AnswersWork, IsBounded, SettlesWork}
+use Rattle.compile_session.proofs.WordLaws.{asked_bounded}
+
+-- what words ask for is bounded
+pub work_bounded : (words : List (List ℕ)) (a : Asked) → asked_of words ≡ Some a → IsBounded a
+work_bounded words (Files j) e = let b = asked_bounded words j e in (b.files, b.one, b.workers)
+work_bounded words (Trial number size workers) e = trial_is_few words number size workers e
+work_bounded words (Churn number size workers) e = churn_is_few words number size workers e
+
+-- ---- files
+
+pub files_bounded : (w : Options) (j : FileJob) → w ≡ options.Files j → IsBounded (asked w) → (length j.files.items ≤ 64) × (1 ≤ j.workers) × (j.workers ≤ 16)
+files_bounded w j is bounded =
+    let b = subst (λ (x : Options). IsBounded (asked x)) is bounded in
+    let few = b.0 in
+    let long = length-map j.files.items string_bytes in
+    (omega (arith, few, long), b.1, b.2)
+
+pub files_built : (w : Options) (j : FileJob) → w ≡ options.Files j → is_built_work (asked w) ≡ true → is_built j.command ≡ true
+files_built w j is built = subst (λ (x : Options). is_built_work (asked x) ≡ true) is built
+
+pub files_answer : (w : Options) (j : FileJob) (reads : List (Option (Vec ℕ Global))) (answer : FileAnswer) → w ≡ options.Files j → AnswersAll (job j) reads answer → AnswersWork (asked w) reads answer
+files_answer w j reads answer is all =
+    subst (λ (x : Options). AnswersWork (asked x) reads answer) (sym is)
+    (λ held whole. let s = all held whole in record { is = s.is; only = s.only })
+
+-- ---- generated texts
+
+pub trial_work : (w : Options) (number size workers : ℕ) (reads : List (Option (Vec ℕ Global))) (answer : FileAnswer) → w ≡ options.Trial number size workers
+    → ((k : ℕ) (held : List ℕ → List ℕ) → SettlesWork (Trial number size k) held answer.text.items answer.refused) → AnswersWork (asked w) reads answer
+trial_work w number size workers reads answer is settles = subst (λ (x : Options). AnswersWork (asked x) reads answer) (sym is) (λ held whole. settles workers held)
+
+pub trial_bounded : (w : Options) (number size workers : ℕ) → w ≡ options.Trial number size workers → IsBounded (asked w) → size ≤ 100000
+trial_bounded w number size workers is bounded = subst (λ (x : Options). IsBounded (asked x)) is bounded
+
+pub churn_unbuilt : (w : Options) (number size workers : ℕ) → w ≡ options.Churn number size workers → is_built_work (asked w) ≡ true → ⊥
+churn_unbuilt w number size workers is built = let e = subst (λ (x : Options). is_built_work (asked x) ≡ true) is built in absurd (cc)

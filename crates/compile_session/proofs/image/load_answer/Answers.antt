@@ -1,0 +1,6 @@
+use Rattle.std.proofs.Common.{refl}
+use Rattle.compile_session.proofs.ImageLemmas.{loads}
+use Rattle.compile_session.proofs.image.load_answer.Goals as goal
+
+pub returns-in-Ok : goal.returns-in-Ok
+returns-in-Ok c = λ want. loads want c.args.name.now c.args.bytes.now c.in_ok-text.text.items _ c.in_ok-text.ensures c.in-Ok.ensures.listing refl

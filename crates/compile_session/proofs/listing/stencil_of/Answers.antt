@@ -1,0 +1,21 @@
+use Rattle.std.proofs.Common.{List, ℕ, length, sym, subst}
+use Rattle.script_grammar.specs.Tree.{Stmts}
+use Rattle.lazy_compile.specs.Shown.{Wanted}
+use Rattle.command_words.specs.Asked as asked
+use Rattle.command_answer.specs.Answer as answer
+use Rattle.eager_compile.specs.Compiles.{IsOf, IsCompiled, Shows}
+use Rattle.compile_session.specs.Answers.{IsScriptOf}
+use Rattle.compile_session.proofs.ListingLemmas.{of_seen}
+use Rattle.compile_session.proofs.listing.stencil_of.Goals as goal
+
+pub compile_script-requires : goal.compile_script-requires
+compile_script-requires c =
+    let is = c.requires.2 in
+    (is.items, of_seen c.args.script.texts.items c.deref-3.result.now c.args.script.top.items c.deref.result.now c.args.script.closed.items c.deref-2.result.now is.items c.deref-3.ensures.value c.deref.ensures.value c.deref-2.ensures.value is.of)
+
+pub returns : goal.returns
+returns c = λ wanted bytes is.
+    let of = of_seen c.args.script.texts.items c.deref-3.result.now c.args.script.top.items c.deref.result.now c.args.script.closed.items c.deref-2.result.now is.items c.deref-3.ensures.value c.deref.ensures.value c.deref-2.ensures.value is.of in
+    let compiled = subst (λ (texts : List (List ℕ)). IsCompiled texts is.items c.args.script.size c.in_ok-compiled.compiled) c.deref-3.ensures.value (c.in_ok-compiled.ensures is.items of) in
+    let shows = subst (λ (want : Wanted). Shows want is.items c.args.script.size c.in_ok-shown.shown) c.wanted_of.ensures (c.in_ok-shown.ensures is.items c.args.script.size compiled) in
+    subst (λ (size : ℕ). Shows (answer.to_show (asked.wanted c.args.want.now)) is.items size c.in_ok-shown.shown) is.long shows

@@ -1,0 +1,28 @@
+//! What is printed for files, and whether one of them is refused.
+
+ghost use Rattle.std.specs.Prelude.{◌≡◌, true, IfOk};
+ghost use Rattle.command_answer.specs.Refusals.{refusal_line};
+ghost use Rattle.compile_session.specs.Answers.{refusal_of};
+
+use crate::lines::refusal_text;
+use crate::refusal::Refusal;
+use std::alloc::{AllocError, Global};
+
+/// The text that is printed for files, and whether one of them is refused.
+#[derive(Drop)]
+pub struct FileAnswer {
+    pub text: Vec<u8>,
+    pub refused: bool,
+}
+
+/// The answer for a file that is refused.
+pub(crate) fn refused(alloc: Global, name: &str, why: Refusal) -> Result<FileAnswer, AllocError>
+    ensures text { IfOk result (λ answer. answer.text.items ≡ refusal_line name.now (refusal_of why)) }
+    ensures refused { IfOk result (λ answer. answer.refused ≡ true) }
+{
+    let text = refusal_text(alloc, name, why)?;
+    Ok(FileAnswer {
+        text,
+        refused: true,
+    })
+}

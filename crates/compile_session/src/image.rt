@@ -1,0 +1,60 @@
+//! What is printed for a file that is taken as an image.
+
+ghost use Rattle.std.specs.Prelude.{◌≡◌, IfOk};
+ghost use Rattle.command_answer.specs.Answer.{RefusedAs};
+ghost use Rattle.command_answer.specs.Refusals as line;
+ghost use Rattle.command_words.specs.Asked.{Wanted};
+ghost use Rattle.command_words.specs.declared.options.Command.TheVariants as command;
+ghost use Rattle.image_reader.specs.declared.fault.ImageFault.TheVariants.{NoImage};
+ghost use Rattle.compile_session.specs.Answers.{IsAnswerFor};
+
+use crate::answer::{FileAnswer, refused};
+use crate::lines::file_text;
+use crate::refusal::Refusal;
+use image_commands::{ImageFault, append_listing, append_verdicts};
+use std::alloc::{AllocError, Global};
+
+/// The answer for a file of which no image was read, for this reason.
+fn unread(alloc: Global, name: &str, fault: ImageFault) -> Result<FileAnswer, AllocError>
+    ensures { IfOk result (λ answer. (fault ≡ NoImage) × RefusedAs name.now line.NoImage answer.text.items answer.refused) }
+{
+    match fault {
+        ImageFault::NoImage => {
+            let answer = refused(alloc, name, Refusal::NoImage)?;
+            Ok(answer)
+        }
+        ImageFault::NoMemory => Err(AllocError),
+    }
+}
+
+/// What `load` prints for a file with these bytes.
+pub(crate) fn load_answer(alloc: Global, name: &str, bytes: &[u8]) -> Result<FileAnswer, AllocError>
+    ensures { IfOk result (λ answer. (want : Wanted) → IsAnswerFor command.Load want name.now bytes.now answer) }
+{
+    let mut text = file_text(alloc, name)?;
+    match append_listing(alloc, &mut text, bytes) {
+        Ok(()) => Ok(FileAnswer {
+            text,
+            refused: false,
+        }),
+        Err(fault) => unread(alloc, name, fault),
+    }
+}
+
+/// What `verify` prints for a file with these bytes. It is refused where the code of a script in it is unsound.
+pub(crate) fn verify_answer(
+    alloc: Global,
+    name: &str,
+    bytes: &[u8],
+) -> Result<FileAnswer, AllocError>
+    ensures { IfOk result (λ answer. (want : Wanted) → IsAnswerFor command.Verify want name.now bytes.now answer) }
+{
+    let mut text = file_text(alloc, name)?;
+    match append_verdicts(alloc, &mut text, bytes) {
+        Ok(unsound) => Ok(FileAnswer {
+            text,
+            refused: unsound,
+        }),
+        Err(fault) => unread(alloc, name, fault),
+    }
+}

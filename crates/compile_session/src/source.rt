@@ -1,0 +1,139 @@
+//! What a file of source text is: a script without errors, or refused.
+
+ghost use Rattle.std.specs.Prelude.{◌≡◌, ℕ, ◌≤◌, List, length, map, IfOk};
+ghost use Rattle.script_grammar.specs.Lexeme.{lexeme_of};
+ghost use Rattle.script_grammar.specs.Tree.{Stmts};
+ghost use Rattle.command_answer.specs.Answer.{most_bytes};
+ghost use Rattle.command_answer.specs.Sources as source;
+ghost use Rattle.command_words.specs.Asked as asked;
+ghost use Rattle.compile_session.specs.Answers.{AreTokensOf, IsKeptScript, IsSourceText};
+ghost use Rattle.compile_session.specs.Tokens.{IsSound};
+
+use crate::file_tokens::{FileTokens, tokens_of};
+use crate::listing::missing_of;
+use crate::reading::script_of;
+use crate::refusal::Refusal;
+use command_words::Want;
+use parse_bodies::whole::Script;
+use parse_exprs::place::ParseFault;
+use parse_track::region::ClosedAt;
+use script_errors::check_script;
+use script_grammar::token::Token;
+use script_grammar::tree::Stmt;
+use seated_bodies::seat::seat_script;
+use std::alloc::{AllocError, Global};
+use stencil_data::Text;
+use unit_text::DecodeFault;
+
+/// A script without errors.
+#[derive(Drop)]
+pub struct SourceScript {
+    /// Its statements, with the bodies of all functions in their places.
+    pub top: Vec<Stmt>,
+    /// The names that inner functions close over.
+    pub closed: Vec<ClosedAt>,
+    /// The texts that atoms index.
+    pub texts: Vec<Text>,
+    /// How many functions it has, at all depths.
+    pub functions: usize,
+    /// How long its text is, in bytes.
+    pub size: u32,
+}
+
+/// What a file of source text is: a script, of which all functions that are wanted are there, or why it is refused.
+#[derive(Drop)]
+pub enum SourceText {
+    Script(SourceScript),
+    Refused(Refusal),
+}
+
+/// The offset where the token of this number starts.
+fn start_of(tokens: &[Token], token: u32) -> u32
+    ensures { (get : ℕ) (set : ℕ) (texts : List (List ℕ)) → result ≡ source.start_of (map (lexeme_of get set texts) tokens.now) token }
+{
+    match tokens.get(token as usize) {
+        None => 0,
+        Some(token) => token.start,
+    }
+}
+
+/// What the script is that has these trees and is so many bytes long.
+fn kept_source(
+    alloc: Global,
+    want: &Want,
+    size: u32,
+    script: Script<Vec<Stmt>>,
+    file: FileTokens,
+) -> Result<SourceText, AllocError>
+    requires sound { IsSound file }
+    requires tokens { (bytes : List ℕ) × AreTokensOf file size bytes }
+    requires kept { (items : Stmts) × IsKeptScript file script items }
+    ensures { IfOk result (λ text. (bytes : List ℕ) → AreTokensOf file size bytes → IsSourceText (asked.wanted want.now) bytes text) }
+{
+    let Script {
+        mut top,
+        mut bodies,
+    } = script;
+    let checked = check_script(alloc, file.known, &top, &bodies)?;
+    if let Some(early) = checked.early {
+        return Ok(SourceText::Refused(Refusal::Early {
+            offset: early.offset,
+            rule: early.rule,
+        }));
+    }
+    if let Some(number) = missing_of(want, checked.functions) {
+        return Ok(SourceText::Refused(Refusal::NoFunction { number }));
+    }
+    bodies.reverse();
+    seat_script(&mut top, &mut bodies);
+    Ok(SourceText::Script(SourceScript {
+        top,
+        closed: checked.closed,
+        texts: file.texts,
+        functions: checked.functions,
+        size,
+    }))
+}
+
+/// What a file with these tokens is, which is so many bytes long.
+fn script_source(
+    alloc: Global,
+    want: &Want,
+    size: u32,
+    file: FileTokens,
+) -> Result<SourceText, AllocError>
+    requires sound { IsSound file }
+    requires tokens { (bytes : List ℕ) × AreTokensOf file size bytes }
+    ensures { IfOk result (λ text. (bytes : List ℕ) → AreTokensOf file size bytes → IsSourceText (asked.wanted want.now) bytes text) }
+{
+    match script_of(alloc, &file) {
+        Ok(script) => Ok(kept_source(alloc, want, size, script, file)?),
+        Err(ParseFault::Unexpected { token }) => {
+            let offset = start_of(&file.tokens, token);
+            Ok(SourceText::Refused(Refusal::Unexpected { offset }))
+        }
+        Err(ParseFault::TooDeep { token }) => {
+            let offset = start_of(&file.tokens, token);
+            Ok(SourceText::Refused(Refusal::TooDeep { offset }))
+        }
+        Err(ParseFault::NoMemory) => Err(AllocError),
+    }
+}
+
+/// What a file with these bytes is, where these functions are wanted.
+pub(crate) fn read_source(
+    alloc: Global,
+    want: &Want,
+    bytes: &[u8],
+) -> Result<SourceText, AllocError>
+    requires short { length bytes.now ≤ most_bytes }
+    ensures { IfOk result (IsSourceText (asked.wanted want.now) bytes.now) }
+{
+    match tokens_of(alloc, bytes) {
+        Ok(file) => Ok(script_source(alloc, want, bytes.len() as u32, file)?),
+        Err(DecodeFault::BadUtf8 { offset }) => {
+            Ok(SourceText::Refused(Refusal::BadUtf8 { offset }))
+        }
+        Err(DecodeFault::NoMemory) => Err(AllocError),
+    }
+}

@@ -1,0 +1,97 @@
+//! What the words of a command ask for, and what is printed for it.
+
+ghost use Rattle.std.specs.Prelude.{◌≡◌, true, map, IfOk};
+ghost use Rattle.std.specs.String.{string_bytes};
+ghost use Rattle.outside.specs.Loops.{HaveAtMost};
+ghost use Rattle.command_answer.specs.Answer.{most_bytes};
+ghost use Rattle.command_words.specs.Asked.{asked};
+ghost use Rattle.compile_session.specs.Built as definition;
+ghost use Rattle.compile_session.specs.Built.{IsWorkOf, is_built_work};
+ghost use Rattle.compile_session.specs.Files.{AnswersWork, IsBounded};
+
+use crate::answer::FileAnswer;
+use crate::files::answers_of;
+use crate::status::Status;
+use crate::trial::trial_answer;
+use command_words::{Command, Options, WordsFault, read_words};
+use helper_tasks::Gate;
+use std::alloc::{AllocError, Global};
+use std::sync::Wait;
+use std::thread::Threads;
+
+fn is_built(command: Command) -> bool
+    ensures { result ≡ definition.is_built command }
+{
+    match command {
+        Command::Code | Command::Scopes | Command::Check => true,
+        Command::Load | Command::Verify => true,
+        Command::Save => false,
+    }
+}
+
+fn is_built_work(work: &Options) -> bool
+    ensures { result ≡ is_built_work (asked work.now) }
+{
+    match work {
+        Options::Files(job) => is_built(job.command),
+        Options::Trial { .. } => true,
+        Options::Churn { .. } => false,
+    }
+}
+
+/// What the words ask for, where it is built.
+pub(crate) fn work_of(alloc: Global, words: &[String]) -> Result<Options, Status>
+    ensures { IsWorkOf (map string_bytes words.now) result }
+{
+    match read_words(alloc, words) {
+        Ok(work) => {
+            if is_built_work(&work) {
+                Ok(work)
+            } else {
+                Err(Status::BadWords)
+            }
+        }
+        Err(WordsFault::BadWords) => Err(Status::BadWords),
+        Err(WordsFault::NoMemory) => Err(Status::NoMemory),
+    }
+}
+
+/// The names of the files that are read for it.
+pub(crate) fn files_of(work: &Options) -> &[String]
+    ensures { map string_bytes result.now ≡ definition.files_of (asked work.now) }
+{
+    match work {
+        Options::Files(job) => &job.files,
+        Options::Trial { .. } | Options::Churn { .. } => &[],
+    }
+}
+
+/// What is printed for it, where these bytes were read of its files, and whether one of them is refused.
+pub(crate) fn answer_to<R: Threads + Wait + Sync, G: Gate>(
+    rt: &R,
+    alloc: Global,
+    work: &Options,
+    reads: &[Option<Vec<u8>>],
+    gate: &G,
+) -> Result<FileAnswer, AllocError>
+    requires built { is_built_work (asked work.now) ≡ true }
+    requires within { HaveAtMost most_bytes reads.now }
+    requires bounded { IsBounded (asked work.now) }
+    ensures { IfOk result (AnswersWork (asked work.now) reads.now) }
+{
+    match work {
+        Options::Files(job) => {
+            let answer = answers_of(rt, alloc, job, reads, gate)?;
+            Ok(answer)
+        }
+        Options::Trial {
+            number,
+            size,
+            workers: _,
+        } => {
+            let answer = trial_answer(alloc, *number, *size)?;
+            Ok(answer)
+        }
+        Options::Churn { .. } => unreachable!(),
+    }
+}

@@ -13,7 +13,7 @@ hash_step hash unit = (bit_xor hash unit * 1099511628211) % 2 ^ 64
 abbrev pub hash_of : List ℕ → ℕ
 hash_of text = fold hash_step 14695981039346656037 text
 
--- Where the search for a text begins. There are twice as many homes as texts, and behind the last home
+-- Where the search for a text begins. There are twice as many homes as texts, and after the last home
 -- as many places as texts, so that no search leaves the table
 abbrev pub home_of : List (List ℕ) → List ℕ → ℕ
 home_of texts text = hash_of text % (2 * length texts + 1)

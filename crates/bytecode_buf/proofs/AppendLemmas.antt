@@ -370,7 +370,7 @@ patched-last out made new op at d is_one place is patch =
 pub Fits-bare : (op : Op) → 0 < 256 ^ first_of op → 0 < 256 ^ second_of op → Fits (numbered op 0)
 Fits-bare op f s = record { first = f; second = s }
 
--- landed code with a JumpTarget behind it
+-- landed code with a JumpTarget after it
 pub appends_here : (aim : Aim) (bytes landed new : List ℕ) (inner waits_old waits_new : List Wait) → Lands aim bytes inner waits_old landed waits_new → new ≡ landed ++ laid (numbered op.JumpTarget 0) → LandsHere aim bytes inner waits_old new waits_new
 appends_here aim bytes landed new inner waits_old waits_new lands is texts start notes notes_now code x =
     appends_both (lands texts start notes notes_now code x) (appends_one texts landed new waits_new notes_now (numbered op.JumpTarget 0) (Fits-bare op.JumpTarget (lit< tt) (lit< tt)) is)
@@ -398,7 +398,7 @@ emits_both x y = record { anywhere = λ waits notes. appends_both (x.anywhere wa
 pub emits_one : (texts : List (List ℕ)) (old new : List ℕ) (i : Numbered) → Fits i → new ≡ old ++ laid i → Emits texts old new (Whole (command_of texts i) ∷ [])
 emits_one texts old new i fits is = record { anywhere = λ waits notes. appends_one texts old new waits notes i fits is }
 
--- bytes that no jump waits in stand for the code behind whatever waits
+-- bytes that no jump waits in stand for the code after whatever waits
 pub emits_closed : (texts : List (List ℕ)) (old new : List ℕ) (waits_new : List Wait) (code : Code) → waits_new ≡ [] → ((notes : List TryNote) → Appends texts (emitted old [] notes) (emitted new waits_new notes) code) → Emits texts old new code
 emits_closed texts old new waits_new code none x = record { anywhere = λ waits notes. closed waits notes (x notes) }
   where

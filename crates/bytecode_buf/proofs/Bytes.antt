@@ -103,7 +103,7 @@ take-le_bytes width n rest = take_at (le_bytes width n) rest width (length-le_by
 pub drop-le_bytes : (width n : ℕ) (rest : List ℕ) → drop width (le_bytes width n ++ rest) ≡ rest
 drop-le_bytes width n rest = drop_at (le_bytes width n) rest width (length-le_bytes width n)
 
--- bytes that are overwritten behind a byte
+-- bytes that are overwritten after a byte
 pub written-seam : (before bytes behind : List ℕ) (byte at : ℕ) → length before ≡ at → written (at + 1) bytes (before ++ byte ∷ behind) ≡ before ++ byte ∷ (bytes ++ drop (length bytes) behind)
 written-seam before bytes behind byte at is = ap₂ (λ (x : List ℕ) (y : List ℕ). x ++ bytes ++ y) front back ∙ (append_assoc (before ++ byte ∷ []) bytes (drop (length bytes) behind) ∙ append_assoc before (byte ∷ []) (bytes ++ drop (length bytes) behind))
   where
@@ -116,7 +116,7 @@ written-seam before bytes behind byte at is = ap₂ (λ (x : List ℕ) (y : List
     back : drop ((at + 1) + length bytes) (before ++ byte ∷ behind) ≡ drop (length bytes) behind
     back = ap (λ (k : ℕ). drop k (before ++ byte ∷ behind)) place ∙ drop-append-add before (byte ∷ behind) (suc (length bytes))
 
--- what stands from a byte on, when bytes behind it are overwritten
+-- what stands from a byte on, when bytes after it are overwritten
 pub drop-written : (before bytes behind : List ℕ) (byte at : ℕ) → length before ≡ at → drop at (written (at + 1) bytes (before ++ byte ∷ behind)) ≡ byte ∷ (bytes ++ drop (length bytes) behind)
 drop-written before bytes behind byte at is = ap (drop at) (written-seam before bytes behind byte at is) ∙ drop_at before (byte ∷ (bytes ++ drop (length bytes) behind)) at is
 

@@ -10,7 +10,7 @@ use Rattle.bytecode_buf.specs.Width.{first_width, second_width, shape_of, first_
 use Rattle.bytecode_buf.specs.Layout.{decoded, decoded_as, read_as, instr_by, instr_at, Numbered, renumbered, BeginsNumbered}
 use Rattle.bytecode_buf.proofs.Bytes.{le_value-le_bytes, drop-written}
 
--- enough bytes stand behind the opcode
+-- enough bytes stand after the opcode
 pub decoded_as-whole : (op : Op) (behind : List ℕ) → first_of op + second_of op ≤ length behind → decoded_as (Some op) behind ≡ Some (read_as op behind)
 decoded_as-whole op behind enough = ap (λ (b : Bool). if b then Some (read_as op behind) else None) (le-leb (first_of op + second_of op) (length behind) enough)
 
@@ -32,7 +32,7 @@ instr_is_decoded op at behind r a b first second f s enough is_a is_b is =
 pub decoded-byte : (code : List ℕ) (byte : ℕ) (behind : List ℕ) (op : Op) → code ≡ byte ∷ behind → op_at byte ≡ Some op → decoded code ≡ decoded_as (Some op) behind
 decoded-byte code byte behind op is found = ap decoded is ∙ ap (λ (o : Option Op). decoded_as o behind) found
 
--- an operand that is a number has four bytes, and none behind it
+-- an operand that is a number has four bytes, and none after it
 pub numbered_widths : (s : Shape) → has_number_shape s ≡ true → (first_width s ≡ 4) × (second_width s ≡ 0)
 numbered_widths shape.Atom is = (refl, refl)
 numbered_widths shape.Num is = (refl, refl)

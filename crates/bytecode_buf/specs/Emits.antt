@@ -17,7 +17,7 @@ abbrev pub Lands : Aim → List ℕ → List Wait → List Wait → List ℕ →
 Lands aim bytes inner waits bytes_new waits_new =
     (texts : List (List ℕ)) (start : List ℕ) (notes notes_now : List TryNote) (code : Code) → Appends texts (emitted start [] notes) (emitted bytes inner notes_now) code → Appends texts (emitted start waits notes) (emitted bytes_new waits_new notes_now) (landed_by command_width jump aim code)
 
--- the same, and a JumpTarget behind it
+-- the same, and a JumpTarget after it
 abbrev pub LandsHere : Aim → List ℕ → List Wait → List Wait → List ℕ → List Wait → Type 0
 LandsHere aim bytes inner waits bytes_new waits_new =
     (texts : List (List ℕ)) (start : List ℕ) (notes notes_now : List TryNote) (code : Code) → Appends texts (emitted start [] notes) (emitted bytes inner notes_now) code → Appends texts (emitted start waits notes) (emitted bytes_new waits_new notes_now) (here aim code)

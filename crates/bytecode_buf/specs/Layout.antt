@@ -32,7 +32,7 @@ abbrev pub AllFit : List Numbered → Type 0
 AllFit [] = Unit {0}
 AllFit (i ∷ is) = Fits i × AllFit is
 
--- the instruction with these operand bytes behind its own
+-- the instruction with these operand bytes after its own
 abbrev pub read_as : Op → List ℕ → Numbered
 read_as op rest = record { op = op; a = le_value (take (first_of op) rest); b = le_value (take (second_of op) (drop (first_of op) rest)) }
 
@@ -45,7 +45,7 @@ abbrev pub decoded : List ℕ → Option Numbered
 decoded [] = None
 decoded (byte ∷ rest) = decoded_as (op_at byte) rest
 
--- an instruction that was read, and what is read behind it
+-- an instruction that was read, and what is read after it
 abbrev pub followed : Option Numbered → (Numbered → List Numbered) → List Numbered
 followed None behind = []
 followed (Some i) behind = i ∷ behind i

@@ -8,3 +8,4 @@ pub mod Machine
 pub mod Pieces
 pub mod Table
 pub mod Width
+pub mod Verdicts

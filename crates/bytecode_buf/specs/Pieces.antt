@@ -32,13 +32,13 @@ abbrev pub size_by : {A : Type 0} → (A → ℕ) → List (Piece A) → ℕ
 size_by width [] = 0
 size_by width (p ∷ ps) = width_by width p + size_by width ps
 
--- a piece when the place that its jump waits for is this far behind its beginning
+-- a piece when the place that its jump waits for is this far after its beginning
 abbrev pub landing : {A : Type 0} → (Op → ℕ → A) → Aim → ℕ → Piece A → Piece A
 landing make aim distance (Whole a) = Whole a
 landing make aim distance (Waiting op other) = if same_aim aim other then Whole (make op distance) else Waiting op other
 landing make aim distance (Trying size depth) = Trying size depth
 
--- each jump that waits for this aim goes to the place behind the pieces
+-- each jump that waits for this aim goes to the place after the pieces
 abbrev pub landed_by : {A : Type 0} → (A → ℕ) → (Op → ℕ → A) → Aim → List (Piece A) → List (Piece A)
 landed_by width make aim [] = []
 landed_by width make aim (p ∷ ps) = landing make aim (width_by width p + size_by width ps) p ∷ landed_by width make aim ps
@@ -49,7 +49,7 @@ settled_piece make bare (Whole a) = a
 settled_piece make bare (Waiting op aim) = make op 0
 settled_piece make bare (Trying size depth) = bare op.Try
 
--- a try note of a Try at an offset: from behind the Try to behind what it guards
+-- a try note of a Try at an offset: from after the Try to after what it guards
 abbrev pub note_at : ℕ → ℕ → ℕ → TryNote
 note_at at size depth = record { start = at + 1; end = at + 1 + size; depth = depth }
 
@@ -76,7 +76,7 @@ one c = Whole c ∷ []
 abbrev pub size : Code → ℕ
 size code = size_by command_width code
 
--- the code, with a JumpTarget behind it to which each jump goes that waits for this aim
+-- the code, with a JumpTarget after it to which each jump goes that waits for this aim
 abbrev pub here : Aim → Code → Code
 here aim code = landed_by command_width jump aim code ++ Whole (plain op.JumpTarget) ∷ []
 

@@ -16,7 +16,7 @@ op_at byte = slice_get OPS byte
 abbrev pub row : Shape → Count → Count → Row
 row operand pops pushes = record { shape = operand; pops = pops; pushes = pushes }
 
--- what stands behind the byte, what is taken from the stack, what is given
+-- what stands after the byte, what is taken from the stack, what is given
 abbrev pub row_of : Op → Row
 row_of op.Undefined = row shape.Nothing (count.Fixed 0) (count.Fixed 1)
 row_of op.Null = row shape.Nothing (count.Fixed 0) (count.Fixed 1)

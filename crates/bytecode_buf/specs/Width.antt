@@ -1,4 +1,4 @@
--- What stands behind an opcode's byte: widths, and which operands are distances and numbers of things.
+-- What stands after an opcode's byte: widths, and which operands are distances and numbers of things.
 use Rattle.std.specs.Prelude.{ℕ, ◌+◌, Bool, true, false}
 use Rattle.bytecode_buf.specs.declared.opcode.Op.{Op}
 use Rattle.bytecode_buf.specs.declared.opcode.Shape.{Shape}
@@ -22,7 +22,7 @@ first_width shape.Argc = 2
 first_width shape.Place = 3
 first_width shape.Jump = 8
 
--- the width of a second operand: an aliased one has its slot behind its hops
+-- the width of a second operand: an aliased one has its slot after its hops
 abbrev pub second_width : Shape → ℕ
 second_width shape.Nothing = 0
 second_width shape.Whole8 = 0

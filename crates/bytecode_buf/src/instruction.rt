@@ -17,7 +17,7 @@ pub struct Instr {
     pub b: u64,
     /// The distance of a jump, its target less its own offset.
     pub to: i64,
-    /// The offset behind the instruction.
+    /// The offset after the instruction.
     pub next: usize,
 }
 
@@ -43,7 +43,7 @@ fn make_instr(op: Op, a: u64, b: u64, next: usize) -> Instr
     }
 }
 
-// The instruction of this opcode at `at`, its operands being at the beginning of the bytes behind it.
+// The instruction of this opcode at `at`, its operands being at the beginning of the bytes after it.
 fn read_instr(op: Op, at: usize, behind: &[u8]) -> Option<Instr>
     requires { at + 1 + length behind.now < 2 ^ 64 }
     ensures { result ≡ option_map (instr_at at) (decoded_as (Some op) behind.now) }

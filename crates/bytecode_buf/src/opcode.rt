@@ -131,7 +131,7 @@ pub enum Op {
     PushVarEnv,
 }
 
-/// What stands behind an opcode's byte.
+/// What stands after an opcode's byte.
 #[derive(Clone, Copy)]
 pub enum Shape {
     /// Nothing.

@@ -13,7 +13,7 @@ fn empty_script(rt: HostRuntime) -> Result<(), Fail> {
     Ok(())
 }
 
-// A jump over a hops and slot instruction, landed behind it, and a jump back to the beginning.
+// A jump over a hops and slot instruction, landed after it, and a jump back to the beginning.
 #[test]
 fn jumps(rt: HostRuntime) -> Result<(), Fail> {
     let mut code = CodeBuf::new(rt.alloc());

@@ -4,7 +4,7 @@ use Rattle.std.specs.Prelude.{unwrap_or}
 use Rattle.std.proofs.lemmas.Bool.Decides.{leb_tells}
 use Rattle.std.proofs.lemmas.List.{get_or_past}
 use Rattle.code_check.specs.Survey.{depth_at}
-use Rattle.code_verdicts.specs.Verdicts.{IsGreatest}
+use Rattle.bytecode_buf.specs.Verdicts.{IsGreatest}
 
 -- some depth is this one, and none below an offset is greater
 pub record GreatestTo (depths : List (Option ℕ)) (i most : ℕ) : Type 0 where

@@ -154,7 +154,7 @@ indexed_none notes size index is = subst (λ (i : Index). IsIndexedOf notes (dro
   },
 )
 
--- by rising depth no note behind one is less deep
+-- by rising depth no note after one is less deep
 pub least_first : (notes : List TryNote) (left : ℕ) (d : TryNote) → left < length notes → IsNonDecreasingBy (λ n. n.depth) notes → IsLeastDeep (get_or notes left d) (drop (left + 1) notes)
 least_first notes left d within sorted other c =
     let is : get_or notes (left + 1 + c.0) other ≡ other = sym (get_or-drop (left + 1) notes c.0 other) ∙ c.2 in

@@ -38,7 +38,7 @@ fuel (suc n) (suc m) (byte ∷ code) room room' =
     ∙ fuel_by n m (byte ∷ code) (decoded (byte ∷ code)) (λ k short. fuel n m (drop (k + 1) (byte ∷ code)) short (omega (arith, length-drop (k + 1) (byte ∷ code)))) room
     ∙ sym (instructions_within-more m (byte ∷ code))
 
--- the first instruction, and those behind it
+-- the first instruction, and those after it
 pub instructions-more : (code : List ℕ) (i : Numbered) → decoded code ≡ Some i → instructions code ≡ i ∷ instructions (drop (width_of i.op) code)
 instructions-more [] i is = absurd (cc)
 instructions-more (byte ∷ rest) i is =

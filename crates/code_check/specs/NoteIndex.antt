@@ -50,7 +50,7 @@ abbrev pub IsRow : List TryNote → List Entry → Option ℕ → List TryNote �
 IsRow notes entries place [] = place ≡ None
 IsRow notes entries place (note ∷ row) = (entry : Entry) × (entry_at entries place ≡ Some entry) × (slice_get notes entry.note ≡ Some note) × IsRow notes entries entry.next row
 
--- no note is deeper than one behind it
+-- no note is deeper than one after it
 abbrev pub IsRising : List TryNote → Type 0
 IsRising [] = Unit {0}
 IsRising (note ∷ row) = All (λ other. note.depth ≤ other.depth) row × IsRising row

@@ -2,7 +2,7 @@
 use Rattle.std.specs.Prelude.{◌≡◌, ℕ, false, List}
 use Rattle.stencil_data.specs.declared.stencils.TryNote.{TryNote}
 use Rattle.bytecode_buf.specs.Machine.{State, Reaches, is_stuck}
-use Rattle.code_verdicts.specs.Verdicts.{Soundness, Sound, Unsound}
+use Rattle.bytecode_buf.specs.Verdicts.{Soundness, Sound, Unsound}
 use Rattle.code_check.specs.declared.verdict.Verdict.{Verdict}
 use Rattle.code_check.specs.declared.verdict.Verdict.TheVariants as verdict
 

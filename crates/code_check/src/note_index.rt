@@ -12,7 +12,7 @@ use std::alloc::{AllocError, Global};
 use std::marker::Model;
 use stencil_data::TryNote;
 
-/// A note at a node, and the place of the one behind it.
+/// A note at a node, and the place of the one after it.
 #[derive(Clone, Copy)]
 pub(crate) struct Entry {
     pub note: usize,

@@ -42,7 +42,7 @@ fn underflow(rt: HostRuntime) -> Result<(), Fail> {
     Ok(())
 }
 
-// Code that goes on behind its last instruction, and no code at all.
+// Code that goes on after its last instruction, and no code at all.
 #[test]
 fn no_end(rt: HostRuntime) -> Result<(), Fail> {
     let alloc = rt.alloc();
@@ -207,7 +207,7 @@ fn deeper_inside(rt: HostRuntime) -> Result<(), Fail> {
     Ok(())
 }
 
-// Notes that catch nothing, since they are too deep, around no offset, or behind the code.
+// Notes that catch nothing, since they are too deep, around no offset, or after the code.
 #[test]
 fn idle_notes(rt: HostRuntime) -> Result<(), Fail> {
     let alloc = rt.alloc();
@@ -246,7 +246,7 @@ fn idle_notes(rt: HostRuntime) -> Result<(), Fail> {
     Ok(())
 }
 
-// A note that ends behind the code, where it catches.
+// A note that ends after the code, where it catches.
 #[test]
 fn ends_outside(rt: HostRuntime) -> Result<(), Fail> {
     let alloc = rt.alloc();

@@ -6,7 +6,7 @@ ghost use Rattle.bytecode_buf.specs.Machine as machine;
 ghost use Rattle.code_check.specs.Parts.{part_of};
 ghost use Rattle.code_check.specs.Survey.{HasNoTable, StopsFor, depth_at};
 ghost use Rattle.code_check.specs.Verdicts.{IsNeverStuck, soundness};
-ghost use Rattle.code_verdicts.specs.Verdicts.{IsGreatest, IsVerified};
+ghost use Rattle.bytecode_buf.specs.Verdicts.{IsGreatest, IsVerified};
 
 use crate::note_index::{NoteIndex, sorted_notes};
 use crate::starts::instruction_starts;

@@ -1,13 +1,13 @@
 -- One file: what is printed is its answer.
 use Rattle.std.proofs.Common.{◌≡◌, ℕ, ◌+◌, ◌≤◌, true, false, List, length, Option, Some, Vec, refl, sym, ◌∙◌, subst}
 use Rattle.std.specs.declared.alloc.Global.{Global}
-use Rattle.outside.specs.Loops.{IsWholeBehind}
-use Rattle.command_words.specs.declared.options.Command.{Command}
-use Rattle.command_words.specs.declared.options.Command.TheVariants as command
-use Rattle.command_words.specs.Asked.{Job, Wanted}
-use Rattle.command_answer.specs.Answer.{IsWritten, most_bytes}
-use Rattle.command_answer.specs.Refusals.{refusal_line}
-use Rattle.command_answer.specs.Sources.{IsScript, IsRefused}
+use Rattle.session_outside.specs.Loops.{IsWholeBehind}
+use Rattle.session_words.specs.declared.options.Command.{Command}
+use Rattle.session_words.specs.declared.options.Command.TheVariants as command
+use Rattle.session_words.specs.Asked.{Job, Wanted}
+use Rattle.session_specs.specs.Answer.{IsWritten, most_bytes}
+use Rattle.session_specs.specs.Refusals.{refusal_line}
+use Rattle.session_specs.specs.Sources.{IsScript, IsRefused}
 use Rattle.compile_session.specs.declared.answer.FileAnswer.{FileAnswer}
 use Rattle.compile_session.specs.declared.refusal.Refusal.{Refusal}
 use Rattle.compile_session.specs.declared.source.SourceScript.{SourceScript}

@@ -5,10 +5,10 @@ use Rattle.std.specs.String.{string_bytes}
 use Rattle.std.specs.declared.alloc.Global.{Global}
 use Rattle.std.proofs.lemmas.List.{length-map}
 use Rattle.std.proofs.lemmas.Option.{slice_get_within, slice_get-get_or}
-use Rattle.outside.specs.Loops.{HasAtMost, HaveAtMost, IsWholeBehind, AreWholeBehind}
-use Rattle.command_words.specs.declared.options.FileJob.{FileJob}
-use Rattle.command_words.specs.Asked.{Job, job}
-use Rattle.command_answer.specs.Answer.{most_bytes}
+use Rattle.session_outside.specs.Loops.{HasAtMost, HaveAtMost, IsWholeBehind, AreWholeBehind}
+use Rattle.session_words.specs.declared.options.FileJob.{FileJob}
+use Rattle.session_words.specs.Asked.{Job, job}
+use Rattle.session_specs.specs.Answer.{most_bytes}
 use Rattle.compile_session.specs.declared.answer.FileAnswer.{FileAnswer}
 use Rattle.compile_session.specs.Answers.{Settles, SettlesRead}
 use Rattle.compile_session.specs.Files.{SettlesAll}
@@ -26,7 +26,7 @@ or_false false = refl
 settles_none : (job : Job) (held : List ℕ → List ℕ) (before : ℕ) → SettlesAll job held before [] [] false
 settles_none job held before = record { is = (refl, refl); only = λ other r h. h }
 
--- one file, and others behind it
+-- one file, and others after it
 settles_more : (job : Job) (held : List ℕ → List ℕ) (before : ℕ) (name : List ℕ) (names : List (List ℕ)) (text later : List ℕ) (refused later_refused : Bool)
     → Settles job before name (held name) text refused → SettlesAll job held (before + length (held name)) names later later_refused
     → SettlesAll job held before (name ∷ names) (text ++ later) (refused || later_refused)
@@ -38,12 +38,12 @@ settles_more job held before name names text later refused later_refused one all
       (h.6 ∙ ap (λ (t : List ℕ). t ++ h.2) a.0 ∙ ap (λ (t : List ℕ). text ++ t) b.0, h.7 ∙ ap (λ (x : Bool). x || h.3) a.1 ∙ ap (λ (x : Bool). refused || x) b.1);
 }
 
--- the bytes of the files of these names, behind so many
+-- the bytes of the files of these names, after so many
 pub total : (List ℕ → List ℕ) → ℕ → List (List ℕ) → ℕ
 total held before [] = before
 total held before (name ∷ names) = total held (before + length (held name)) names
 
--- In the middle of the files: whatever is answered for those that are left is answered for all behind what is there. `reads` are
+-- In the middle of the files: whatever is answered for those that are left is answered for all after what is there. `reads` are
 -- what was read of all.
 pub record IsAnswering (job : Job) (names : List (List ℕ)) (reads : List (Option (Vec ℕ Global))) (index : ℕ) (text : List ℕ) (refused : Bool) : Type 0 where
   pub later : (held : List ℕ → List ℕ) → AreWholeBehind most_bytes held 0 names reads → (more : List ℕ) (more_refused : Bool)

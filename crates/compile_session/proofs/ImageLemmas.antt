@@ -4,14 +4,14 @@ use Rattle.stencil_data.specs.MergedView.{MergedView}
 use Rattle.stencil_data.specs.Named.{NamedMerged}
 use Rattle.bytecode_buf.specs.Command.{Listed}
 use Rattle.script_image.specs.ScriptLines.{code_text}
-use Rattle.stencil_xdr.specs.Image.{IsImageOf}
-use Rattle.image_answers.specs.Images.{IsImageFor, IsNoImage, AreVerifiedLines}
-use Rattle.image_codes.proofs.OneListing.{one_image_one_listing}
-use Rattle.image_codes.proofs.OneVerdict.{one_image_one_verdict}
-use Rattle.command_words.specs.declared.options.Command.TheVariants as command
-use Rattle.command_words.specs.Asked.{Wanted}
-use Rattle.command_answer.specs.Answer.{RefusedAs, file_line}
-use Rattle.command_answer.specs.Refusals as line
+use Rattle.stencil_xdr_specs.specs.Image.{IsImageOf}
+use Rattle.session_image_specs.specs.Images.{IsImageFor, IsNoImage, AreVerifiedLines}
+use Rattle.session_images.proofs.OneListing.{one_image_one_listing}
+use Rattle.session_images.proofs.OneVerdict.{one_image_one_verdict}
+use Rattle.session_words.specs.declared.options.Command.TheVariants as command
+use Rattle.session_words.specs.Asked.{Wanted}
+use Rattle.session_specs.specs.Answer.{RefusedAs, file_line}
+use Rattle.session_specs.specs.Refusals as line
 use Rattle.compile_session.specs.declared.answer.FileAnswer.{FileAnswer}
 use Rattle.compile_session.specs.Answers.{IsAnswerFor}
 

@@ -1,8 +1,8 @@
 -- Of the known words, those that errors ask for.
 use Rattle.std.proofs.Common.{ℕ, List}
 use Rattle.parse_track.specs.declared.region.Known.{Known}
-use Rattle.script_errors.specs.Kept.{Knows}
-use Rattle.known_words.specs.Known.{HasWords}
+use Rattle.early_errors.specs.Kept.{Knows}
+use Rattle.track_atoms.specs.Known.{HasWords}
 
 pub knows_of : (texts : List (List ℕ)) (known : Known) → HasWords texts known → Knows texts known
 knows_of texts known h = record { eval = h.eval; arguments = h.arguments; this = h.this; proto = h.proto; strict = h.strict }

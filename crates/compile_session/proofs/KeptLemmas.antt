@@ -18,27 +18,27 @@ use Rattle.parse_track.specs.Counted.{function_count}
 use Rattle.parse_track.specs.Notes.{early_error, closed_names}
 use Rattle.parse_track.specs.Scopes.{bounds_of}
 use Rattle.parse_track.specs.Tells.{tells_script}
-use Rattle.renamed_names.specs.Renaming.{renamed_bound}
-use Rattle.renamed_names.specs.Texts.{text_at}
-use Rattle.closed_scopes.specs.Names.{OfEachNameToken, IsNotThis}
-use Rattle.script_limits.proofs.Files.{file_stands}
-use Rattle.this_names.proofs.OtherNames.{names_are_others}
-use Rattle.site_laws.proofs.TellingFunctions.{told_count}
+use Rattle.track_renaming_laws.specs.Renaming.{renamed_bound}
+use Rattle.track_renaming_laws.specs.Texts.{text_at}
+use Rattle.script_grammar.specs.NameTokens.{OfEachNameToken, IsNotThis}
+use Rattle.emit_limit_laws.proofs.Files.{file_stands}
+use Rattle.scan_laws.proofs.OtherNames.{names_are_others}
+use Rattle.emit_limit_laws.proofs.TellingFunctions.{told_count}
 use Rattle.script_scanner.specs.Lexemes.{lexemes}
-use Rattle.seated_bodies.specs.Seats.{Seats, at_hand, giving, statements}
-use Rattle.script_errors.specs.Kept.{AreKept}
-use Rattle.script_errors.specs.Kept as kept
-use Rattle.script_errors.specs.declared.checking.Checked.{Checked}
-use Rattle.script_errors.proofs.Own.{own, top_own, bodies_own}
-use Rattle.eager_compile.specs.Compiles.{AreSeated}
-use Rattle.eager_compile.specs.Compiles as eager
-use Rattle.command_words.specs.declared.options.Command.{Command}
-use Rattle.command_words.specs.declared.options.Command.TheVariants as command
-use Rattle.command_words.specs.Asked.{Wanted}
-use Rattle.command_answer.specs.Answer.{IsWritten}
-use Rattle.command_answer.specs.Counted.{HasFunctions}
-use Rattle.command_answer.specs.Sources.{IsValid, HasAll, missing}
-use Rattle.command_answer.specs.Sources as source
+use Rattle.parse_attach_bodies.specs.Seats.{Seats, at_hand, giving, statements}
+use Rattle.early_errors.specs.Kept.{AreKept}
+use Rattle.early_errors.specs.Kept as kept
+use Rattle.early_errors.specs.declared.checking.Checked.{Checked}
+use Rattle.early_errors.proofs.Own.{own, top_own, bodies_own}
+use Rattle.compile_eager.specs.Compiles.{AreSeated}
+use Rattle.compile_eager.specs.Compiles as eager
+use Rattle.session_words.specs.declared.options.Command.{Command}
+use Rattle.session_words.specs.declared.options.Command.TheVariants as command
+use Rattle.session_words.specs.Asked.{Wanted}
+use Rattle.session_specs.specs.Answer.{IsWritten}
+use Rattle.compile_specs.specs.Counted.{HasFunctions}
+use Rattle.session_specs.specs.Sources.{IsValid, HasAll, missing}
+use Rattle.session_specs.specs.Sources as source
 use Rattle.compile_session.specs.declared.file_tokens.FileTokens.{FileTokens}
 use Rattle.compile_session.specs.Built.{is_source}
 use Rattle.compile_session.specs.Listed.{is_listed}

@@ -11,13 +11,13 @@ use Rattle.bytecode_buf.specs.Command.{Listed}
 use Rattle.script_image.specs.Listed.{ShowsListed}
 use Rattle.script_image.specs.ScriptLines.{code_text, scope_text, listed_merged}
 use Rattle.script_image.proofs.Stands.{commands_as_listed}
-use Rattle.command_words.specs.declared.options.Command.{Command}
-use Rattle.command_words.specs.declared.options.Command.TheVariants as command
-use Rattle.command_words.specs.Asked.{Wanted}
-use Rattle.command_answer.specs.Answer.{IsWritten, file_line, to_show}
-use Rattle.command_answer.specs.Sources.{IsLeastOf}
+use Rattle.session_words.specs.declared.options.Command.{Command}
+use Rattle.session_words.specs.declared.options.Command.TheVariants as command
+use Rattle.session_words.specs.Asked.{Wanted}
+use Rattle.session_specs.specs.Answer.{IsWritten, file_line, to_show}
+use Rattle.session_specs.specs.Sources.{IsLeastOf}
 use Rattle.parse_track.specs.declared.region.ClosedAt.{ClosedAt}
-use Rattle.eager_compile.specs.Compiles.{IsOf, Shows}
+use Rattle.compile_eager.specs.Compiles.{IsOf, Shows}
 use Rattle.compile_session.specs.Listed.{is_listed, listed_text}
 
 -- ---- the least number that is missing

@@ -7,16 +7,16 @@ use Rattle.script_grammar.specs.Fault.{Refusal as Fault, FirstFault, ScriptPart}
 use Rattle.script_grammar.specs.Lexeme.{Lexeme, lexeme_of}
 use Rattle.script_grammar.specs.Pieces.{whole}
 use Rattle.script_grammar.specs.Tree.{Stmts, no_stmts}
-use Rattle.function_starts.specs.Own.{TokensRise}
+use Rattle.grammar_start_laws.specs.Own.{TokensRise}
 use Rattle.parse_bodies.specs.declared.whole.Script.{Script}
 use Rattle.parse_bodies.specs.Whole.{IsText}
-use Rattle.renamed_names.specs.Texts.{NamesAreFull}
+use Rattle.script_grammar.specs.NameTokens.{NamesAreFull}
 use Rattle.scope_analysis.specs.FunctionTree.{KnowsNames}
-use Rattle.known_words.proofs.Found.{knows_names as names_known}
-use Rattle.script_errors.specs.Kept.{IsKept, AreKept}
-use Rattle.script_errors.specs.Kept as kept
-use Rattle.command_answer.specs.Sources.{IsRead}
-use Rattle.command_answer.specs.Sources as source
+use Rattle.track_atoms.proofs.Found.{knows_names as names_known}
+use Rattle.early_errors.specs.Kept.{IsKept, AreKept}
+use Rattle.early_errors.specs.Kept as kept
+use Rattle.session_specs.specs.Sources.{IsRead}
+use Rattle.session_specs.specs.Sources as source
 use Rattle.compile_session.specs.declared.file_tokens.FileTokens.{FileTokens}
 use Rattle.compile_session.specs.Reading.{IsScriptKept}
 use Rattle.compile_session.specs.Tokens.{tokens_in, IsSound}

@@ -15,9 +15,9 @@ use Rattle.script_grammar.specs.Pieces.{whole}
 use Rattle.script_grammar.specs.Tree.{Stmts}
 use Rattle.script_grammar.specs.Fault.{ScriptPart, Refusal, Unexpected, TooDeep, FirstFault}
 use Rattle.script_scanner.specs.Stands.{is_last, AreNoLast, HasOneLast}
-use Rattle.pure_parser.proofs.Bracketed.{IsInner, AllInner}
-use Rattle.pure_parser.proofs.CutTexts.{first_fault_of_cut, cut_is_all}
-use Rattle.pure_parser.proofs.ScriptLaws.{Text, inner_no_end}
+use Rattle.grammar_script_laws.proofs.Bracketed.{IsInner, AllInner}
+use Rattle.grammar_deferred_laws.proofs.CutTexts.{first_fault_of_cut, cut_is_all}
+use Rattle.grammar_script_laws.proofs.ScriptLaws.{Text, inner_no_end}
 use Rattle.parse_exprs.specs.declared.source.Source.{Source}
 use Rattle.parse_exprs.specs.declared.place.ParseFault.{ParseFault}
 use Rattle.parse_exprs.specs.declared.place.ParseFault.TheVariants as faults
@@ -28,8 +28,8 @@ use Rattle.parse_bodies.specs.declared.whole.Script.{Script}
 use Rattle.parse_handlers.specs.Kept.{IsBody}
 use Rattle.script_grammar.specs.Braced.{braced_all}
 use Rattle.script_grammar.specs.Shows.{ShowAll}
-use Rattle.pure_parser.specs.Filling.{fill_stmts}
-use Rattle.script_errors.specs.Kept.{given, statements}
+use Rattle.grammar_parser_specs.specs.Filling.{fill_stmts}
+use Rattle.early_errors.specs.Kept.{given, statements}
 use Rattle.compile_session.specs.Reading.{IsScriptKept, IsReading}
 use Rattle.compile_session.proofs.TextLemmas.{fault_within}
 

@@ -2,12 +2,12 @@
 use Rattle.std.proofs.Common.{◌≡◌, ℕ, Bool, true, false, List, [], ◌∷◌, ◌++◌, Option, Some, None, Vec, refl, ap, sym, ◌∙◌, subst, append-nil, if◌then◌else◌, ◌+◌, ◌<◌, ◌≤◌, length}
 use Rattle.std.specs.declared.alloc.Global.{Global}
 use Rattle.std.proofs.lemmas.Bool.{le-leb, lt-leb}
-use Rattle.outside.specs.Shelf.{TurnsToFront, opened}
-use Rattle.outside.specs.Sink.{Gains, GainsFront}
-use Rattle.outside.specs.Loops.{ReadsAllWithin, AreWholeBehind}
-use Rattle.command_words.specs.Asked.{Asked}
-use Rattle.command_words.specs.Words.{asked_of}
-use Rattle.command_answer.specs.Answer.{IsAnswer, IsAnswerTo, most_bytes}
+use Rattle.session_outside.specs.Shelf.{TurnsToFront, opened}
+use Rattle.session_outside.specs.Sink.{Gains, GainsFront}
+use Rattle.session_outside.specs.Loops.{ReadsAllWithin, AreWholeBehind}
+use Rattle.session_words.specs.Asked.{Asked}
+use Rattle.session_words.specs.Words.{asked_of}
+use Rattle.session_specs.specs.Answer.{IsAnswer, IsAnswerTo, most_bytes}
 use Rattle.compile_session.specs.declared.answer.FileAnswer.{FileAnswer}
 use Rattle.compile_session.specs.Built.{built, built_of, is_built_work, files_of, names_of}
 use Rattle.compile_session.specs.Files.{AnswersWork, SettlesWork, opened_of}

@@ -10,20 +10,20 @@ use Rattle.parse_bodies.specs.Whole.{IsText}
 use Rattle.parse_track.specs.declared.region.Early.{Early}
 use Rattle.parse_track.specs.Notes.{early_error, closed_names}
 use Rattle.script_scanner.specs.Lexemes.{lexemes}
-use Rattle.command_words.specs.declared.options.Command.{Command as Word}
-use Rattle.command_words.specs.declared.options.Command.TheVariants as word
-use Rattle.command_words.specs.Asked.{Wanted, Job}
-use Rattle.lazy_compile.specs.Eager.{IsEager, Site, compiled_at}
-use Rattle.lazy_compile.specs.Shown.{IsShown, shown}
-use Rattle.lazy_compile.specs.Shown as show
-use Rattle.command_answer.proofs.Counts.{one_count}
-use Rattle.lazy_compile.proofs.Sites.{one_functions}
+use Rattle.session_words.specs.declared.options.Command.{Command as Word}
+use Rattle.session_words.specs.declared.options.Command.TheVariants as word
+use Rattle.session_words.specs.Asked.{Wanted, Job}
+use Rattle.compile_specs.specs.Eager.{IsEager, Site, compiled_at}
+use Rattle.compile_specs.specs.Shown.{IsShown, shown}
+use Rattle.compile_specs.specs.Shown as show
+use Rattle.compile_specs.proofs.Counts.{one_count}
+use Rattle.compile_specs.proofs.Sites.{one_functions}
 use Rattle.script_image.specs.ScriptLines.{code_text, scope_text, listed_merged}
-use Rattle.command_answer.specs.Answer.{IsWritten, IsOfSource, IsOf, FromSource, file_line, to_show, most_bytes}
-use Rattle.command_answer.specs.Counted.{HasFunctions}
-use Rattle.command_answer.specs.Refusals as line
-use Rattle.command_answer.specs.Refusals.{Refusal, refusal_line}
-use Rattle.command_answer.specs.Sources.{Source, IsScript, IsRefused, IsSource, IsRead, IsValid, HasAll, FaultAt, ErrorAt, LacksFunction, IsLeastOf, missing}
+use Rattle.session_specs.specs.Answer.{IsWritten, IsOfSource, IsOf, FromSource, file_line, to_show, most_bytes}
+use Rattle.compile_specs.specs.Counted.{HasFunctions}
+use Rattle.session_specs.specs.Refusals as line
+use Rattle.session_specs.specs.Refusals.{Refusal, refusal_line}
+use Rattle.session_specs.specs.Sources.{Source, IsScript, IsRefused, IsSource, IsRead, IsValid, HasAll, FaultAt, ErrorAt, LacksFunction, IsLeastOf, missing}
 use Rattle.compile_session.specs.declared.answer.FileAnswer.{FileAnswer}
 use Rattle.compile_session.specs.Built.{is_source}
 use Rattle.compile_session.specs.Answers.{IsAnswerFor, Settles}

@@ -8,18 +8,18 @@ use Rattle.script_grammar.specs.Print.{print_stmts}
 use Rattle.script_grammar.specs.Script.{IsScript}
 use Rattle.script_grammar.specs.Tree.{Stmts}
 use Rattle.script_grammar.specs.Fault.{Begins, BeginsDeep, ScriptPart, Refusal, Unexpected, TooDeep, RefusedAs, FirstFault}
-use Rattle.pure_parser.specs.Parser.{Reply, Read}
-use Rattle.pure_parser.proofs.Bracketed.{IsInner, AllInner}
-use Rattle.pure_parser.proofs.Closed.{Closed, not_both}
-use Rattle.pure_parser.proofs.ClosedParts.{script_matches}
-use Rattle.pure_parser.proofs.FirstFaults.{fault_place, fault_kind}
-use Rattle.pure_parser.proofs.NestedTrees.{nested_stmts}
-use Rattle.pure_parser.proofs.PartLaws.{nested_inner}
-use Rattle.pure_parser.proofs.Partnered.{inner-or_not}
-use Rattle.pure_parser.proofs.ScriptLaws.{ScriptOf, script_decides, script_read, last_only, inner_no_end, read_has_no_fault}
-use Rattle.pure_parser.proofs.Stands.{Marked, lexemes, marks}
+use Rattle.grammar_parser_specs.specs.Parser.{Reply, Read}
+use Rattle.grammar_script_laws.proofs.Bracketed.{IsInner, AllInner}
+use Rattle.grammar_script_laws.proofs.Closed.{Closed, not_both}
+use Rattle.grammar_deferred_laws.proofs.ClosedParts.{script_matches}
+use Rattle.grammar_script_laws.proofs.FirstFaults.{fault_place, fault_kind}
+use Rattle.grammar_parser_laws.proofs.NestedTrees.{nested_stmts}
+use Rattle.grammar_script_laws.proofs.PartLaws.{nested_inner}
+use Rattle.grammar_script_laws.proofs.Partnered.{inner-or_not}
+use Rattle.grammar_script_laws.proofs.ScriptLaws.{ScriptOf, script_decides, script_read, last_only, inner_no_end, read_has_no_fault}
+use Rattle.grammar_parser_laws.proofs.Stands.{Marked, lexemes, marks}
 use Rattle.parse_bodies.specs.Whole.{IsText}
-use Rattle.command_answer.specs.Sources.{start_of}
+use Rattle.session_specs.specs.Sources.{start_of}
 use Rattle.compile_session.specs.Faulty.{IsFaulty}
 
 abbrev as_script : (ts : List Lexeme) (items : Stmts) → IsText ts items → ScriptOf ts items
@@ -45,7 +45,7 @@ as_long (x ∷ xs) = ap suc (as_long xs)
 deep_long : (w : List Lexeme) (deep : List ℕ) → ScriptPart whole 0 w deep → length deep ≡ length w
 deep_long w deep p = let c = script_decides.reads w deep p in ap length (sym c.depths_are) ∙ as_long c.marked ∙ ap length c.lexemes_are
 
--- no token behind these is deep
+-- no token after these is deep
 never_deep : (ts inner : List Lexeme) (last : Lexeme) (k : ℕ) → ts ≡ inner ++ last ∷ [] → AllInner inner → (IsInner last.kind → Closed ts) → length ts ≤ k → BeginsDeep (ScriptPart whole 0) ts k → ⊥
 never_deep ts inner last k split all closed beyond b = elim (inner-or_not last.kind) [
   | inl is ↦

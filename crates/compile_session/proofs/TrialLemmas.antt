@@ -9,13 +9,13 @@ use Rattle.bytecode_buf.specs.Command.{Command, Listed}
 use Rattle.script_image.specs.Listed.{ShowsListed}
 use Rattle.script_image.specs.ScriptLines.{instruction_count, listed_merged}
 use Rattle.script_image.proofs.Stands.{commands_as_listed}
-use Rattle.generated_texts.specs.Generated.{generated}
-use Rattle.lazy_compile.specs.Shown.{IsShown}
-use Rattle.command_words.specs.Asked as asked
-use Rattle.command_answer.specs.Answer.{counts_text, numbers_text, to_show}
-use Rattle.command_answer.specs.Refusals.{Refusal}
-use Rattle.command_answer.specs.Sources.{HasAll, IsSource, IsScript, IsRefused, Source}
-use Rattle.eager_compile.specs.Compiles as eager
+use Rattle.session_trial.specs.Generated.{generated}
+use Rattle.compile_specs.specs.Shown.{IsShown}
+use Rattle.session_words.specs.Asked as asked
+use Rattle.session_specs.specs.Answer.{counts_text, numbers_text, to_show}
+use Rattle.session_specs.specs.Refusals.{Refusal}
+use Rattle.session_specs.specs.Sources.{HasAll, IsSource, IsScript, IsRefused, Source}
+use Rattle.compile_eager.specs.Compiles as eager
 use Rattle.compile_session.specs.Files.{SettlesWork}
 use Rattle.compile_session.proofs.SourceLemmas.{same_valid, one_shown, sources_equal}
 
@@ -26,7 +26,7 @@ not_refused file items count why has refused = unlike (sources_equal asked.All f
     unlike : ◌≡◌ {A = Source} (IsScript items count) (IsRefused why) → ⊥
     unlike e = cc
 
--- four parts that were appended, one behind another
+-- four parts that were appended, one after another
 pub appended_four : (out a b c d x y z w : List ℕ) → x ≡ out ++ a → y ≡ x ++ b → z ≡ y ++ c → w ≡ z ++ d → w ≡ out ++ (((a ++ b) ++ c) ++ d)
 appended_four out a b c d x y z w first second third fourth =
     fourth ∙ ap (λ (l : List ℕ). l ++ d) (third ∙ ap (λ (l : List ℕ). l ++ c) (second ∙ ap (λ (l : List ℕ). l ++ b) first ∙ append_assoc out a b) ∙ append_assoc out (a ++ b) c)

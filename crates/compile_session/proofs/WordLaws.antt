@@ -2,11 +2,11 @@
 use Rattle.std.proofs.Common.{◌≡◌, ℕ, ◌≤◌, Bool, true, false, List, [], ◌∷◌, length, Option, Some, None, refl, subst, arith}
 use Rattle.std.specs.Prelude.{nat_le, ◌&&◌, option_map, option_and_then, if◌then◌else◌, codes, bytes_eq}
 use Rattle.std.proofs.lemmas.Bool.{leb-true}
-use Rattle.command_words.specs.declared.options.Command.{Command}
-use Rattle.command_words.specs.declared.options.Command.TheVariants as command
-use Rattle.command_words.specs.Asked.{Job, Asked, Files, Trial, Churn}
-use Rattle.command_words.specs.Numbers.{number_in, is_number, value}
-use Rattle.command_words.specs.Words.{Given, nothing_given, Taken, once, workers_of, want_of, order_of, with_want, with_workers, with_order, with_option, is_option, take_options, all_file_names, or_else, job_of, with_names, files_form, Generated, generated_of, text_form, form_of, asked_of}
+use Rattle.session_words.specs.declared.options.Command.{Command}
+use Rattle.session_words.specs.declared.options.Command.TheVariants as command
+use Rattle.session_words.specs.Asked.{Job, Asked, Files, Trial, Churn}
+use Rattle.session_words.specs.Numbers.{number_in, is_number, value}
+use Rattle.session_words.specs.Words.{Given, nothing_given, Taken, once, workers_of, want_of, order_of, with_want, with_workers, with_order, with_option, is_option, take_options, all_file_names, or_else, job_of, with_names, files_form, Generated, generated_of, text_form, form_of, asked_of}
 
 -- at most 64 files, and from one to 16 workers
 pub record Bounded (j : Job) : Type 0 where

@@ -3,12 +3,12 @@ use Rattle.std.proofs.Common.{◌≡◌, ℕ, ◌≤◌, true, List, length, Opt
 use Rattle.std.specs.String.{string_bytes}
 use Rattle.std.specs.declared.alloc.Global.{Global}
 use Rattle.std.proofs.lemmas.List.{length-map}
-use Rattle.command_words.specs.declared.options.FileJob.{FileJob}
-use Rattle.command_words.specs.declared.options.Options.{Options}
-use Rattle.command_words.specs.declared.options.Options.TheVariants as options
-use Rattle.command_words.specs.Asked.{Asked, Files, Trial, Churn, asked, job}
-use Rattle.command_words.specs.Words.{asked_of}
-use Rattle.generated_scripts.proofs.Commands.{trial_is_few, churn_is_few}
+use Rattle.session_words.specs.declared.options.FileJob.{FileJob}
+use Rattle.session_words.specs.declared.options.Options.{Options}
+use Rattle.session_words.specs.declared.options.Options.TheVariants as options
+use Rattle.session_words.specs.Asked.{Asked, Files, Trial, Churn, asked, job}
+use Rattle.session_words.specs.Words.{asked_of}
+use Rattle.session_trial_laws.proofs.Commands.{trial_is_few, churn_is_few}
 use Rattle.compile_session.specs.declared.answer.FileAnswer.{FileAnswer}
 use Rattle.compile_session.specs.Built.{is_built, is_built_work}
 use Rattle.compile_session.specs.Files.{AnswersAll, AnswersWork, IsBounded, SettlesWork}

@@ -5,9 +5,9 @@ use Rattle.std.specs.String.{string_bytes}
 use Rattle.std.specs.declared.alloc.Global.{Global}
 use Rattle.std.proofs.lemmas.Option.{slice_get_within}
 use Rattle.helper_tasks.specs.Jobs.{GivesEach}
-use Rattle.outside.specs.Loops.{HasAtMost, HaveAtMost}
-use Rattle.command_words.specs.declared.options.FileJob.{FileJob}
-use Rattle.command_words.specs.Asked.{job}
+use Rattle.session_outside.specs.Loops.{HasAtMost, HaveAtMost}
+use Rattle.session_words.specs.declared.options.FileJob.{FileJob}
+use Rattle.session_words.specs.Asked.{job}
 use Rattle.compile_session.specs.declared.answer.FileAnswer.{FileAnswer}
 use Rattle.compile_session.specs.Answers.{SettlesRead}
 use Rattle.compile_session.specs.Workers.{SettlesFile, SettleFiles}

@@ -4,17 +4,17 @@ use Rattle.std.specs.declared.alloc.Global.{Global}
 use Rattle.script_grammar.specs.declared.tree.Stmt.{Stmt}
 use Rattle.script_grammar.specs.Tree.{Stmts}
 use Rattle.script_scanner.specs.Lexemes.{lexemes}
-use Rattle.outside.specs.Loops.{IsWholeBehind}
+use Rattle.session_outside.specs.Loops.{IsWholeBehind}
 use Rattle.parse_bodies.specs.declared.whole.Script.{Script}
 use Rattle.parse_bodies.specs.Whole.{IsText}
-use Rattle.script_errors.specs.Kept.{AreKept}
-use Rattle.command_words.specs.declared.options.Command.{Command}
-use Rattle.command_words.specs.Asked.{Wanted, Job}
-use Rattle.command_answer.specs.Answer as answer
-use Rattle.command_answer.specs.Answer.{IsOfFile, most_bytes}
-use Rattle.command_answer.specs.Refusals as line
-use Rattle.command_answer.specs.Sources.{IsSource, IsRefused, HasAll, IsLeastOf, missing}
-use Rattle.eager_compile.specs.Compiles.{IsOf}
+use Rattle.early_errors.specs.Kept.{AreKept}
+use Rattle.session_words.specs.declared.options.Command.{Command}
+use Rattle.session_words.specs.Asked.{Wanted, Job}
+use Rattle.session_specs.specs.Answer as answer
+use Rattle.session_specs.specs.Answer.{IsOfFile, most_bytes}
+use Rattle.session_specs.specs.Refusals as line
+use Rattle.session_specs.specs.Sources.{IsSource, IsRefused, HasAll, IsLeastOf, missing}
+use Rattle.compile_eager.specs.Compiles.{IsOf}
 use Rattle.compile_session.specs.declared.answer.FileAnswer.{FileAnswer}
 use Rattle.compile_session.specs.declared.source.SourceScript.{SourceScript}
 use Rattle.compile_session.specs.declared.source.SourceText.{SourceText}
@@ -73,6 +73,6 @@ pub record Settles (job : Job) (before : ℕ) (name file : List ℕ) (text : Lis
   pub is : IsOfFile job.command job.want before name file text refused
   pub only : (other : List ℕ) (other_refused : Bool) → IsOfFile job.command job.want before name file other other_refused → (other ≡ text) × (other_refused ≡ refused)
 
--- the same of whatever file was read so, behind so many bytes of others
+-- the same of whatever file was read so, after so many bytes of others
 abbrev pub SettlesRead : Job → List ℕ → Option (Vec ℕ Global) → FileAnswer → Type 0
 SettlesRead job name read answer = (before : ℕ) (file : List ℕ) → IsWholeBehind most_bytes before file read → Settles job before name file answer.text.items answer.refused

@@ -1,10 +1,10 @@
--- Which commands are built so far: all but `save` and `churn`, with any options. What words ask for is command_words' `asked_of`.
+-- Which commands are built so far: all but `save` and `churn`, with any options. What words ask for is session_words' `asked_of`.
 use Rattle.std.specs.Prelude.{◌≡◌, ℕ, Bool, true, false, if◌then◌else◌, List, [], Option, Some, None, Result, Ok, Err}
-use Rattle.command_words.specs.declared.options.Command.{Command}
-use Rattle.command_words.specs.declared.options.Command.TheVariants as command
-use Rattle.command_words.specs.declared.options.Options.{Options}
-use Rattle.command_words.specs.Asked.{Asked, Files, Trial, Churn, asked}
-use Rattle.command_words.specs.Words.{asked_of}
+use Rattle.session_words.specs.declared.options.Command.{Command}
+use Rattle.session_words.specs.declared.options.Command.TheVariants as command
+use Rattle.session_words.specs.declared.options.Options.{Options}
+use Rattle.session_words.specs.Asked.{Asked, Files, Trial, Churn, asked}
+use Rattle.session_words.specs.Words.{asked_of}
 use Rattle.compile_session.specs.declared.status.Status.{Status}
 use Rattle.compile_session.specs.declared.status.Status.TheVariants as status
 

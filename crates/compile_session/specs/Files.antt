@@ -1,9 +1,9 @@
 -- How a command ends, and what it answers for all its files.
 use Rattle.std.specs.Prelude.{◌≡◌, ℕ, ◌+◌, ◌≤◌, nat_le, Bool, true, false, if◌then◌else◌, List, [], ◌∷◌, length, Vec, Option}
 use Rattle.std.specs.declared.alloc.Global.{Global}
-use Rattle.outside.specs.Loops.{AreWholeBehind}
-use Rattle.command_words.specs.Asked.{Job, Asked, Files, Trial, Churn}
-use Rattle.command_answer.specs.Answer.{IsAnswerTo, IsOfFiles, most_bytes}
+use Rattle.session_outside.specs.Loops.{AreWholeBehind}
+use Rattle.session_words.specs.Asked.{Job, Asked, Files, Trial, Churn}
+use Rattle.session_specs.specs.Answer.{IsAnswerTo, IsOfFiles, most_bytes}
 use Rattle.compile_session.specs.declared.answer.FileAnswer.{FileAnswer}
 use Rattle.compile_session.specs.Built.{files_of}
 use Rattle.compile_session.specs.declared.status.Status.{Status}
@@ -31,7 +31,7 @@ IsBefore status.ReadFault = Unit {0}
 IsBefore status.WriteFault = ⊥
 IsBefore status.NoMemory = ⊥
 
--- The text and whether a file is refused are the answer for these files, behind so many bytes of others, and there is no other.
+-- The text and whether a file is refused are the answer for these files, after so many bytes of others, and there is no other.
 pub record SettlesAll (job : Job) (held : List ℕ → List ℕ) (before : ℕ) (names : List (List ℕ)) (text : List ℕ) (refused : Bool) : Type 0 where
   pub is : IsOfFiles job.command job.want held before names text refused
   pub only : (other : List ℕ) (other_refused : Bool) → IsOfFiles job.command job.want held before names other other_refused → (other ≡ text) × (other_refused ≡ refused)
@@ -55,7 +55,7 @@ IsBounded (Files j) = (length j.files ≤ 64) × (1 ≤ j.workers) × (j.workers
 IsBounded (Trial number size workers) = size ≤ 100000
 IsBounded (Churn number size workers) = size ≤ 100000
 
--- of the files of these names, behind so many bytes of others, those that are opened: up to and including the first with which
+-- of the files of these names, after so many bytes of others, those that are opened: up to and including the first with which
 -- the files are more than 16,777,215 bytes, all where there is no such
 abbrev pub opened_of : (List ℕ → List ℕ) → ℕ → List (List ℕ) → List (List ℕ)
 opened_of held before [] = []

@@ -2,8 +2,8 @@
 use Rattle.std.specs.Prelude.{ℕ, List, Bool, true, false}
 use Rattle.stencil_data.specs.Named.{NamedMerged}
 use Rattle.bytecode_buf.specs.Command.{Listed}
-use Rattle.command_words.specs.declared.options.Command.{Command}
-use Rattle.command_words.specs.declared.options.Command.TheVariants as command
+use Rattle.session_words.specs.declared.options.Command.{Command}
+use Rattle.session_words.specs.declared.options.Command.TheVariants as command
 use Rattle.script_image.specs.ScriptLines.{code_text, scope_text}
 
 abbrev pub is_listed : Command → Bool

@@ -11,7 +11,7 @@ use Rattle.parse_exprs.specs.declared.place.ParseFault.{ParseFault}
 use Rattle.parse_exprs.specs.declared.place.ParseFault.TheVariants as faults
 use Rattle.parse_bodies.specs.declared.whole.Script.{Script}
 use Rattle.parse_bodies.specs.Whole.{IsText}
-use Rattle.script_errors.specs.Kept.{IsKept}
+use Rattle.early_errors.specs.Kept.{IsKept}
 
 -- The kept trees stand for the tree of the script that the tokens are and for its braced bodies, where the body of a function
 -- has the statements that the interpretation gives to it.

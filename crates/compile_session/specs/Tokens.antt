@@ -3,10 +3,10 @@ use Rattle.std.specs.Prelude.{List, map, length, ◌<◌, ◌^◌}
 use Rattle.script_grammar.specs.Lexeme.{Lexeme, lexeme_of}
 use Rattle.parser_atoms.specs.Places.{AreWithoutEquals}
 use Rattle.script_scanner.specs.Stands.{HasOneLast}
-use Rattle.function_starts.specs.Own.{TokensRise}
-use Rattle.renamed_names.specs.Texts.{NamesAreFull}
+use Rattle.grammar_start_laws.specs.Own.{TokensRise}
+use Rattle.script_grammar.specs.NameTokens.{NamesAreFull}
 use Rattle.parse_exprs.specs.Source.{IsScanned}
-use Rattle.known_words.specs.Known.{HasWords}
+use Rattle.track_atoms.specs.Known.{HasWords}
 use Rattle.compile_session.specs.declared.file_tokens.FileTokens.{FileTokens}
 
 abbrev pub tokens_in : FileTokens → List Lexeme

@@ -1,10 +1,10 @@
 -- The files of a command, each answered by itself: by which worker, and after which others, is of no matter.
 use Rattle.std.specs.Prelude.{◌≡◌, ℕ, ◌≤◌, true, List, length, Option, Some, Vec, slice_get}
 use Rattle.std.specs.declared.alloc.Global.{Global}
-use Rattle.outside.specs.Loops.{HaveAtMost}
-use Rattle.command_words.specs.declared.options.FileJob.{FileJob}
-use Rattle.command_words.specs.Asked.{Job}
-use Rattle.command_answer.specs.Answer.{most_bytes}
+use Rattle.session_outside.specs.Loops.{HaveAtMost}
+use Rattle.session_words.specs.declared.options.FileJob.{FileJob}
+use Rattle.session_words.specs.Asked.{Job}
+use Rattle.session_specs.specs.Answer.{most_bytes}
 use Rattle.compile_session.specs.declared.answer.FileAnswer.{FileAnswer}
 use Rattle.compile_session.specs.Answers.{SettlesRead}
 use Rattle.compile_session.specs.Built.{is_built}

@@ -1,7 +1,7 @@
 //! What is printed for files, and whether one of them is refused.
 
 ghost use Rattle.std.specs.Prelude.{◌≡◌, true, IfOk};
-ghost use Rattle.command_answer.specs.Refusals.{refusal_line};
+ghost use Rattle.session_specs.specs.Refusals.{refusal_line};
 ghost use Rattle.compile_session.specs.Answers.{refusal_of};
 
 use crate::lines::refusal_text;

@@ -2,9 +2,9 @@
 
 ghost use Rattle.std.specs.Prelude.{◌≡◌, ◌≢◌, ℕ, ◌-◌, ◌^◌, ◌<◌, ◌≤◌, ◌++◌, ◌⊎◌, Bool, List, Some, None, map};
 ghost use Rattle.std.specs.String.{string_bytes};
-ghost use Rattle.outside.specs.Shelf.{TurnsToFront};
-ghost use Rattle.outside.specs.Sink.{Gains, GainsFront};
-ghost use Rattle.command_answer.specs.Answer.{IsAnswer};
+ghost use Rattle.session_outside.specs.Shelf.{TurnsToFront};
+ghost use Rattle.session_outside.specs.Sink.{Gains, GainsFront};
+ghost use Rattle.session_specs.specs.Answer.{IsAnswer};
 ghost use Rattle.compile_session.specs.Built.{built_of, names_of};
 ghost use Rattle.compile_session.specs.Files.{IsBefore, IsWhole, opened_of, status_of};
 
@@ -12,7 +12,7 @@ use crate::file::MOST_BYTES;
 use crate::status::Status;
 use crate::work::{answer_to, files_of, work_of};
 use helper_tasks::Gate;
-use outside::{Shelf, ShelfRefusal, Sink, SinkRefusal, Tally, read_files, write_bytes};
+use session_outside::{Shelf, ShelfRefusal, Sink, SinkRefusal, Tally, read_files, write_bytes};
 use std::alloc::Global;
 use std::sync::Wait;
 use std::thread::Threads;

@@ -1,9 +1,9 @@
 //! What is printed for one file.
 
 ghost use Rattle.std.specs.Prelude.{◌≡◌, true, IfOk};
-ghost use Rattle.outside.specs.Loops.{HasAtMost};
-ghost use Rattle.command_answer.specs.Answer.{most_bytes};
-ghost use Rattle.command_words.specs.Asked as asked;
+ghost use Rattle.session_outside.specs.Loops.{HasAtMost};
+ghost use Rattle.session_specs.specs.Answer.{most_bytes};
+ghost use Rattle.session_words.specs.Asked as asked;
 ghost use Rattle.compile_session.specs.Built.{is_built};
 ghost use Rattle.compile_session.specs.Answers.{SettlesRead};
 
@@ -11,7 +11,7 @@ use crate::answer::{FileAnswer, refused};
 use crate::image::{load_answer, verify_answer};
 use crate::printing::source_answer;
 use crate::refusal::Refusal;
-use command_words::{Command, FileJob};
+use session_words::{Command, FileJob};
 use std::alloc::{AllocError, Global};
 
 /// The most bytes that the files of a command may have together.

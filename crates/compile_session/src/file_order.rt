@@ -3,7 +3,7 @@
 ghost use Rattle.std.specs.Prelude.{◌≤◌, ℕ, length, IfOk};
 ghost use Rattle.helper_tasks.specs.Jobs.{IsOrderOf};
 
-use command_words::Order;
+use session_words::Order;
 use std::alloc::{AllocError, Global};
 use std::cmp::Reverse;
 

@@ -6,13 +6,13 @@ ghost use Rattle.unit_text.specs.Faults.{IsFaultOf};
 ghost use Rattle.script_scanner.specs.Lexemes.{lexemes};
 ghost use Rattle.compile_session.specs.Tokens.{tokens_in, IsSound};
 
-use known_words::known_words;
 use parse_track::region::Known;
 use parser_atoms::Atoms;
 use script_grammar::token::Token;
 use script_scanner::scan;
 use std::alloc::Global;
 use stencil_data::Text;
+use track_atoms::known_words;
 use unit_text::{DecodeFault, decode};
 
 /// The tokens of a file, and the texts that their atoms index; `known` has the atoms of the known words.

@@ -1,21 +1,21 @@
 //! What is printed for all files of a command.
 
 ghost use Rattle.std.specs.Prelude.{◌≡◌, ◌≤◌, true, length, IfOk};
-ghost use Rattle.outside.specs.Loops.{HaveAtMost};
-ghost use Rattle.command_answer.specs.Answer.{most_bytes};
-ghost use Rattle.command_words.specs.Asked as asked;
+ghost use Rattle.session_outside.specs.Loops.{HaveAtMost};
+ghost use Rattle.session_specs.specs.Answer.{most_bytes};
+ghost use Rattle.session_words.specs.Asked as asked;
 ghost use Rattle.compile_session.specs.Built.{is_built};
 ghost use Rattle.compile_session.specs.Files.{AnswersAll};
 
 use crate::answer::FileAnswer;
 use crate::workers::file_answers;
-use command_words::FileJob;
 use helper_tasks::Gate;
+use session_words::FileJob;
 use std::alloc::{AllocError, Global};
 use std::sync::Wait;
 use std::thread::Threads;
 
-/// What is printed for the files of a command, one behind another, of which these bytes were read, and whether one of them is
+/// What is printed for the files of a command, one after another, of which these bytes were read, and whether one of them is
 /// refused. Workers answer the files, each by itself and in whatever order.
 pub(crate) fn answers_of<R: Threads + Wait + Sync, G: Gate>(
     rt: &R,

@@ -1,17 +1,17 @@
 //! What is printed for a file that is taken as an image.
 
 ghost use Rattle.std.specs.Prelude.{◌≡◌, IfOk};
-ghost use Rattle.command_answer.specs.Answer.{RefusedAs};
-ghost use Rattle.command_answer.specs.Refusals as line;
-ghost use Rattle.command_words.specs.Asked.{Wanted};
-ghost use Rattle.command_words.specs.declared.options.Command.TheVariants as command;
-ghost use Rattle.image_reader.specs.declared.fault.ImageFault.TheVariants.{NoImage};
+ghost use Rattle.session_specs.specs.Answer.{RefusedAs};
+ghost use Rattle.session_specs.specs.Refusals as line;
+ghost use Rattle.session_words.specs.Asked.{Wanted};
+ghost use Rattle.session_words.specs.declared.options.Command.TheVariants as command;
+ghost use Rattle.stencil_xdr_read.specs.declared.fault.ImageFault.TheVariants.{NoImage};
 ghost use Rattle.compile_session.specs.Answers.{IsAnswerFor};
 
 use crate::answer::{FileAnswer, refused};
 use crate::lines::file_text;
 use crate::refusal::Refusal;
-use image_commands::{ImageFault, append_listing, append_verdicts};
+use session_images::{ImageFault, append_listing, append_verdicts};
 use std::alloc::{AllocError, Global};
 
 /// The answer for a file of which no image was read, for this reason.

@@ -1,11 +1,11 @@
 //! One command of the program, from its words to the bytes that the sink takes.
 //!
-//! It stands on `command_words`, which reads the words of every command, on `outside`, which reads files and writes output, on
+//! It stands on `session_words`, which reads the words of every command, on `session_outside`, which reads files and writes output, on
 //! `helper_tasks`, by whose workers files are worked on side by side, on the text and the tokens of `unit_text` and
-//! `script_scanner`, on the parser of `parse_bodies`, by the handler of `parse_handlers` that keeps trees, on `script_errors`,
-//! which finds the early errors of kept trees, on `seated_bodies`, which puts bodies into their places, on `eager_compile`,
-//! which compiles a script with all its functions, and on `script_image`, which prints it; for images on `image_commands`, and
-//! for generated texts on `generated_texts`. Its answer is that of the definitions of `command_answer`. Only the program stands
+//! `script_scanner`, on the parser of `parse_bodies`, by the handler of `parse_handlers` that keeps trees, on `early_errors`,
+//! which finds the early errors of kept trees, on `parse_attach_bodies`, which puts bodies into their places, on `compile_eager`,
+//! which compiles a script with all its functions, and on `script_image`, which prints it; for images on `session_images`, and
+//! for generated texts on `session_trial`. Its answer is that of the definitions of `session_specs`. Only the program stands
 //! on it.
 //!
 //! `work` says what words ask for. `file_tokens`, `reading`, `source`, `listing` and `printing` are the steps of the way of one
@@ -35,10 +35,10 @@ mod work;
 mod workers;
 
 pub use command::run;
-pub use command_words::{Command, FileJob, Options, Order, Want, WordsFault, read_words};
 pub use helper_tasks::{Gate, MeetGate, OpenGate};
-pub use outside::{
+pub use session_outside::{
     FileShelf, FirmShelf, FirmSink, MapShelf, OutSink, Sheet, Shelf, ShelfRefusal, Sink,
     SinkRefusal, Tally, VecSink,
 };
+pub use session_words::{Command, FileJob, Options, Order, Want, WordsFault, read_words};
 pub use status::Status;

@@ -2,8 +2,8 @@
 
 ghost use Rattle.std.specs.Prelude.{◌≡◌, ◌++◌, codes, IfOk, OnOk};
 ghost use Rattle.std.specs.Fmt.{decimal};
-ghost use Rattle.command_answer.specs.Answer.{file_line};
-ghost use Rattle.command_answer.specs.Refusals.{at_offset, refusal_line};
+ghost use Rattle.session_specs.specs.Answer.{file_line};
+ghost use Rattle.session_specs.specs.Refusals.{at_offset, refusal_line};
 ghost use Rattle.compile_session.specs.Answers.{refusal_of};
 
 use crate::refusal::Refusal;

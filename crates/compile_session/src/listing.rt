@@ -5,18 +5,18 @@ ghost use Rattle.stencil_data.specs.Named.{NamedMerged};
 ghost use Rattle.stencil_data.specs.StandsFor.{MergedStandsFor};
 ghost use Rattle.bytecode_buf.specs.Command.{Listed};
 ghost use Rattle.script_image.specs.Listed.{ShowsListed};
-ghost use Rattle.command_answer.specs.Answer as answer;
-ghost use Rattle.eager_compile.specs.Numbers.{to_show};
-ghost use Rattle.command_words.specs.Asked as asked;
-ghost use Rattle.eager_compile.specs.Compiles.{Shows};
+ghost use Rattle.session_specs.specs.Answer as answer;
+ghost use Rattle.compile_eager.specs.Numbers.{to_show};
+ghost use Rattle.session_words.specs.Asked as asked;
+ghost use Rattle.compile_eager.specs.Compiles.{Shows};
 ghost use Rattle.compile_session.specs.Answers.{IsMissing, IsScriptOf};
 ghost use Rattle.compile_session.specs.Listed.{listed_text};
 
 use crate::lines::file_text;
 use crate::source::SourceScript;
-use command_words::{Command, Want};
-use eager_compile::{Wanted, compile_script, merged};
+use compile_eager::{Wanted, compile_script, merged};
 use script_image::{code_text, scope_text};
+use session_words::{Command, Want};
 use std::alloc::{AllocError, Global};
 use stencil_data::MergedStencil;
 
@@ -108,7 +108,7 @@ pub(crate) fn stencil_of(
     Ok(shown)
 }
 
-/// What a command lists of a stencil, behind the line of the file.
+/// What a command lists of a stencil, after the line of the file.
 pub(crate) fn listing_of(
     alloc: Global,
     command: Command,

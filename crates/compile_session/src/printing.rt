@@ -1,8 +1,8 @@
 //! What is printed for a file of source text.
 
 ghost use Rattle.std.specs.Prelude.{◌≡◌, ◌≤◌, true, List, ℕ, length, IfOk};
-ghost use Rattle.command_answer.specs.Answer.{IsWritten, most_bytes};
-ghost use Rattle.command_words.specs.Asked as asked;
+ghost use Rattle.session_specs.specs.Answer.{IsWritten, most_bytes};
+ghost use Rattle.session_words.specs.Asked as asked;
 ghost use Rattle.compile_session.specs.Built.{is_source};
 ghost use Rattle.compile_session.specs.Answers.{IsAnswerFor, IsScriptOf};
 
@@ -10,7 +10,7 @@ use crate::answer::{FileAnswer, refused};
 use crate::lines::fine_text;
 use crate::listing::{listing_of, stencil_of};
 use crate::source::{SourceScript, SourceText, read_source};
-use command_words::{Command, FileJob};
+use session_words::{Command, FileJob};
 use std::alloc::{AllocError, Global};
 
 /// What is printed for a script without errors.

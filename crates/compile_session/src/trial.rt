@@ -3,10 +3,10 @@
 ghost use Rattle.std.specs.Prelude.{◌≡◌, ◌≤◌, ◌++◌, ℕ, List, codes, length, IfOk, OnOk};
 ghost use Rattle.std.specs.Fmt.{decimal};
 ghost use Rattle.script_grammar.specs.Tree.{Stmts};
-ghost use Rattle.command_answer.specs.Answer as answer;
-ghost use Rattle.command_answer.specs.Answer.{most_bytes};
-ghost use Rattle.command_answer.specs.Sources.{HasAll};
-ghost use Rattle.command_words.specs.Asked as asked;
+ghost use Rattle.session_specs.specs.Answer as answer;
+ghost use Rattle.session_specs.specs.Answer.{most_bytes};
+ghost use Rattle.session_specs.specs.Sources.{HasAll};
+ghost use Rattle.session_words.specs.Asked as asked;
 ghost use Rattle.compile_session.specs.Answers.{IsScriptOf};
 ghost use Rattle.compile_session.specs.Files.{SettlesWork};
 
@@ -14,9 +14,9 @@ use crate::answer::FileAnswer;
 use crate::lines::append_decimal;
 use crate::listing::stencil_of;
 use crate::source::{SourceScript, SourceText, read_source};
-use command_words::Want;
-use generated_texts::generated_text;
 use script_image::instructions;
+use session_trial::generated_text;
+use session_words::Want;
 use std::alloc::{AllocError, Global};
 
 /// Appends what is printed before the counts: the number and the size that the text was generated from.

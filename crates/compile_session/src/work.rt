@@ -2,9 +2,9 @@
 
 ghost use Rattle.std.specs.Prelude.{◌≡◌, true, map, IfOk};
 ghost use Rattle.std.specs.String.{string_bytes};
-ghost use Rattle.outside.specs.Loops.{HaveAtMost};
-ghost use Rattle.command_answer.specs.Answer.{most_bytes};
-ghost use Rattle.command_words.specs.Asked.{asked};
+ghost use Rattle.session_outside.specs.Loops.{HaveAtMost};
+ghost use Rattle.session_specs.specs.Answer.{most_bytes};
+ghost use Rattle.session_words.specs.Asked.{asked};
 ghost use Rattle.compile_session.specs.Built as definition;
 ghost use Rattle.compile_session.specs.Built.{IsWorkOf, is_built_work};
 ghost use Rattle.compile_session.specs.Files.{AnswersWork, IsBounded};
@@ -13,8 +13,8 @@ use crate::answer::FileAnswer;
 use crate::files::answers_of;
 use crate::status::Status;
 use crate::trial::trial_answer;
-use command_words::{Command, Options, WordsFault, read_words};
 use helper_tasks::Gate;
+use session_words::{Command, Options, WordsFault, read_words};
 use std::alloc::{AllocError, Global};
 use std::sync::Wait;
 use std::thread::Threads;

@@ -1,17 +1,17 @@
 //! The files of a command, each answered by one of several workers.
 
 ghost use Rattle.std.specs.Prelude.{◌≡◌, ℕ, ◌≤◌, ◌<◌, ◌^◌, true, length, IfOk};
-ghost use Rattle.outside.specs.Loops.{HaveAtMost};
-ghost use Rattle.command_answer.specs.Answer.{most_bytes};
-ghost use Rattle.command_words.specs.Asked as asked;
+ghost use Rattle.session_outside.specs.Loops.{HaveAtMost};
+ghost use Rattle.session_specs.specs.Answer.{most_bytes};
+ghost use Rattle.session_words.specs.Asked as asked;
 ghost use Rattle.compile_session.specs.Built.{is_built};
 ghost use Rattle.compile_session.specs.Workers.{CanBeAnswered, SettlesFile, SettleFiles};
 
 use crate::answer::FileAnswer;
 use crate::file::answer_of;
 use crate::file_order::file_order;
-use command_words::FileJob;
 use helper_tasks::{Gate, Job, run_tasks};
+use session_words::FileJob;
 use std::alloc::{AllocError, Global};
 use std::sync::Wait;
 use std::thread::Threads;
@@ -31,7 +31,7 @@ struct Worker {
 }
 
 impl<'a> Job for FileTasks<'a> {
-    ghost use Rattle.command_words.specs.Asked as asked;
+    ghost use Rattle.session_words.specs.Asked as asked;
     ghost use Rattle.compile_session.specs.Workers.{CanBeAnswered, SettlesFile};
 
     type Out = FileAnswer;

@@ -198,7 +198,7 @@ pub second_room : {s : Site} {start a b c d e f : List ℕ} {w0 w1 w2 e0 e1 : Li
     → e0 ≡ [] → LandsHere aim.Otherwise d w2 e0 e e1 → ExprEmits s e f Plainly second → AllRoom (length f) e1
 second_room x none j y k no_ends lands z = appends_room refl (second_appends x none j y k no_ends lands z [])
 
--- no jump waits behind a conditional
+-- no jump waits after a conditional
 kept_none : (p q : ℕ) (w0 w1 w2 e0 e1 o0 o1 : List Wait) → w0 ≡ [] → e0 ≡ [] → o0 ≡ [] → w1 ≡ w0 ++ record { at = p; aim = aim.Otherwise } ∷ [] → w2 ≡ w1 ++ record { at = q; aim = aim.After } ∷ [] → e1 ≡ e0 ++ kept aim.Otherwise w2 → o1 ≡ o0 ++ kept aim.After e1 → o1 ≡ []
 kept_none p q w0 w1 w2 e0 e1 o0 o1 n0 n1 n2 m1 m2 m3 m4 =
     m4 ∙ (ap₂ (λ (o : List Wait) (e : List Wait). o ++ kept aim.After e) n2 (m3 ∙ ap₂ (λ (e : List Wait) (w : List Wait). e ++ kept aim.Otherwise w) n1 (m2 ∙ ap (λ (w : List Wait). w ++ record { at = q; aim = aim.After } ∷ []) (m1 ∙ ap (λ (w : List Wait). w ++ record { at = p; aim = aim.Otherwise } ∷ []) n0))))

@@ -1,4 +1,4 @@
--- What stands behind the values of properties.
+-- What stands after the values of properties.
 use Rattle.std.proofs.Common.{◌≡◌, ℕ, List, Bool, true, false, if◌then◌else◌, sym, ap}
 use Rattle.script_grammar.specs.Tree.{Stmts}
 use Rattle.script_grammar.specs.TreeOf.{key_of}

@@ -1,4 +1,4 @@
--- Single instructions by what stands behind their opcode.
+-- Single instructions by what stands after their opcode.
 use Rattle.std.proofs.Common.{◌≡◌, ℕ, ◌^◌, ◌<◌, true, false, List, [], ◌∷◌, ◌++◌, slice_index_or, refl, sym, ◌∙◌, ap, subst, true≢false, lit<}
 use Rattle.bytecode_buf.specs.declared.opcode.Op.{Op}
 use Rattle.bytecode_buf.specs.declared.opcode.Shape.{Shape}
@@ -65,7 +65,7 @@ pub whole-append : (xs ys : List Command) → whole (xs ++ ys) ≡ whole xs ++ w
 whole-append [] ys = refl
 whole-append (x ∷ xs) ys = ap (λ (l : Code). Whole x ∷ l) (whole-append xs ys)
 
--- a command behind a check
+-- a command after a check
 pub emits_after_check : (texts : List (List ℕ)) (old read popped new : List ℕ) (checked_read : List Command) (last : Command) → Emits texts old read (whole checked_read) → Emits texts read popped (one (plain op.Pop)) → Emits texts popped new (one last) → Emits texts old new (whole (after_check checked_read last))
 emits_after_check texts old read popped new checked_read last x y z =
     subst (λ (code : Code). Emits texts old new code) (sym (whole-append checked_read (plain op.Pop ∷ last ∷ []))) (emits_both x (emits_both y z))

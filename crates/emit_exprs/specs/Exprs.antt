@@ -77,21 +77,21 @@ text_behind (unit ∷ units) = whole (named op.String (unit ∷ units) ∷ plain
 
 -- ---- what is done with a value, or with the place that it came from
 
--- behind a value that is no property
+-- after a value that is no property
 abbrev pub used_value : Use → Code
 used_value Plainly = []
 used_value Called = just op.Undefined
 used_value Reached = []
 used_value Deleted = whole (plain op.Pop ∷ plain op.True ∷ [])
 
--- behind an object, at one of its properties
+-- after an object, at one of its properties
 abbrev pub used_dot : Use → List ℕ → Code
 used_dot Plainly name = one (named op.GetProp name)
 used_dot Called name = whole (plain op.Dup ∷ named op.GetProp name ∷ plain op.Swap ∷ [])
 used_dot Reached name = []
 used_dot Deleted name = one (named op.StrictDelProp name)
 
--- behind an object, before the key of one of its properties and behind it
+-- after an object, before the key of one of its properties and after it
 abbrev pub before_index : Use → Code
 before_index Plainly = []
 before_index Called = just op.Dup
@@ -174,7 +174,7 @@ updating scene true sign target = loading scene target ++ whole (plain op.ToNume
 updating scene false sign target =
     loading scene target ++ whole (plain op.ToNumeric ∷ plain op.Dup ∷ []) ++ keeping (reach_size scene target) ++ just (update_op sign) ++ storing scene target ++ just op.Pop
 
--- `=` and assignments with an operator, on a place that was reached: before the value, and behind it
+-- `=` and assignments with an operator, on a place that was reached: before the value, and after it
 abbrev pub before_value : Scene → ℕ → Target → Code
 before_value scene sign target = if nat_eq sign mark.ASSIGN then [] else loading scene target
 
@@ -217,7 +217,7 @@ abbrev pub list_joining : Operands → Joining
 list_joining no_operands = FromLeft
 list_joining (more_operands sign is_word value rest) = joining is_word sign
 
--- the operators of a list of `**`, behind all operands
+-- the operators of a list of `**`, after all operands
 abbrev pub powers : Operands → Code
 powers no_operands = []
 powers (more_operands sign is_word value rest) = just op.Pow ++ powers rest
@@ -227,7 +227,7 @@ joined FromLeft rest code = code
 joined FromRight rest code = code ++ powers rest
 joined (Shortcut jump) rest code = here aim.After code
 
--- before an operand, and behind it
+-- before an operand, and after it
 abbrev pub before_operand : Joining → Code
 before_operand FromLeft = []
 before_operand FromRight = []

@@ -1,4 +1,4 @@
--- The code of a property by what stands before its value and behind it.
+-- The code of a property by what stands before its value and after it.
 use Rattle.std.specs.Prelude.{[], ◌++◌, if◌then◌else◌}
 use Rattle.script_grammar.specs.Tree.{Key, WordKey, StrKey, NumberKey, ComputedKey}
 use Rattle.bytecode_buf.specs.declared.opcode.Op.TheVariants as op
@@ -21,6 +21,6 @@ closing how (StrKey name) = define_named how name.text
 closing how (NumberKey at number) = define_computed how
 closing how (ComputedKey e) = define_computed how
 
--- behind the value of a pair
+-- after the value of a pair
 abbrev pub closing_pair : Key → Code
 closing_pair key = if is_proto key then just op.MutateProto else closing Value key

@@ -43,7 +43,7 @@ pub record Ends (s : Site) (bytes : List ℕ) (waits : List Wait) (new : List �
 pub record Joins (s : Site) (how : Joining) (rest : List Operand) (bytes : List ℕ) (waits : List Wait) (new : List ℕ) : Type 0 where
   pub under : (i : Interpretation) → WaitsOf how waits → (start : List ℕ) (code : Code) → ((notes : List TryNote) → Appends s.texts.now (emitted start [] notes) (emitted bytes waits notes) code) → EmitsAt s start new (joined how (operands_of (map (operand_of i) rest)) code)
 
--- the operands behind the first
+-- the operands after the first
 pub record OperandsEmit (s : Site) (how : Joining) (bytes : List ℕ) (waits : List Wait) (new : List ℕ) (waits_new : List Wait) (rest : List Operand) : Type 0 where
   pub written : Code
   pub appends : (notes : List TryNote) → Appends s.texts.now (emitted bytes waits notes) (emitted new waits_new notes) written

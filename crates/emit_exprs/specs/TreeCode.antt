@@ -77,7 +77,7 @@ pub record PropEmits (s : Site) (old new : List ℕ) (p : Prop) : Type 0 where
 pub record KeyEmits (s : Site) (old new : List ℕ) (key : Key) : Type 0 where
   pub code : Written s old new (λ bodies. KeyFits (key_of (at_site s bodies) key)) (λ bodies. opening (scene_of s) (key_of (at_site s bodies) key))
 
--- what stands behind the value of such a property, and behind that of a pair
+-- what stands after the value of such a property, and after that of a pair
 pub record Closes (s : Site) (old new : List ℕ) (how : Defines) (key : Key) : Type 0 where
   pub code : Written s old new (λ bodies. Unit {0}) (λ bodies. closing how (key_of (at_site s bodies) key))
 

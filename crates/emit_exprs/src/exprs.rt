@@ -334,7 +334,7 @@ fn emit_update(
     Ok(())
 }
 
-// The operands of a binary list behind the first; the jumps over them wait for what follows.
+// The operands of a binary list after the first; the jumps over them wait for what follows.
 #[cycle(exprs)]
 fn emit_operands(
     out: &mut CodeBuf,

@@ -1,4 +1,4 @@
-// Properties of an object literal: what stands before and behind their values.
+// Properties of an object literal: what stands before and after their values.
 ghost use Rattle.std.specs.Prelude.{◌≡◌, ℕ, List, OnOk, slice_index_or, [], bytes_eq};
 ghost use Rattle.script_grammar.specs.Tree.{Stmts};
 ghost use Rattle.script_grammar.specs.TreeOf.{key_of};
@@ -44,7 +44,7 @@ fn define_computed(out: &mut CodeBuf, how: Defines) -> Result<(), AllocError>
     }
 }
 
-/// What defines a property with this key, behind its value.
+/// What defines a property with this key, after its value.
 #[tactic(auto, using(crate::proofs::Keys::closes_word, crate::proofs::Keys::closes_str, crate::proofs::Keys::closes_number, crate::proofs::Keys::closes_computed))]
 pub fn closing(out: &mut CodeBuf, site: &Site, key: &Key, how: Defines) -> Result<(), AllocError>
     ensures { OnOk result (Closes site.now out.old out.new how key.now) }
@@ -78,7 +78,7 @@ fn is_proto(site: &Site, key: &Key) -> bool
     }
 }
 
-/// What defines the property of a pair with this key, behind its value.
+/// What defines the property of a pair with this key, after its value.
 pub fn closing_pair(out: &mut CodeBuf, site: &Site, key: &Key) -> Result<(), AllocError>
     ensures { OnOk result (ClosesPair site.now out.old out.new key.now) }
 {

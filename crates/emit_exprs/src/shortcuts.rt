@@ -40,7 +40,7 @@ pub fn before_operand(
     }
 }
 
-/// What stands behind an operand but the first.
+/// What stands after an operand but the first.
 #[tactic(auto, using(crate::proofs::Singles::emits_nothing))]
 pub fn behind_operand(
     out: &mut CodeBuf,
@@ -77,7 +77,7 @@ fn end_shortcuts(out: &mut CodeBuf, site: &Site, waits: &[Wait]) -> Result<(), A
     Ok(())
 }
 
-/// What stands behind all operands.
+/// What stands after all operands.
 #[tactic(auto, using(crate::proofs::Choices::joins_left, crate::proofs::Choices::joins_right, crate::proofs::Choices::joins_short))]
 pub fn join(
     out: &mut CodeBuf,

@@ -1,4 +1,4 @@
-//! Single instructions, by what stands behind their opcode.
+//! Single instructions, by what stands after their opcode.
 ghost use Rattle.std.specs.Prelude.{◌≡◌, ℕ, ◌^◌, ◌<◌, List, true, OnOk, slice_index_or, []};
 ghost use Rattle.bytecode_buf.specs.declared.opcode.Shape.TheVariants as shape;
 ghost use Rattle.bytecode_buf.specs.Width.{shape_of, first_of};

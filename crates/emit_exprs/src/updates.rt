@@ -165,7 +165,7 @@ fn operating(out: &mut CodeBuf, sign: u8) -> Result<(), AllocError>
     }
 }
 
-/// What an assignment puts behind its value.
+/// What an assignment puts after its value.
 pub fn behind_value(
     out: &mut CodeBuf,
     site: &Site,
@@ -214,7 +214,7 @@ fn word_operator(out: &mut CodeBuf, sign: u8, of_name: bool) -> Result<(), Alloc
     }
 }
 
-/// What a prefix operator puts behind its operand.
+/// What a prefix operator puts after its operand.
 pub fn prefix_operator(
     out: &mut CodeBuf,
     is_word: bool,

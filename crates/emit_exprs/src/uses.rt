@@ -31,7 +31,7 @@ pub fn pop_true(out: &mut CodeBuf) -> Result<(), AllocError>
     Ok(())
 }
 
-/// What stands behind a value that is no property.
+/// What stands after a value that is no property.
 #[tactic(auto, using(crate::proofs::Singles::emits_nothing))]
 pub fn used_value(out: &mut CodeBuf, wanted: Use) -> Result<(), AllocError>
     ensures { OnOk result ((texts : List (List ℕ)) → Emits texts out.old out.new (code.used_value wanted)) }
@@ -53,7 +53,7 @@ fn called_dot(out: &mut CodeBuf, atom: u32) -> Result<(), AllocError>
     Ok(())
 }
 
-/// What stands behind an object, at one of its properties.
+/// What stands after an object, at one of its properties.
 #[tactic(auto, using(crate::proofs::Singles::emits_nothing))]
 pub fn used_dot(out: &mut CodeBuf, wanted: Use, atom: u32) -> Result<(), AllocError>
     ensures { OnOk result ((texts : List (List ℕ)) → Emits texts out.old out.new (code.used_dot wanted (slice_index_or texts atom []))) }
@@ -66,7 +66,7 @@ pub fn used_dot(out: &mut CodeBuf, wanted: Use, atom: u32) -> Result<(), AllocEr
     }
 }
 
-/// What stands behind an object, before the key of one of its properties.
+/// What stands after an object, before the key of one of its properties.
 #[tactic(auto, using(crate::proofs::Singles::emits_nothing))]
 pub fn before_index(out: &mut CodeBuf, wanted: Use) -> Result<(), AllocError>
     ensures { OnOk result ((texts : List (List ℕ)) → Emits texts out.old out.new (code.before_index wanted)) }
@@ -87,7 +87,7 @@ fn called_index(out: &mut CodeBuf) -> Result<(), AllocError>
     Ok(())
 }
 
-/// What stands behind that key.
+/// What stands after that key.
 #[tactic(auto, using(crate::proofs::Singles::emits_nothing))]
 pub fn behind_index(out: &mut CodeBuf, wanted: Use) -> Result<(), AllocError>
     ensures { OnOk result ((texts : List (List ℕ)) → Emits texts out.old out.new (code.behind_index wanted)) }

@@ -127,7 +127,7 @@ fn is_empty(site: &Site, atom: u32) -> bool
     }
 }
 
-// The text behind a substitution of a template, unless it is empty.
+// The text after a substitution of a template, unless it is empty.
 #[tactic(auto, using(crate::proofs::Singles::emits_nothing))]
 fn text_behind(out: &mut CodeBuf, site: &Site, atom: u32) -> Result<(), AllocError>
     ensures { OnOk result (EmitsAt site.now out.old out.new (code.text_behind (text_in site.now atom))) }
@@ -139,7 +139,7 @@ fn text_behind(out: &mut CodeBuf, site: &Site, atom: u32) -> Result<(), AllocErr
     }
 }
 
-/// What stands behind the value of a template's substitution; the atom is that of the text behind it.
+/// What stands after the value of a template's substitution; the atom is that of the text after it.
 pub fn after_part(out: &mut CodeBuf, site: &Site, atom: u32) -> Result<(), AllocError>
     ensures { OnOk result (EmitsAt site.now out.old out.new (whole (command.plain Op.ToString ∷ command.plain Op.Add ∷ []) ++ code.text_behind (text_in site.now atom))) }
 {
@@ -149,7 +149,7 @@ pub fn after_part(out: &mut CodeBuf, site: &Site, atom: u32) -> Result<(), Alloc
     Ok(())
 }
 
-/// What stands behind what `new` is done with.
+/// What stands after what `new` is done with.
 pub fn before_new(out: &mut CodeBuf) -> Result<(), AllocError>
     ensures { OnOk result ((texts : List (List ℕ)) → Emits texts out.old out.new (whole (command.plain Op.Dup ∷ command.plain Op.IsConstructing ∷ []))) }
 {

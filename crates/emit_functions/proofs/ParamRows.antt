@@ -70,7 +70,7 @@ pub default_room : {s : Site} {start a b c d e : List ℕ} {w0 w1 : List Wait} {
     → ExprEmits s b c Plainly value → EmitsAt s c d (writing (scene_of s) (text_in s name.atom)) → EmitsAt s d e (just op.Pop) → AllRoom (length e) w1
 default_room name x none j y z u = appends_room refl (default_appends name x none j y z u [])
 
--- no jump waits behind it
+-- no jump waits after it
 kept_none : (p : ℕ) (w0 w1 o0 o1 : List Wait) → w0 ≡ [] → o0 ≡ [] → w1 ≡ w0 ++ record { at = p; aim = aim.After } ∷ [] → o1 ≡ o0 ++ kept aim.After w1 → o1 ≡ []
 kept_none p w0 w1 o0 o1 none no_outside made landed =
     landed ∙ ap₂ (λ (o : List Wait) (w : List Wait). o ++ kept aim.After w) no_outside (made ∙ ap (λ (w : List Wait). w ++ record { at = p; aim = aim.After } ∷ []) none)

@@ -80,7 +80,7 @@ body_first initialized (BracedBody items) w =
     first_some (body_var_names initialized items) (body_var_inner items) (scope_around scope.FunctionLexical (top_lexical_names items) (block_inner items) (scopes_stmts items)) w
     (λ v. around scope.FunctionLexical (top_lexical_names items) (block_inner items) (scopes_stmts items) v refl (in_stmts items))
 
--- behind the function's own
+-- after the function's own
 behind_own : (callee ds : List Declaration) (one two : List Text) (content : Within → List NamedScope) (flag : Bool) (w : Within) → ((v : Within) → is_body_var (scope_at (content v) 0).kind ≡ flag)
     → is_body_var (scope_at (scope_around scope.StrictNamedLambda callee one (scope_and scope.Function ds two content) w) (scope_count callee + 1)).kind ≡ flag
 behind_own [] ds one two content flag w is = is (inside scope.Function ds two w)
@@ -92,7 +92,7 @@ init_of (function _ _ _ _ params _ _ _) = has_initializer params
 abbrev body_of : Function → Body
 body_of (function _ _ _ _ _ _ _ body) = body
 
--- the scope behind a function's own is that of its body's var names exactly where it has some
+-- the scope after a function's own is that of its body's var names exactly where it has some
 pub vars_scope : (kind : FuncKind) (name : Option Text) (f : Function) → is_body_var (scope_at (function_scopes kind name f) (scope_count (callee_names kind name) + 1)).kind ≡ has_vars (init_of f) (body_of f)
 vars_scope kind name (function form start end own params comma bare body) =
     behind_own (callee_names kind name) (function_names form params body) _ (function_uses params body).inner (scopes_body (has_initializer params) body) (has_vars (has_initializer params) body) outermost (body_first (has_initializer params) body)

@@ -7,7 +7,7 @@
 //!
 //! `function` makes the stencil of a function, where its scopes and the extents of the functions directly in it are handed
 //! in; its clause is that of `specs/FunctionCode.antt`. Which functions these are, and the chain at each, is found by
-//! inner_functions, which stands beside this crate.
+//! scope_inner, which stands beside this crate.
 #![tactic(auto)]
 
 pub mod bodies;

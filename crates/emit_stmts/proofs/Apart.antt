@@ -66,7 +66,7 @@ apart_code {texts} {a} x none = subst Apart x.stands (apart_pieces texts (length
 pub apart_emits : {texts : List (List ℕ)} {a b : List ℕ} {code : Code} → Emits texts a b code → Apart code
 apart_emits x = apart_code (x.anywhere [] []) tt
 
--- the jumps that wait behind what was appended
+-- the jumps that wait after what was appended
 pub waits_apart : {texts : List (List ℕ)} {a b : List ℕ} {ws ws_new : List Wait} {ns ns_new : List TryNote} {code : Code} → Appends texts (emitted a ws ns) (emitted b ws_new ns_new) code → Apart code → NoClause ws → NoClause ws_new
 waits_apart {texts} {a} {ws = ws} x apart none = subst NoClause (sym x.waits) (NoClause-append ws (waits_of (length a) x.pieces) none (pieces_apart texts (length a) x.pieces (subst Apart (sym x.stands) apart)))
 

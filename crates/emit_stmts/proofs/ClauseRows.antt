@@ -24,7 +24,7 @@ use Rattle.emit_stmts.proofs.Apart.{NoClause-append, waits_apart}
 use Rattle.emit_stmts.proofs.Landing.{first_room, in_order_le, in_order_end, among_end}
 use Rattle.emit_stmts.proofs.SwitchRows.{ClausesLeft, clauses_begin, clauses_next}
 
--- ---- behind other jumps that wait
+-- ---- after other jumps that wait
 
 appends_behind : {texts : List (List ℕ)} {bytes bytes_new : List ℕ} {ws ws_new : List Wait} {ns ns_new : List TryNote} {code : Code} (before : List Wait) → Appends texts (emitted bytes ws ns) (emitted bytes_new ws_new ns_new) code → Appends texts (emitted bytes (before ++ ws) ns) (emitted bytes_new (before ++ ws_new) ns_new) code
 appends_behind {bytes = bytes} {ws = ws} before x = record {
@@ -91,7 +91,7 @@ switch_next {p} {start} {b} {c} {d} {jumps} {jumps_new} {rest} {rest_new} {notes
 pub switch_room : {p : Position} {start bytes : List ℕ} {jumps : ClauseJumps} {rest : List Wait} {notes notes_now : List TryNote} {number next place level : ℕ} {all further : List Clause} → AllRoom (length bytes) (waiting jumps ++ rest) → SwitchLeft p start notes bytes jumps rest notes_now number next place level all further → AllRoom (length bytes) (waiting jumps)
 switch_room {bytes = bytes} {jumps} {rest} room z = first_room (length bytes) (waiting jumps) rest room
 
--- ---- behind the last clause
+-- ---- after the last clause
 
 -- only the jump for where no test holds still waits beside what the clauses left
 pub switch_last : {p : Position} {start bytes : List ℕ} {jumps : ClauseJumps} {rest : List Wait} {notes notes_now : List TryNote} {number next place level : ℕ} {all further : List Clause} → length all ≤ place → SwitchLeft p start notes bytes jumps rest notes_now number next place level all further → waiting jumps ++ rest ≡ jumps.otherwise.items ++ rest

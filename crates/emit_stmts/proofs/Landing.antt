@@ -53,7 +53,7 @@ pub others_later : (place from to : ℕ) (ws : List Wait) → place < from → I
 others_later place from to [] lt x = tt
 others_later place from to (w ∷ ws) lt x = (later_aim place w.aim x.0 (omega (arith, x.1)), others_later place (place_of w.aim + 1) to ws (omega (arith, x.1)) x.2)
 
--- ---- landing one list behind the other
+-- ---- landing one list after the other
 
 pub patched-append : (goal : Aim) (xs ys : List Wait) (bytes : List ℕ) → patched goal (xs ++ ys) bytes ≡ patched goal ys (patched goal xs bytes)
 patched-append goal [] ys bytes = refl
@@ -197,7 +197,7 @@ clause_landed {a} {b} {c} {d} {tests} {otherwise} {held} {place} {to} {now} jump
     kept_is : kept_now.items ≡ kept (aim.Clause place) jumps.otherwise.items
     kept_is = keeps ∙ (ap (λ (l : List Wait). l ++ kept (aim.Clause place) otherwise) empty ∙ ap (kept (aim.Clause place)) otherwise_is)
 
--- ---- behind the last clause
+-- ---- after the last clause
 
 is_none : (b : Bool) → (b ≡ true → ⊥) → b ≡ false
 is_none true none = absurd (none refl)

@@ -65,7 +65,7 @@ kept_modulo texts f frames outer one more is one_is more_is =
     ∙ (modulo_more (kept_values (frame_in texts f ∷ [])) (kept_values (frames_in texts outer)) (2 ^ 32)
     ∙ (ap (λ (n : ℕ). n % 2 ^ 32) (kept_more texts f outer) ∙ sym (ap (λ (fs : List Frame). kept_values (frames_in texts fs) % 2 ^ 32) is)))
 
--- the note of a Try behind this code, while it is open
+-- the note of a Try after this code, while it is open
 abbrev open_note : List ℕ → ℕ → TryNote
 open_note bytes depth = record { start = length bytes; end = length bytes; depth = depth }
 

@@ -63,7 +63,7 @@ written_from_none {p} {bytes} {ws} {ns} {new} {k} {l} {f} {m} {x} none u = subst
 pub written_wait : {bytes new : List ℕ} {ws ws_new : List Wait} (op : Op) (aim : Aim) (p : Position) (ns : List TryNote) (number : ℕ) → is_clause aim ≡ false → Waits op aim bytes ws new ws_new → Written p (emitted bytes ws ns) (emitted new ws_new ns) number number (λ w. Unit {0}) (λ w. 0) (λ w i. Waiting op aim ∷ [])
 written_wait op aim p ns number other waits = record { written = Waiting op aim ∷ []; appends = waits p.texts ns; apart = (other, tt); counted = λ w f small. sym (add-zero number); is = λ w stands f small. refl }
 
--- code whose jumps were landed behind it
+-- code whose jumps were landed after it
 pub written_here : {p : Position} {start bytes new : List ℕ} {inner ws ws_new : List Wait} {ns ns_now : List TryNote} {k l : ℕ} {f : World → Type 0} {m : World → ℕ} {x : World → ℕ → Code} (aim : Aim) → LandsHere aim bytes inner ws new ws_new → Written p (emitted start [] ns) (emitted bytes inner ns_now) k l f m x → Written p (emitted start ws ns) (emitted new ws_new ns_now) k l f m (λ w i. here aim (x w i))
 written_here {p} {start} {ns = ns} {ns_now} aim lands u = record {
   written = here aim u.written;

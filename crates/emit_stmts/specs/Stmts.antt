@@ -228,7 +228,7 @@ abbrev pub catch_leave : Setting → List Declaration → ℕ → Code
 catch_leave the [] number = []
 catch_leave the (d ∷ ds) number = leave_scope the.scopes number
 
--- the block is guarded from behind the Try to behind the jump over the handler
+-- the block is guarded from after the Try to after the jump over the handler
 abbrev pub guarded : ℕ → Code → Code
 guarded depth block = Trying (size (block ++ (Waiting op.Goto aim.After ∷ []))) depth ∷ block ++ (Waiting op.Goto aim.After ∷ [])
 
@@ -304,7 +304,7 @@ abbrev mutual
   stmts_code the no_stmts number frames = []
   stmts_code the (more_stmts s rest) number frames = stmt_code the s number frames ++ stmts_code the rest (number + count_stmt s) frames
 
-  -- the clauses from a place on, behind this code: the jumps to a clause go to its beginning
+  -- the clauses from a place on, after this code: the jumps to a clause go to its beginning
   pub clauses_code : Setting → ℕ → Clauses → ℕ → List Frame → Code → Code
   clauses_code the place no_clauses number frames before = before
   clauses_code the place (more_clauses test items rest) number frames before =

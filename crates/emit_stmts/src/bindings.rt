@@ -26,7 +26,7 @@ pub fn value_or_undefined(
     }
 }
 
-/// What stands behind a turn of a `for`.
+/// What stands after a turn of a `for`.
 pub fn update(out: &mut CodeBuf, site: &Site, value: &Option<Expr>) -> Result<(), AllocError>
     ensures { OnOk result (ValueEmits site.now out.old out.new value.now code.update_code) }
 {

@@ -27,7 +27,7 @@ pub fn freshen_head(
     }
 }
 
-/// The test of a loop, which goes behind it where it fails.
+/// The test of a loop, which goes after it where it fails.
 pub fn loop_test(
     out: &mut CodeBuf,
     waits: &mut Vec<Wait>,
@@ -47,7 +47,7 @@ pub fn loop_test(
     }
 }
 
-/// The test whether a for-in has one more key, which goes behind the loop where it has none.
+/// The test whether a for-in has one more key, which goes after the loop where it has none.
 pub fn keys_test(out: &mut CodeBuf, waits: &mut Vec<Wait>, level: usize) -> Result<(), AllocError>
     ensures { OnOk result (KeysTested out.old waits.old.items out.new waits.new.items level) }
 {

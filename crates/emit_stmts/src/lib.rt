@@ -13,7 +13,7 @@
 //!
 //! `top` makes the script's own stencil (`scripts`), where its scopes and the extents of the functions directly in it are
 //! handed in; its clause is that of `specs/ScriptCode.antt`. The stencils of functions, which `specs/Functions.antt` defines,
-//! are made by emit_functions, and inner_functions finds the functions directly in a tree with the chains at them.
+//! are made by emit_functions, and scope_inner finds the functions directly in a tree with the chains at them.
 #![tactic(auto)]
 
 pub mod bindings;

@@ -45,7 +45,7 @@ fn function_count(items: &[Stmt]) -> u32
     count
 }
 
-/// Appends the code of a script's statements, with what stands before them and behind.
+/// Appends the code of a script's statements, with what stands before them and after.
 pub fn emit_script(
     out: &mut Draft,
     waits: &mut Vec<Wait>,
@@ -101,7 +101,7 @@ fn draft_script<'a>(
 }
 
 /// The script's own stencil, where its scopes and the extents of the functions directly in it, by rising start, are handed
-/// in. `end` is the offset behind its text, and atoms are indexes into `texts`.
+/// in. `end` is the offset after its text, and atoms are indexes into `texts`.
 pub fn top(
     alloc: Global,
     items: &[Stmt],

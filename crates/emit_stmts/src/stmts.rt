@@ -353,7 +353,7 @@ fn emit_for_in(
     }
 }
 
-// The tests of a `switch` and its clauses, behind which a `break` goes.
+// The tests of a `switch` and its clauses, after which a `break` goes.
 #[cycle(stmts)]
 fn emit_clauses(
     out: &mut Draft,

@@ -64,7 +64,7 @@ pub fn cases(
     Ok(())
 }
 
-/// Where a `switch` at this level goes when no test holds: to its default, or behind it.
+/// Where a `switch` at this level goes when no test holds: to its default, or after it.
 pub fn default_aim(level: usize, clauses: &[Clause]) -> Aim
     ensures is { (i : Interpretation) → result ≡ code.default_aim level 0 (clauses_of (map (clause_of i) clauses.now)) }
     ensures among { is_clause result ≡ true → place_of result < length clauses.now }

@@ -25,7 +25,7 @@ once_more x n = elim (ltb x n) as (λ b. (ltb x n ≡ b) → once_below x (n + 1
       ] refl
 ] refl
 
--- the next task, behind all tasks below it
+-- the next task, after all tasks below it
 pub order_up : (x n m : ℕ) (tasks more : List ℕ) → m ≡ n + 1 → more ≡ tasks ++ n ∷ [] → times x tasks ≡ once_below x n → times x more ≡ once_below x m
 order_up x n m tasks more em et before =
     let a = ap (times x) et in
@@ -33,7 +33,7 @@ order_up x n m tasks more em et before =
     let c = once_more x n in
     omega (arith, times-append x tasks (n ∷ []))
 
--- the task before, behind all tasks from the next on
+-- the task before, after all tasks from the next on
 pub order_down : (x n m count : ℕ) (tasks more : List ℕ) → m ≡ n + 1 → more ≡ tasks ++ n ∷ [] → times x tasks + once_below x m ≡ once_below x count → times x more + once_below x n ≡ once_below x count
 order_down x n m count tasks more em et before =
     let a = ap (times x) et in

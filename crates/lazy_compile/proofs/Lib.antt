@@ -1,2 +1,6 @@
-pub mod ShownRows
-pub mod Sites
+pub mod Compiled
+pub mod Crowded
+pub mod OwnTexts
+pub mod Reading
+pub mod Records
+pub mod WrittenForms

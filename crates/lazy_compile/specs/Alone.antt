@@ -1,20 +1,27 @@
--- A function that is read from its extent alone: from its parameters to the end of its body (ECMA-262, 12th edition, clause
--- 15; that it is read alone is this project's own choice). Its kind and its name are given beside it.
-use Rattle.std.specs.Prelude.{◌≡◌, ℕ, List, [], ◌∷◌, ◌++◌, map, None}
-use Rattle.script_grammar.specs.declared.token.FuncForm.{FuncForm}
-use Rattle.script_grammar.specs.declared.token.Kind.TheVariants as kind
-use Rattle.script_grammar.specs.Lexeme.{Lexeme}
-use Rattle.script_grammar.specs.Pieces.{whole}
-use Rattle.script_grammar.specs.Script.{IsFunction}
-use Rattle.script_grammar.specs.Tree.{Function}
-use Rattle.script_scanner.specs.Lexemes.{lexeme_of}
-use Rattle.script_scanner.specs.Tokens.{tokens}
-use Rattle.unit_text.specs.Points.{points}
+-- What is known of a function that was read on its own.
+use Rattle.std.specs.Prelude.{◌≡◌, map, option_map}
+use Rattle.script_grammar.specs.Tree.{Body, Stmts}
+use Rattle.script_grammar.specs.TreeOf.{func_of}
+use Rattle.stencil_data.specs.StandsFor.{text_at, named_closed}
+use Rattle.parser_atoms.specs.Places.{AreWithoutEquals}
+use Rattle.parse_track.specs.Notes.{closed_names}
+use Rattle.scope_analysis.specs.FunctionTree.{HasBody, KnowsNames}
+use Rattle.scope_analysis.specs.Kept.{under}
+use Rattle.emit_stmts.specs.Functions.{start_of}
+use Rattle.compile_specs.specs.Eager.{Site}
+use Rattle.compile_specs.specs.Shown.{closed_of}
+use Rattle.grammar_alone_laws.specs.Alone.{nameless}
+use Rattle.parse_function.specs.Extents.{own_statements}
+use Rattle.lazy_compile.specs.declared.alone.FunctionAlone.{FunctionAlone}
 
--- the tokens of the file between these offsets are a function of this form, and this is its tree
-pub record IsReadAlone (file : List ℕ) (start end : ℕ) (form : FuncForm) (f : Function) : Type 0 where
-  pub words : List Lexeme
-  pub last : Lexeme
-  pub split : map lexeme_of (tokens (points file) start end) ≡ words ++ last ∷ []
-  pub ends : last.kind ≡ kind.End
-  pub is : IsFunction whole form None 0 words last f
+-- With the bodies of the script's functions in place of those that were passed over, the tree is that of the function at this
+-- site but for its name, and its own body was read. The name is the function's, and these are its names that functions in it
+-- close over, by texts without equals; the words by which a function finds `this` and its arguments are among these.
+pub record IsReadAlone (alone : FunctionAlone) (items : Stmts) (m : Site) : Type 0 where
+  pub tree : func_of (under alone.texts.items (own_statements items)) alone.func ≡ nameless m.inner.func
+  pub body : Body
+  pub read : HasBody (under alone.texts.items (own_statements items)) alone.func body
+  pub name_is : option_map (text_at alone.texts.items) alone.name ≡ m.inner.name
+  pub closed_are : map (named_closed alone.texts.items) alone.closed.items ≡ closed_of (closed_names items) (start_of m.inner.func)
+  pub knows : KnowsNames alone.texts.items
+  pub apart : AreWithoutEquals alone.texts.items

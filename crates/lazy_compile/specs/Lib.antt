@@ -1,3 +1,4 @@
 pub mod Alone
-pub mod Eager
-pub mod Shown
+pub mod Delazified
+pub mod Forms
+pub mod OwnTexts

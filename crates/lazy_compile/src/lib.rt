@@ -1,4 +1,69 @@
-//! A script compiled whole, and what is shown of it where only some of its functions are wanted: definitions, computed on
-//! small scripts. They stand above the code of functions (emit_stmts) and the names that inner functions close over
-//! (parse_track); the listing of a file prints what they say (compile_session).
+//! One function of a script, compiled on its own under the chain of scopes around it, as lazy compiling does where the
+//! function's code is first wanted: lazy_compile.
+//!
+//! It stands on parse_function, which reads a function of a script again from its extent alone, on compile_function, which
+//! compiles a function, and on track_atoms. What is kept of a function that was not compiled is its record; what it needs to
+//! know of the scopes around it is a chain.
+//!
+//! [`delazify`] answers a stencil with texts of its own, and the chain at each function directly in it, under which these are
+//! compiled in their turn. Its contract (`specs/Delazified.antt`) says that the stencil stands for the very function that
+//! compiling the whole script from one tree gives, and that the chains are those that it hands down there, by the definitions
+//! of compile_specs (`specs/Eager.antt`).
 #![tactic(auto)]
+
+ghost use Rattle.std.specs.Prelude.{IfOk};
+ghost use Rattle.script_grammar.specs.Tree.{Stmts};
+ghost use Rattle.compile_specs.specs.Eager.{Site};
+ghost use Rattle.lazy_compile.specs.Delazified.{CanBeDelazified, IsCompiledAlone};
+
+mod alone;
+mod chains;
+mod forms;
+mod own_texts;
+
+use crate::alone::{FunctionAlone, read_alone};
+use crate::chains::chains_of;
+use compile_function::{CompiledFunction, compile_function};
+use std::alloc::{AllocError, Global};
+use stencil_data::{Chain, FunctionStencil, LazyRecord, Text};
+
+/// A function that was compiled on its own.
+#[derive(Drop)]
+pub struct Delazified {
+    /// In its code a function is named by its place among those directly inside. Its atoms are indexes into `texts`.
+    pub stencil: FunctionStencil,
+    pub texts: Vec<Text>,
+    /// The chain of the scopes around each function directly in it, in the order of the source.
+    pub chains: Vec<Chain>,
+}
+
+/// Compiles the function that has this record in the script that `file` is, under the chain of the scopes around it. The atoms
+/// of the record are indexes into `texts`.
+///
+/// Of the file the bytes of the function's extent are read and no others. Time is linear in these. Only memory can fail.
+pub fn delazify(
+    alloc: Global,
+    file: &[u8],
+    lazy: &LazyRecord,
+    texts: &[Text],
+    chain: &Chain,
+) -> Result<Delazified, AllocError>
+    requires { (items : Stmts) × (m : Site) × CanBeDelazified file.now lazy.now texts.now chain.now items m }
+    ensures { IfOk result (λ made. (items : Stmts) (m : Site) → CanBeDelazified file.now lazy.now texts.now chain.now items m → IsCompiledAlone made m) }
+{
+    let FunctionAlone {
+        func,
+        name,
+        closed,
+        texts,
+    } = read_alone(alloc, file, lazy, texts)?;
+    let CompiledFunction { stencil, inside } = compile_function(
+        alloc, &func, lazy.kind, name, &closed, chain, &texts,
+    )?;
+    let chains = chains_of(alloc, inside)?;
+    Ok(Delazified {
+        stencil,
+        texts,
+        chains,
+    })
+}

@@ -1,10 +1,10 @@
--- What stands by itself: the end of all behind it, and functions.
+-- What stands by itself: the end of all after it, and functions.
 use Rattle.std.proofs.Common.{◌≡◌, ℕ, List, Bool, true, false, refl, sym, subst}
 use Rattle.std.proofs.Common.{None}
 use Rattle.script_grammar.specs.Endings.{body_ending}
 use Rattle.script_grammar.specs.TreeLists.{params_of}
 use Rattle.script_grammar.specs.declared.token.FuncForm.TheVariants as form
-use Rattle.pure_parser.specs.Exprs.{Head, BodyRead, function_case}
+use Rattle.grammar_parser_specs.specs.Exprs.{Head, BodyRead, function_case}
 use Rattle.parse_exprs.specs.declared.part.ArrowBody.{ArrowBody}
 use Rattle.parse_exprs.specs.Means.{ending_as, ArrowBodyOf}
 use Rattle.script_grammar.specs.Interpretation.{Interpretation}
@@ -14,8 +14,8 @@ use Rattle.script_grammar.specs.Shows.{FuncBodyOf, FuncOf, ShowFunc}
 use Rattle.script_grammar.specs.Tree.{Expr, Stmts, Function, function}
 use Rattle.script_grammar.specs.declared.node.NodeFunc.{NodeFunc}
 use Rattle.script_grammar.specs.declared.node.NodeFuncBody.TheVariants as bodies
-use Rattle.pure_parser.specs.Parser.{Recorded, Reply, head_of, after, ret, bad, when}
-use Rattle.pure_parser.specs.Stmts.{end_of}
+use Rattle.grammar_parser_specs.specs.Parser.{Recorded, Reply, head_of, after, ret, bad, when}
+use Rattle.grammar_parser_specs.specs.Stmts.{end_of}
 use Rattle.parse_exprs.specs.declared.source.Source.{Source}
 use Rattle.parse_exprs.specs.declared.place.Place.{Place}
 use Rattle.parse_exprs.specs.declared.place.ParseFault.{ParseFault}

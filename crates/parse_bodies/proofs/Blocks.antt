@@ -3,9 +3,9 @@ use Rattle.std.proofs.Common.{◌≡◌, ◌∙◌, ℕ, zero, suc, ◌+◌, ◌
 use Rattle.script_grammar.specs.Fault.{depth_limit}
 use Rattle.script_grammar.specs.Interpretation.{Interpretation}
 use Rattle.script_grammar.specs.Kinds.{is_name}
-use Rattle.pure_parser.specs.Parser.{no_room}
-use Rattle.pure_parser.specs.Exprs.{Calls, calls, call_case, name_of}
-use Rattle.pure_parser.specs.Stmts.{All, Block, Place, everything, stmt_of, begins_stmt, block_of}
+use Rattle.grammar_parser_specs.specs.Parser.{no_room}
+use Rattle.grammar_parser_specs.specs.Exprs.{Calls, calls, call_case, name_of}
+use Rattle.grammar_parser_specs.specs.Stmts.{All, Block, Place, everything, stmt_of, begins_stmt, block_of}
 use Rattle.parse_exprs.specs.Env.{env_at}
 use Rattle.parse_bodies.specs.Blocks.{bodies_at, all_at, stmts_at, label_at, block_at}
 

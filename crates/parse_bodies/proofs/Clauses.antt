@@ -5,7 +5,7 @@ use Rattle.script_grammar.specs.Shows.{ShowAll, ShowMaybe, MaybeOf, ClauseOf, Sh
 use Rattle.script_grammar.specs.Tree.{Expr, Stmt}
 use Rattle.script_grammar.specs.TreeLists.{Clause}
 use Rattle.script_grammar.specs.declared.node.NodeClause.{NodeClause}
-use Rattle.pure_parser.specs.Parser.{Recorded, Reply, Turn, Again}
+use Rattle.grammar_parser_specs.specs.Parser.{Recorded, Reply, Turn, Again}
 use Rattle.parse_exprs.specs.Answers.{ReadAs}
 use Rattle.parse_bodies.specs.Means.{MaybeClauseOf}
 
@@ -66,7 +66,7 @@ pub some_shown : {E A : Type 0} (for : E → A → Type 0) (e : E) (o : Option A
 some_shown for e None h = absurd h
 some_shown for e (Some a) h = (a, h, refl)
 
--- nodes behind nodes
+-- nodes after nodes
 pub all_joined : {E A : Type 0} (for : E → A → Type 0) (es fs : List E) (xs ys : List A) → ShowAll for es xs → ShowAll for fs ys → ShowAll for (es ++ fs) (xs ++ ys)
 all_joined for [] fs [] ys h k = k
 all_joined for [] fs (x ∷ xs) ys h k = absurd h

@@ -1,9 +1,9 @@
--- A fault behind what was read.
+-- A fault after what was read.
 use Rattle.std.proofs.Common.{◌≡◌, ◌∙◌, List, Bool, false, sym, ap, subst}
 use Rattle.script_grammar.specs.Interpretation.{Interpretation}
 use Rattle.script_grammar.specs.Lexeme.{Lexeme}
-use Rattle.pure_parser.specs.Parser.{Recorded, Reply, Parser, after, when}
-use Rattle.pure_parser.proofs.LocalExprs.{after_noted}
+use Rattle.grammar_parser_specs.specs.Parser.{Recorded, Reply, Parser, after, when}
+use Rattle.grammar_local_laws.proofs.LocalExprs.{after_noted}
 use Rattle.parse_exprs.specs.declared.source.Source.{Source}
 use Rattle.parse_exprs.specs.declared.place.Place.{Place}
 use Rattle.parse_exprs.specs.declared.place.ParseFault.{ParseFault}
@@ -16,6 +16,6 @@ refused_behind {rs = rs} {r = r} s i p (faults.Unexpected k) f h m = record { is
 refused_behind {rs = rs} {r = r} s i p (faults.TooDeep k) f h m = record { is = sym (after_noted rs r f) ∙ ap (λ x. after x f) h.is ∙ m.is }
 refused_behind s i p faults.NoMemory f h m = tt
 
--- a fault behind a test
+-- a fault after a test
 pub refused_when_false : {A : Type 0} {b : Bool} (s : Source) (i : Interpretation) (p : Place) (e : ParseFault) (rs : List Recorded) (us : List Lexeme) (f g : Parser A) → b ≡ false → Refuses s i p e rs (g us) → Refuses s i p e rs (when b f g us)
 refused_when_false s i p e rs us f g h k = subst (λ x. Refuses s i p e rs (when x f g us)) (sym h) k

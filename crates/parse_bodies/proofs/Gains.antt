@@ -5,13 +5,13 @@ use Rattle.script_grammar.specs.declared.token.word.TheConstants as word
 use Rattle.script_grammar.specs.Lexeme.{Lexeme}
 use Rattle.script_grammar.specs.Kinds.{is_mark, is_word, is_name}
 use Rattle.script_grammar.specs.TreeLists.{Bind, Clause}
-use Rattle.pure_parser.specs.Parser.{Parser, ret, bind, step, when, Turn, Again, Stop}
-use Rattle.pure_parser.specs.Exprs.{Env, AParam, ARest, Plain, Trailing, Rest, again}
-use Rattle.pure_parser.specs.Stmts as parser
-use Rattle.pure_parser.specs.Stmts.{AnItem, StmtCalls, Block}
-use Rattle.pure_parser.proofs.Local.{Local, local_ret, local_bad, local_bind, local_peek, local_when, local_step, Gains, gains_peek, gains_step, moves_when, moves_eats, eats_bind}
-use Rattle.pure_parser.proofs.LocalExprs.{LocalEnv}
-use Rattle.pure_parser.proofs.LocalStmts.{LocalUses, LocalStmts, LocalBlock, local_expect, local_name, local_stmts}
+use Rattle.grammar_parser_specs.specs.Parser.{Parser, ret, bind, step, when, Turn, Again, Stop}
+use Rattle.grammar_parser_specs.specs.Exprs.{Env, AParam, ARest, Plain, Trailing, Rest, again}
+use Rattle.grammar_parser_specs.specs.Stmts as parser
+use Rattle.grammar_parser_specs.specs.Stmts.{AnItem, StmtCalls, Block}
+use Rattle.grammar_parser_laws.proofs.Local.{Local, local_ret, local_bad, local_bind, local_peek, local_when, local_step, Gains, gains_peek, gains_step, moves_when, moves_eats, eats_bind}
+use Rattle.grammar_local_laws.proofs.LocalExprs.{LocalEnv}
+use Rattle.grammar_local_laws.proofs.LocalStmts.{LocalUses, LocalStmts, LocalBlock, local_expect, local_name, local_stmts}
 
 module _ (stmt : StmtCalls) (s : LocalStmts stmt) where
   pub stmt_turn_gains : (i : Bool) → Gains (parser.stmt_turn stmt i)

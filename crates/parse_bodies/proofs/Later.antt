@@ -9,17 +9,17 @@ use Rattle.script_grammar.specs.Lexeme.{Lexeme}
 use Rattle.script_grammar.specs.Tree.{Stmts}
 use Rattle.script_grammar.specs.Pieces as grammar
 use Rattle.script_grammar.specs.Fault.{depth_limit, ScriptPart, Unexpected, TooDeep, FirstFault}
-use Rattle.pure_parser.specs.Parser.{Recorded, Reply, Read, Bad, Deep}
-use Rattle.pure_parser.specs.Exprs.{BodyRead}
-use Rattle.pure_parser.specs.Stmts as pure
-use Rattle.pure_parser.specs.Stmts.{read_script}
-use Rattle.pure_parser.proofs.Agrees.{Verdict, fine, bad_at, deep_at, records}
-use Rattle.pure_parser.proofs.AgreesScripts.{scripts_agree, silent}
-use Rattle.pure_parser.proofs.ScriptLaws.{Reads, ScriptOf, script_read, script_unexpected_by, script_too_deep}
-use Rattle.pure_parser.proofs.Closed.{Ended, no_bad_end}
-use Rattle.pure_parser.proofs.PassedLaws.{pass_script, passed_is_script}
-use Rattle.pure_parser.proofs.Totals.{or_says, own_says, total, judged_bodies, or_fine, pass_body, next_read, next_faulty, total_bad, total_deep, total_fine, no_deep_end}
-use Rattle.recorded_bodies.proofs.Later.{ScriptReading, script_init, script_next, script_done}
+use Rattle.grammar_parser_specs.specs.Parser.{Recorded, Reply, Read, Bad, Deep}
+use Rattle.grammar_parser_specs.specs.Exprs.{BodyRead}
+use Rattle.grammar_parser_specs.specs.Stmts as pure
+use Rattle.grammar_parser_specs.specs.Stmts.{read_script}
+use Rattle.grammar_local_laws.proofs.Agrees.{Verdict, fine, bad_at, deep_at, records}
+use Rattle.grammar_local_laws.proofs.AgreesScripts.{scripts_agree, silent}
+use Rattle.grammar_script_laws.proofs.ScriptLaws.{Reads, ScriptOf, script_read, script_unexpected_by, script_too_deep}
+use Rattle.grammar_script_laws.proofs.Closed.{Ended, no_bad_end}
+use Rattle.grammar_script_laws.proofs.PassedLaws.{pass_script, passed_is_script}
+use Rattle.grammar_script_laws.proofs.Totals.{or_says, own_says, total, judged_bodies, or_fine, pass_body, next_read, next_faulty, total_bad, total_deep, total_fine, no_deep_end}
+use Rattle.parse_pending_laws.proofs.Later.{ScriptReading, script_init, script_next, script_done}
 use Rattle.parse_exprs.specs.declared.source.Source.{Source}
 use Rattle.parse_exprs.specs.declared.place.Place.{Place}
 use Rattle.parse_exprs.specs.declared.place.Pending.{Pending}
@@ -179,14 +179,14 @@ text_of ts items h = record { inner = h.inner; end = h.last; split = h.split; en
 
 -- a script that is read is so read by the parser that reads bodies in place
 read_in_place : (s : Source) (i : Interpretation) (items : Stmts) (h : ScriptOf (lexemes s i) items) → read_script depth_limit (front s i 0) ≡ Read items [] (h.last ∷ [])
-read_in_place s i items h = silent (scripts_agree (body_at i) (braced_at i) depth_limit) (front s i 0) ∙ ap (λ us. Rattle.pure_parser.proofs.Complete.bare (read_script depth_limit us)) (all_front s i) ∙ script_read (lexemes s i) items h
+read_in_place s i items h = silent (scripts_agree (body_at i) (braced_at i) depth_limit) (front s i 0) ∙ ap (λ us. Rattle.grammar_parser_laws.proofs.Complete.bare (read_script depth_limit us)) (all_front s i) ∙ script_read (lexemes s i) items h
 
 pub going_listed : {B : Type 0} (shows : B → Stmts → Type 0) (s : Source) (i : Interpretation) (script : Script B) → Ended (lexemes s i) → Going shows s i (Ok script.top) script.bodies.items [] → IsRead i shows s script
 going_listed shows s i script ended g =
     let ts = lexemes s i in
     let here : pass_script (body_at i) (braced_at i) ts ≡ script_reply s i = ap (pass_script (body_at i) (braced_at i)) (sym (all_front s i)) in
     let clean = total_fine (script_reply s i) g.says in
-    let p = passed_is_script (body_at i) (braced_at i) ts g.node.2 g.node.0 g.node.1 ended (ap Rattle.pure_parser.proofs.PassedLaws.verdict here ∙ clean) (here ∙ g.node.4) in
+    let p = passed_is_script (body_at i) (braced_at i) ts g.node.2 g.node.0 g.node.1 ended (ap Rattle.grammar_script_laws.proofs.PassedLaws.verdict here ∙ clean) (here ∙ g.node.4) in
     record {
       items = p.tree;
       is = text_of ts p.tree p.is;
@@ -205,7 +205,7 @@ going_refused shows s i (faults.TooDeep k) nodes ended g =
     subst (λ n. FirstFault (ScriptPart grammar.whole 0) ts n TooDeep) (front_place s i k (λ none. no_deep_end ts (reads ∙ ap (Deep []) none))) (script_too_deep ts (front s i k) reads)
 going_refused shows s i faults.NoMemory nodes ended g = tt
 
--- What is still to be read: the bodies that the last part passed over, and behind them those that wait, the last one first.
+-- What is still to be read: the bodies that the last part passed over, and after them those that wait, the last one first.
 
 pub next_ahead : (ps ws reversed joined now : List Pending) (next : Pending) → reversed ≡ reverse ps → joined ≡ ws ++ reversed → joined ≡ now ++ next ∷ [] → ps ++ reverse ws ≡ next ∷ reverse now
 next_ahead ps ws reversed joined now next r j e =

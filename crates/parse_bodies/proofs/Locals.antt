@@ -1,4 +1,4 @@
--- What reads statements looks at nothing behind the place where it stops, and each statement reads a lexeme.
+-- What reads statements looks at nothing after the place where it stops, and each statement reads a lexeme.
 use Rattle.std.proofs.Common.{◌≡◌, ◌∙◌, ℕ, zero, suc, ◌+◌, ◌-◌, ◌<◌, ◌≤◌, List, [], ◌∷◌, length, refl, sym, ap, subst, arith, true}
 use Rattle.script_grammar.specs.Fault.{depth_limit}
 use Rattle.script_grammar.specs.Interpretation.{Interpretation}
@@ -7,13 +7,13 @@ use Rattle.script_grammar.specs.Kinds.{is_name}
 use Rattle.script_grammar.specs.Endings.{ending}
 use Rattle.script_grammar.specs.Tree.{Named, Expr, Stmt}
 use Rattle.script_grammar.specs.Tree as tree
-use Rattle.pure_parser.specs.Parser.{Deep, Parser, bind, ret, bad, step, when, after, deep, loop}
-use Rattle.pure_parser.specs.Exprs.{Env, AnAssign, AParam, calls, name_of, named, expr_of, arrow_param, param_of, initializer_of, begins_assign, more_turn, comma_case}
-use Rattle.pure_parser.specs.Stmts.{begins_stmt, value_stmt, semi_of}
-use Rattle.pure_parser.proofs.Tests.{name_known}
-use Rattle.pure_parser.proofs.Local.{Local, Same, out, kept, left, grown, local_ret, local_bind, local_loop, after_shorter, local_no_room, eats_no_room, Eats, eats_peek, ate_when, ate_step}
-use Rattle.pure_parser.proofs.LocalExprs.{LocalEnv, NameEnd, deep_end, read_end, name_of_local, expr_local, expr_eats, function_local, more_turn_local, more_turn_gains}
-use Rattle.pure_parser.proofs.LocalStmts.{LocalUses, LocalBlock, local_semi, local_stmt, eats_stmt}
+use Rattle.grammar_parser_specs.specs.Parser.{Deep, Parser, bind, ret, bad, step, when, after, deep, loop}
+use Rattle.grammar_parser_specs.specs.Exprs.{Env, AnAssign, AParam, calls, name_of, named, expr_of, arrow_param, param_of, initializer_of, begins_assign, more_turn, comma_case}
+use Rattle.grammar_parser_specs.specs.Stmts.{begins_stmt, value_stmt, semi_of}
+use Rattle.grammar_parser_laws.proofs.Tests.{name_known}
+use Rattle.grammar_parser_laws.proofs.Local.{Local, Same, out, kept, left, grown, local_ret, local_bind, local_loop, after_shorter, local_no_room, eats_no_room, Eats, eats_peek, ate_when, ate_step}
+use Rattle.grammar_local_laws.proofs.LocalExprs.{LocalEnv, NameEnd, deep_end, read_end, name_of_local, expr_local, expr_eats, function_local, more_turn_local, more_turn_gains}
+use Rattle.grammar_local_laws.proofs.LocalStmts.{LocalUses, LocalBlock, local_semi, local_stmt, eats_stmt}
 use Rattle.parse_exprs.specs.Env.{env_at}
 use Rattle.parse_exprs.proofs.Locals.{env_local}
 use Rattle.parse_bodies.specs.Blocks.{label_at, block_at}
@@ -29,7 +29,7 @@ name_eats : Eats name_of
 unfolding name_of
 name_eats = eats_peek (λ t. when (is_name t.kind) (step (ret (named t))) bad) tt (λ t ts. ate_when (step (ret (named t))) bad (is_name t.kind) t ts (ate_step (ret (named t)) (local_ret (named t)) t ts) tt)
 
--- A name behind which no lexeme is.
+-- A name after which no lexeme is.
 
 -- as a parameter it is read
 param_alone : (v : Env) (t : Lexeme) → is_name t.kind ≡ true → length (left (arrow_param v (t ∷ []))) ≡ 0
@@ -46,7 +46,7 @@ assign_alone i depth t h e = alone ((env_local i depth).name t e)
 
 -- what follows in a statement
 
--- the operands behind the first, and the semicolon
+-- the operands after the first, and the semicolon
 more_behind : (v : Env) → LocalEnv v → (e : Expr) → Local (bind (loop (more_turn v true)) (λ m. ret (comma_case e m.items)))
 more_behind v l e = local_bind (local_loop (more_turn_local v l true) (more_turn_gains v l true)) (λ m. local_ret (comma_case e m.items))
 

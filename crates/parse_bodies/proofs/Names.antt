@@ -8,8 +8,8 @@ use Rattle.script_grammar.specs.Shows.{ShowAll, ShowBind}
 use Rattle.script_grammar.specs.Tree.{Expr}
 use Rattle.script_grammar.specs.TreeLists.{Bind, binds_of}
 use Rattle.script_grammar.specs.declared.node.NodeBind.{NodeBind}
-use Rattle.pure_parser.specs.Parser.{Recorded, Reply, Parser, Turn, Again, Stop, Many, led}
-use Rattle.pure_parser.proofs.Local.{Gains}
+use Rattle.grammar_parser_specs.specs.Parser.{Recorded, Reply, Parser, Turn, Again, Stop, Many, led}
+use Rattle.grammar_parser_laws.proofs.Local.{Gains}
 use Rattle.parse_exprs.specs.Answers.{ReadAs}
 use Rattle.parse_exprs.proofs.Loops.{Looping, looping_led, looping_again, looping_stop}
 use Rattle.parse_bodies.specs.declared.ending.StmtEnding.{StmtEnding}

@@ -4,8 +4,8 @@ use Rattle.script_grammar.specs.Interpretation.{Interpretation, named}
 use Rattle.script_grammar.specs.Lexeme.{Lexeme}
 use Rattle.script_grammar.specs.Shows.{ShowAll}
 use Rattle.script_grammar.specs.TreeLists.{Param}
-use Rattle.pure_parser.specs.Exprs as pure
-use Rattle.pure_parser.specs.Parser.{Recorded, Reply, Parser, Turn, Stop, Many}
+use Rattle.grammar_parser_specs.specs.Exprs as pure
+use Rattle.grammar_parser_specs.specs.Parser.{Recorded, Reply, Parser, Turn, Stop, Many}
 use Rattle.parse_exprs.specs.Answers.{ReadAs}
 use Rattle.parse_exprs.specs.Means.{ParamsEndOf}
 use Rattle.parse_exprs.specs.declared.part.ParamsEnd.{ParamsEnd}

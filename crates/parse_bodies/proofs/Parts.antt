@@ -2,7 +2,7 @@
 use Rattle.std.proofs.Common.{◌≡◌, ℕ, List, refl, sym, ap, subst, ◌∙◌, Option, Some, None}
 use Rattle.std.specs.Prelude.{option_map}
 use Rattle.script_grammar.specs.Lexeme.{Lexeme}
-use Rattle.pure_parser.specs.Parser.{Recorded, Reply, Turn, Again}
+use Rattle.grammar_parser_specs.specs.Parser.{Recorded, Reply, Turn, Again}
 use Rattle.parse_exprs.specs.Answers.{ReadAs}
 use Rattle.script_grammar.specs.Endings.{bind_ending, return_ending}
 use Rattle.script_grammar.specs.Interpretation.{Interpretation, named, maybe_named}

@@ -3,9 +3,9 @@ use Rattle.std.specs.Prelude.{ℕ, ◌-◌}
 use Rattle.script_grammar.specs.Fault.{depth_limit}
 use Rattle.script_grammar.specs.Interpretation.{Interpretation}
 use Rattle.script_grammar.specs.Tree.{Named}
-use Rattle.pure_parser.specs.Parser.{Parser}
-use Rattle.pure_parser.specs.Exprs.{BodyParser, passing}
-use Rattle.pure_parser.specs.Stmts.{All, Block, StmtCalls, everything}
+use Rattle.grammar_parser_specs.specs.Parser.{Parser}
+use Rattle.grammar_parser_specs.specs.Exprs.{BodyParser, passing}
+use Rattle.grammar_parser_specs.specs.Stmts.{All, Block, StmtCalls, everything}
 use Rattle.parse_exprs.specs.Env.{body_at, env_at}
 
 -- braced bodies are passed over

@@ -12,9 +12,9 @@ use Rattle.script_grammar.specs.Tree.{Expr, Stmt, Stmts, BracedBody}
 use Rattle.script_grammar.specs.TreeLists.{Bind, Clause, maybe_expr_of, binds_of, stmts_of}
 use Rattle.script_grammar.specs.declared.node.NodeClause.{NodeClause}
 use Rattle.script_grammar.specs.declared.tree.Ident.{Ident}
-use Rattle.pure_parser.specs.Parser.{Many}
-use Rattle.pure_parser.specs.Exprs.{BodyRead}
-use Rattle.pure_parser.specs.Stmts as pure
+use Rattle.grammar_parser_specs.specs.Parser.{Many}
+use Rattle.grammar_parser_specs.specs.Exprs.{BodyRead}
+use Rattle.grammar_parser_specs.specs.Stmts as pure
 use Rattle.parse_exprs.specs.Means.{ending_as, RankedOf}
 use Rattle.parse_exprs.specs.declared.part.Ranked.{Ranked}
 use Rattle.parse_bodies.specs.declared.ending.StmtEnding.{StmtEnding}

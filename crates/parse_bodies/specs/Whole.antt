@@ -10,7 +10,7 @@ use Rattle.script_grammar.specs.Pieces.{depths}
 use Rattle.script_grammar.specs.Print.{print_stmts}
 use Rattle.script_grammar.specs.Script.{IsScript}
 use Rattle.script_grammar.specs.Fault.{depth_limit, ScriptPart, Unexpected, TooDeep, FirstFault}
-use Rattle.pure_parser.specs.Filling.{fill_stmts}
+use Rattle.grammar_parser_specs.specs.Filling.{fill_stmts}
 use Rattle.script_grammar.specs.Braced.{braced_all}
 use Rattle.parse_exprs.specs.declared.source.Source.{Source}
 use Rattle.parse_exprs.specs.declared.place.ParseFault.{ParseFault}
@@ -34,7 +34,7 @@ lacks_memory (Err faults.NoMemory) = true
 lacks_memory _ = false
 
 -- A node for the statements of the script, and one for each braced body of the functions in it, in the order of the source,
--- those inside a body behind it. In each of them the body of a function has the statements that the interpretation gives to it.
+-- those inside a body after it. In each of them the body of a function has the statements that the interpretation gives to it.
 pub record IsRead {B : Type 0} (i : Interpretation) (shows : B → Stmts → Type 0) (s : Source) (script : Script B) : Type 0 where
   pub items : Stmts
   pub is : IsText (lexemes s i) items

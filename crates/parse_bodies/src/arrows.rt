@@ -4,8 +4,8 @@ ghost use Rattle.std.specs.Prelude.{◌≡◌, None};
 ghost use Rattle.script_grammar.specs.Interpretation.{Interpretation};
 ghost use Rattle.script_grammar.specs.Shows.{ShowParam, ParamOf, FuncOf};
 ghost use Rattle.script_grammar.specs.TreeLists as part;
-ghost use Rattle.pure_parser.specs.Parser.{led};
-ghost use Rattle.pure_parser.specs.Stmts as pure;
+ghost use Rattle.grammar_parser_specs.specs.Parser.{led};
+ghost use Rattle.grammar_parser_specs.specs.Stmts as pure;
 ghost use Rattle.parse_exprs.specs.Answers.{Reads};
 ghost use Rattle.parse_exprs.specs.Env.{env_at};
 ghost use Rattle.parse_exprs.specs.Means.{TurnOf, ItemsOf, ParamsEndOf, ParamsOf};
@@ -43,7 +43,7 @@ fn strict_param<H: Handler>(
     Ok(Turned::Next(param))
 }
 
-/// A parameter behind a comma, or none where the parenthesis closes.
+/// A parameter after a comma, or none where the parenthesis closes.
 #[tactic(auto, unfolding(pure_parser::specs::Stmts::strict_next))]
 fn strict_next<H: Handler>(
     state: &mut State<H>,
@@ -76,7 +76,7 @@ fn strict_turn<H: Handler>(
     strict_next(state, source, depth)
 }
 
-/// The parameters behind the first.
+/// The parameters after the first.
 fn strict_led<H: Handler>(
     state: &mut State<H>,
     source: &Source,
@@ -96,7 +96,7 @@ fn strict_led<H: Handler>(
     }
 }
 
-/// The parameters in parentheses, behind the one that opens.
+/// The parameters in parentheses, after the one that opens.
 #[tactic(auto, unfolding(pure_parser::specs::Stmts::strict_params))]
 fn strict_params<H: Handler>(
     state: &mut State<H>,

@@ -4,8 +4,8 @@ ghost use Rattle.std.specs.Prelude.{◌≡◌};
 ghost use Rattle.script_grammar.specs.Interpretation.{Interpretation, named};
 ghost use Rattle.script_grammar.specs.Shows.{MaybeOf};
 ghost use Rattle.script_grammar.specs.TreeLists as model;
-ghost use Rattle.pure_parser.specs.Parser.{led};
-ghost use Rattle.pure_parser.specs.Stmts as pure;
+ghost use Rattle.grammar_parser_specs.specs.Parser.{led};
+ghost use Rattle.grammar_parser_specs.specs.Stmts as pure;
 ghost use Rattle.parse_exprs.specs.Answers.{Reads};
 ghost use Rattle.parse_exprs.specs.Env.{env_at};
 ghost use Rattle.parse_exprs.specs.Means.{Itself, TurnOf};
@@ -62,7 +62,7 @@ fn bound<E>(name: Ident, value: Option<Ranked<E>>) -> EndedBind<E>
     }
 }
 
-/// What stands behind a name that is declared.
+/// What stands after a name that is declared.
 #[tactic(auto, unfolding(pure_parser::specs::Stmts::bind_from))]
 fn bind_from<H: Handler>(
     state: &mut State<H>,
@@ -94,7 +94,7 @@ fn bind<H: Handler>(
     Ok(bind)
 }
 
-/// A name behind a comma, where one stands here.
+/// A name after a comma, where one stands here.
 #[tactic(auto, unfolding(pure_parser::specs::Stmts::bind_turn))]
 fn bind_turn<H: Handler>(
     state: &mut State<H>,
@@ -113,7 +113,7 @@ fn bind_turn<H: Handler>(
     Ok(Turned::Next(item))
 }
 
-/// The names behind the first.
+/// The names after the first.
 fn binds_led<H: Handler>(
     state: &mut State<H>,
     source: &Source,
@@ -138,7 +138,7 @@ fn binds_led<H: Handler>(
     }
 }
 
-/// What stands behind the first name of a list.
+/// What stands after the first name of a list.
 #[tactic(auto, unfolding(pure_parser::specs::Stmts::binds_from))]
 pub fn binds_from<H: Handler>(
     state: &mut State<H>,
@@ -155,7 +155,7 @@ pub fn binds_from<H: Handler>(
     Ok(binds)
 }
 
-/// A declaration of variables, behind its word.
+/// A declaration of variables, after its word.
 #[tactic(auto, unfolding(pure_parser::specs::Stmts::binding_of))]
 pub fn binding<H: Handler>(
     state: &mut State<H>,

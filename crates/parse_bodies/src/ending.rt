@@ -3,7 +3,7 @@
 ghost use Rattle.std.specs.Prelude.{◌≡◌};
 ghost use Rattle.script_grammar.specs.Interpretation.{Interpretation};
 ghost use Rattle.script_grammar.specs.Pieces as grammar;
-ghost use Rattle.pure_parser.specs.Parser.{head_of};
+ghost use Rattle.grammar_parser_specs.specs.Parser.{head_of};
 ghost use Rattle.parse_exprs.specs.Source.{IsSource, front};
 ghost use Rattle.parse_bodies.specs.Means.{stmt_ending};
 
@@ -13,14 +13,14 @@ use parse_exprs::place::Place;
 use parse_exprs::source::Source;
 use script_grammar::token::{Kind, mark};
 
-/// How a statement ends, as far as a semicolon that is left out behind it asks.
+/// How a statement ends, as far as a semicolon that is left out after it asks.
 #[derive(Clone, Copy, Debug)]
 pub enum StmtEnding {
     /// With an expression.
     Value(Ending),
     /// With a binding that has no initializer.
     BareBinding,
-    /// With `return`, `break` or `continue` that has nothing behind it, with a label, or with `debugger`.
+    /// With `return`, `break` or `continue` that has nothing after it, with a label, or with `debugger`.
     Keyword,
     /// With the parenthesis of a do-while.
     DoWhile,
@@ -66,7 +66,7 @@ fn is_do_while(ending: StmtEnding) -> bool
     matches!(ending, StmtEnding::DoWhile)
 }
 
-/// Whether a semicolon may be left out before the present token, behind a statement with this ending.
+/// Whether a semicolon may be left out before the present token, after a statement with this ending.
 pub fn may_omit(place: &Place, source: &Source, ending: StmtEnding) -> bool
     requires { IsSource source.now }
     ensures { (i : Interpretation) → result ≡ grammar.may_omit (stmt_ending ending) (head_of (front source.now i place.now.at)) }

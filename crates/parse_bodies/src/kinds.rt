@@ -1,7 +1,7 @@
 //! Tests of what a token is, as the parser of statements asks them.
 
 ghost use Rattle.std.specs.Prelude.{◌≡◌};
-ghost use Rattle.pure_parser.specs.Stmts as pure;
+ghost use Rattle.grammar_parser_specs.specs.Stmts as pure;
 ghost use Rattle.parse_bodies.specs.Means.{place_of};
 
 use crate::position::Position;
@@ -43,7 +43,7 @@ pub fn begins_stmt(position: Position, kind: Kind) -> bool
         || (position.returns() && is_word(kind, word::RETURN))
 }
 
-/// Whether a token of this kind stands behind a list of statements.
+/// Whether a token of this kind stands after a list of statements.
 pub fn ends_items(kind: Kind) -> bool
     ensures { result ≡ pure.ends_items kind }
 {

@@ -1,7 +1,7 @@
 //! The parser of statements, function bodies and scripts, over tokens and for every handler.
 //!
 //! It stands on parse_exprs, which reads the expressions and the heads of functions, and is stated as it is: each function
-//! answers what the function of the same name of pure_parser answers. One clause says so, as of `expect_word`:
+//! answers what the function of the same name of grammar_parser_specs answers. One clause says so, as of `expect_word`:
 //!
 //! `(i : Interpretation) → Reads Itself (pure.expect_word word) source.now i place.old place.new result`
 //!

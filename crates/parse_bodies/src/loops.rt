@@ -7,9 +7,9 @@ ghost use Rattle.script_grammar.specs.Shows.{ShowInit, ShowEach};
 ghost use Rattle.script_grammar.specs.Tree as model;
 ghost use Rattle.script_grammar.specs.Kinds as test;
 ghost use Rattle.script_grammar.specs.declared.token.word.TheConstants as word;
-ghost use Rattle.pure_parser.specs.Parser.{head_of, bind};
-ghost use Rattle.pure_parser.specs.Exprs.{expr_of};
-ghost use Rattle.pure_parser.specs.Stmts as pure;
+ghost use Rattle.grammar_parser_specs.specs.Parser.{head_of, bind};
+ghost use Rattle.grammar_parser_specs.specs.Exprs.{expr_of};
+ghost use Rattle.grammar_parser_specs.specs.Stmts as pure;
 ghost use Rattle.parse_exprs.specs.Answers.{Reads};
 ghost use Rattle.parse_exprs.specs.Env.{env_at};
 ghost use Rattle.parse_exprs.specs.Ranks.{rank_of};
@@ -33,7 +33,7 @@ use script_grammar::node::{NodeEach, NodeInit};
 use script_grammar::token::{Decl, mark, word};
 use script_grammar::tree::Ident;
 
-/// `while`, behind its word.
+/// `while`, after its word.
 #[cycle(stmts)]
 #[tactic(auto, unfolding(pure_parser::specs::Stmts::while_of))]
 pub fn while_from<H: Handler>(
@@ -52,7 +52,7 @@ pub fn while_from<H: Handler>(
     Ok(StmtNode { node, takes_else })
 }
 
-/// `do`, behind its word.
+/// `do`, after its word.
 #[cycle(stmts)]
 #[tactic(auto, unfolding(pure_parser::specs::Stmts::do_of))]
 pub fn do_from<H: Handler>(
@@ -75,7 +75,7 @@ pub fn do_from<H: Handler>(
     })
 }
 
-/// A `for` with two semicolons, behind what begins its head.
+/// A `for` with two semicolons, after what begins its head.
 #[cycle(stmts)]
 #[tactic(auto, unfolding(pure_parser::specs::Stmts::for_from))]
 fn for_from<H: Handler>(
@@ -99,7 +99,7 @@ fn for_from<H: Handler>(
     Ok(StmtNode { node, takes_else })
 }
 
-/// A for-in, behind its `in`.
+/// A for-in, after its `in`.
 #[cycle(stmts)]
 #[tactic(auto, unfolding(pure_parser::specs::Stmts::for_in_from))]
 fn for_in_from<H: Handler>(
@@ -120,7 +120,7 @@ fn for_in_from<H: Handler>(
     Ok(StmtNode { node, takes_else })
 }
 
-/// A `for` whose head begins with a declaration, behind its first name.
+/// A `for` whose head begins with a declaration, after its first name.
 #[cycle(stmts)]
 #[tactic(auto, unfolding(pure_parser::specs::Stmts::for_named))]
 fn for_named<H: Handler>(
@@ -146,7 +146,7 @@ fn for_named<H: Handler>(
     for_from(state, source, returns, init, depth)
 }
 
-/// A `for` whose head begins with a declaration, behind its word.
+/// A `for` whose head begins with a declaration, after its word.
 #[cycle(stmts)]
 #[tactic(auto, unfolding(pure_parser::specs::Stmts::for_decl))]
 fn for_decl<H: Handler>(
@@ -170,7 +170,7 @@ fn may_be_each(of: Rank) -> bool
     matches!(of, Rank::Head | Rank::Left)
 }
 
-/// Whether a for-in goes on here behind an expression that binds so.
+/// Whether a for-in goes on here after an expression that binds so.
 fn is_for_in(place: &Place, source: &Source, of: Rank) -> bool
     requires { IsSource source.now }
     ensures { (i : Interpretation) (t : model.Expr) → of ≡ rank_of t → result ≡ (test.is_word word.IN (head_of (front source.now i place.now.at)).kind && nat_le (rank t) left_rank) }
@@ -179,7 +179,7 @@ fn is_for_in(place: &Place, source: &Source, of: Rank) -> bool
     place.is_word(source, word::IN) && each
 }
 
-/// A `for` whose head begins with an Expression, behind this.
+/// A `for` whose head begins with an Expression, after this.
 #[cycle(stmts)]
 #[tactic(auto, unfolding(pure_parser::specs::Stmts::for_valued))]
 fn for_valued<H: Handler>(
@@ -214,7 +214,7 @@ fn for_expr<H: Handler>(
     for_valued(state, source, returns, value, depth)
 }
 
-/// What stands behind the parenthesis of a `for`.
+/// What stands after the parenthesis of a `for`.
 #[cycle(stmts)]
 #[tactic(auto, unfolding(pure_parser::specs::Stmts::for_head))]
 fn for_head<H: Handler>(
@@ -244,7 +244,7 @@ fn for_head<H: Handler>(
     for_expr(state, source, returns, depth)
 }
 
-/// `for`, behind its word.
+/// `for`, after its word.
 #[cycle(stmts)]
 #[tactic(auto, unfolding(pure_parser::specs::Stmts::for_of))]
 pub fn for_stmt<H: Handler>(

@@ -3,7 +3,7 @@
 use crate::ending::StmtEnding;
 use script_grammar::node::NodeBind;
 
-/// A statement, and whether an `else` behind it would be its own.
+/// A statement, and whether an `else` after it would be its own.
 #[derive(Drop)]
 pub struct StmtNode<S> {
     pub node: S,

@@ -2,8 +2,8 @@
 
 ghost use Rattle.std.specs.Prelude.{◌≡◌};
 ghost use Rattle.script_grammar.specs.Interpretation.{Interpretation};
-ghost use Rattle.pure_parser.specs.Parser.{head_of, rest_of};
-ghost use Rattle.pure_parser.specs.Stmts as pure;
+ghost use Rattle.grammar_parser_specs.specs.Parser.{head_of, rest_of};
+ghost use Rattle.grammar_parser_specs.specs.Stmts as pure;
 ghost use Rattle.parse_exprs.specs.Answers.{Reads};
 ghost use Rattle.parse_exprs.specs.Means.{Itself, NameOf, MaybeNameOf};
 ghost use Rattle.parse_exprs.specs.Source.{IsSource, front};
@@ -30,7 +30,7 @@ pub fn expect_word(place: &mut Place, source: &Source, word: u8) -> Result<(), P
     Ok(())
 }
 
-/// Goes past a semicolon, or leaves it out, behind a statement with this ending; whether it is written.
+/// Goes past a semicolon, or leaves it out, after a statement with this ending; whether it is written.
 #[tactic(auto, unfolding(pure_parser::specs::Stmts::semi_of))]
 pub fn semi(place: &mut Place, source: &Source, ending: StmtEnding) -> Result<bool, ParseFault>
     requires { IsSource source.now }
@@ -80,7 +80,7 @@ pub fn ends_return(place: &Place, source: &Source) -> bool
         || is_end(token.kind)
 }
 
-/// Whether a label stands here: a name and a colon behind it.
+/// Whether a label stands here: a name and a colon after it.
 pub fn is_label(place: &Place, source: &Source) -> bool
     requires { IsSource source.now }
     ensures { (i : Interpretation) → result ≡ pure.is_label (head_of (front source.now i place.now.at)) (head_of (rest_of (front source.now i place.now.at))) }
@@ -89,7 +89,7 @@ pub fn is_label(place: &Place, source: &Source) -> bool
     place.is_name(source) && is_mark(next.kind, mark::COLON)
 }
 
-/// Reads the parameter of a `catch` behind its parenthesis, and the one that closes it.
+/// Reads the parameter of a `catch` after its parenthesis, and the one that closes it.
 #[tactic(auto, unfolding(pure_parser::specs::Stmts::catch_name))]
 fn catch_name(place: &mut Place, source: &Source) -> Result<Ident, ParseFault>
     requires { IsSource source.now }

@@ -1,7 +1,7 @@
 //! Where a statement stands.
 
 ghost use Rattle.std.specs.Prelude.{◌≡◌};
-ghost use Rattle.pure_parser.specs.Stmts as pure;
+ghost use Rattle.grammar_parser_specs.specs.Stmts as pure;
 ghost use Rattle.parse_bodies.specs.Means.{place_of};
 
 /// Where a statement stands: in a list of statements, where declarations may stand too, or alone, as a loop's body.

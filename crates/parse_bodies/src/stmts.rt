@@ -6,8 +6,8 @@ ghost use Rattle.script_grammar.specs.Proper.{takes_else};
 ghost use Rattle.script_grammar.specs.Shows.{NodeOf};
 ghost use Rattle.script_grammar.specs.Tree as model;
 ghost use Rattle.script_grammar.specs.TreeLists as list;
-ghost use Rattle.pure_parser.specs.Parser.{loop};
-ghost use Rattle.pure_parser.specs.Stmts as pure;
+ghost use Rattle.grammar_parser_specs.specs.Parser.{loop};
+ghost use Rattle.grammar_parser_specs.specs.Stmts as pure;
 ghost use Rattle.parse_exprs.specs.Answers.{Reads, Makes};
 ghost use Rattle.parse_exprs.specs.Means.{Itself, TurnOf, ItemsOf};
 ghost use Rattle.parse_exprs.specs.Source.{IsSource};
@@ -85,7 +85,7 @@ pub fn stmts_from<H: Handler>(
     Ok(stmts.items)
 }
 
-/// Statements in braces, behind the first brace.
+/// Statements in braces, after the first brace.
 #[cycle(stmts)]
 #[tactic(auto, unfolding(pure_parser::specs::Stmts::braced_from))]
 fn braced_from<H: Handler>(
@@ -119,7 +119,7 @@ fn braced<H: Handler>(
     Ok(stmts)
 }
 
-/// A block, behind its brace.
+/// A block, after its brace.
 #[cycle(stmts)]
 #[tactic(auto, unfolding(pure_parser::specs::Stmts::block_stmt))]
 fn block_stmt<H: Handler>(
@@ -159,7 +159,7 @@ fn else_part<H: Handler>(
     Ok(Some(no))
 }
 
-/// The same behind a statement that may take the `else` itself.
+/// The same after a statement that may take the `else` itself.
 #[cycle(stmts)]
 fn else_behind<H: Handler>(
     state: &mut State<H>,
@@ -203,7 +203,7 @@ fn make_if<H: Handler>(
     }
 }
 
-/// `if`, behind its word. An `else` belongs to the nearest one.
+/// `if`, after its word. An `else` belongs to the nearest one.
 #[cycle(stmts)]
 #[tactic(auto, unfolding(pure_parser::specs::Stmts::if_of))]
 fn if_from<H: Handler>(
@@ -221,7 +221,7 @@ fn if_from<H: Handler>(
     make_if(state, test, yes.node, no)
 }
 
-/// `try`, behind its word.
+/// `try`, after its word.
 #[cycle(stmts)]
 #[tactic(auto, unfolding(pure_parser::specs::Stmts::try_of))]
 fn try_from<H: Handler>(

@@ -4,8 +4,8 @@ ghost use Rattle.std.specs.Prelude.{◌≡◌, ◌++◌, Option, Some};
 ghost use Rattle.script_grammar.specs.Interpretation.{Interpretation};
 ghost use Rattle.script_grammar.specs.Shows.{ShowMaybe, ShowClause, ClauseOf};
 ghost use Rattle.script_grammar.specs.TreeLists as list;
-ghost use Rattle.pure_parser.specs.Parser.{loop};
-ghost use Rattle.pure_parser.specs.Stmts as pure;
+ghost use Rattle.grammar_parser_specs.specs.Parser.{loop};
+ghost use Rattle.grammar_parser_specs.specs.Stmts as pure;
 ghost use Rattle.parse_exprs.specs.Answers.{Reads, Makes};
 ghost use Rattle.parse_exprs.specs.Means.{Itself, TurnOf, ItemsOf};
 ghost use Rattle.parse_exprs.specs.Source.{IsSource};
@@ -23,7 +23,7 @@ use script_grammar::handler::Handler;
 use script_grammar::node::NodeClause;
 use script_grammar::token::{mark, word};
 
-/// A clause of a `switch`, behind the word `case`.
+/// A clause of a `switch`, after the word `case`.
 #[cycle(stmts)]
 #[tactic(auto, unfolding(pure_parser::specs::Stmts::case_of))]
 fn case_clause<H: Handler>(
@@ -44,7 +44,7 @@ fn case_clause<H: Handler>(
     })
 }
 
-/// A clause of a `switch`, behind the word `default`.
+/// A clause of a `switch`, after the word `default`.
 #[cycle(stmts)]
 #[tactic(auto, unfolding(pure_parser::specs::Stmts::default_of))]
 fn default_clause<H: Handler>(
@@ -61,7 +61,7 @@ fn default_clause<H: Handler>(
     Ok(NodeClause { test: None, items })
 }
 
-/// A clause behind a default, where one stands here.
+/// A clause after a default, where one stands here.
 #[cycle(stmts)]
 #[tactic(auto, unfolding(pure_parser::specs::Stmts::case_turn))]
 fn case_turn<H: Handler>(
@@ -81,7 +81,7 @@ fn case_turn<H: Handler>(
     Ok(Turned::Next(item))
 }
 
-/// The clauses behind a default.
+/// The clauses after a default.
 #[cycle(stmts)]
 fn cases<H: Handler>(
     state: &mut State<H>,
@@ -146,7 +146,7 @@ fn clauses_to_default<H: Handler>(
     }
 }
 
-/// The items of the first list and, behind them, those of the second.
+/// The items of the first list and, after them, those of the second.
 fn joined<T: Drop>(mut front: Vec<T>, mut back: Vec<T>) -> Result<Vec<T>, ParseFault>
     ensures { Makes result (λ v. v.items ≡ front.items ++ back.items) }
 {
@@ -154,7 +154,7 @@ fn joined<T: Drop>(mut front: Vec<T>, mut back: Vec<T>) -> Result<Vec<T>, ParseF
     Ok(front)
 }
 
-/// A default and the clauses behind it.
+/// A default and the clauses after it.
 #[cycle(stmts)]
 #[tactic(auto, unfolding(pure_parser::specs::Stmts::more_clauses))]
 fn behind_default<H: Handler>(
@@ -173,7 +173,7 @@ fn behind_default<H: Handler>(
     joined(first, cases.items)
 }
 
-/// The default, if there is one, and the clauses behind it.
+/// The default, if there is one, and the clauses after it.
 #[cycle(stmts)]
 #[tactic(auto, unfolding(pure_parser::specs::Stmts::more_clauses))]
 fn more_clauses<H: Handler>(
@@ -209,7 +209,7 @@ fn clauses_from<H: Handler>(
     joined(read.items, more)
 }
 
-/// `switch`, behind its word.
+/// `switch`, after its word.
 #[cycle(stmts)]
 #[tactic(auto, unfolding(pure_parser::specs::Stmts::switch_of))]
 pub fn switch_from<H: Handler>(

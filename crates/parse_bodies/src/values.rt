@@ -3,7 +3,7 @@
 ghost use Rattle.std.specs.Prelude.{◌≡◌, option_map};
 ghost use Rattle.script_grammar.specs.Interpretation.{Interpretation};
 ghost use Rattle.script_grammar.specs.Shows.{NodeOf, MaybeOf};
-ghost use Rattle.pure_parser.specs.Stmts as pure;
+ghost use Rattle.grammar_parser_specs.specs.Stmts as pure;
 ghost use Rattle.parse_exprs.specs.Answers.{Reads};
 ghost use Rattle.parse_exprs.specs.Env.{env_at};
 ghost use Rattle.parse_exprs.specs.Means.{RankedOf};
@@ -92,7 +92,7 @@ fn return_ending<E>(value: &Option<Ranked<E>>) -> StmtEnding
     }
 }
 
-/// `return`, behind the word.
+/// `return`, after the word.
 #[tactic(auto, unfolding(pure_parser::specs::Stmts::return_of))]
 pub fn return_from<H: Handler>(
     state: &mut State<H>,
@@ -130,7 +130,7 @@ fn thrown<H: Handler>(
     state.expr(source, true, depth)
 }
 
-/// `throw`, behind the word.
+/// `throw`, after the word.
 #[tactic(auto, unfolding(pure_parser::specs::Stmts::throw_of))]
 pub fn throw_from<H: Handler>(
     state: &mut State<H>,
@@ -149,7 +149,7 @@ pub fn throw_from<H: Handler>(
     })
 }
 
-/// A function declaration, behind the word `function`.
+/// A function declaration, after the word `function`.
 #[tactic(auto, unfolding(pure_parser::specs::Stmts::declared_of))]
 pub fn declared<H: Handler>(
     state: &mut State<H>,

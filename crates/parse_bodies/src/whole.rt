@@ -2,7 +2,7 @@
 
 ghost use Rattle.std.specs.Prelude.{◌≡◌, []};
 ghost use Rattle.script_grammar.specs.Interpretation.{Interpretation};
-ghost use Rattle.pure_parser.specs.Stmts as pure;
+ghost use Rattle.grammar_parser_specs.specs.Stmts as pure;
 ghost use Rattle.parse_exprs.specs.Answers.{Answers};
 ghost use Rattle.parse_exprs.specs.Source.{IsSource, front};
 ghost use Rattle.parse_bodies.specs.Blocks.{stmts_at};
@@ -45,8 +45,8 @@ fn pending_body<H: Handler>(
     body(state, source, pending.depth)
 }
 
-/// A script and the bodies of all functions in it, or the first fault of all. Each body is read behind the one around it, and
-/// before what stands behind that; then all are pending, in this order.
+/// A script and the bodies of all functions in it, or the first fault of all. Each body is read after the one around it, and
+/// before what stands after that; then all are pending, in this order.
 pub fn whole<H: Handler>(state: &mut State<H>, source: &Source) -> Result<Script<H::B>, ParseFault>
     requires source { IsSource source.now }
     requires start { state.old.place.at ≡ 0 }

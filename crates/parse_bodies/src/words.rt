@@ -2,8 +2,8 @@
 
 ghost use Rattle.script_grammar.specs.Interpretation.{Interpretation};
 ghost use Rattle.script_grammar.specs.Tree.{Empty};
-ghost use Rattle.pure_parser.specs.Parser.{ret};
-ghost use Rattle.pure_parser.specs.Stmts as pure;
+ghost use Rattle.grammar_parser_specs.specs.Parser.{ret};
+ghost use Rattle.grammar_parser_specs.specs.Stmts as pure;
 ghost use Rattle.parse_exprs.specs.Answers.{Reads};
 ghost use Rattle.parse_exprs.specs.Means.{NameOf};
 ghost use Rattle.parse_exprs.specs.Source.{IsSource};
@@ -20,7 +20,7 @@ use parse_exprs::state::State;
 use script_grammar::handler::Handler;
 use script_grammar::tree::Ident;
 
-/// `debugger`, behind the word.
+/// `debugger`, after the word.
 #[tactic(auto, unfolding(pure_parser::specs::Stmts::debugger_of))]
 pub fn debugger<H: Handler>(
     state: &mut State<H>,
@@ -37,7 +37,7 @@ pub fn debugger<H: Handler>(
     })
 }
 
-/// `continue`, behind the word that starts at this offset.
+/// `continue`, after the word that starts at this offset.
 #[tactic(auto, unfolding(pure_parser::specs::Stmts::continue_of))]
 pub fn continue_from<H: Handler>(
     state: &mut State<H>,
@@ -56,7 +56,7 @@ pub fn continue_from<H: Handler>(
     })
 }
 
-/// `break`, behind the word that starts at this offset.
+/// `break`, after the word that starts at this offset.
 #[tactic(auto, unfolding(pure_parser::specs::Stmts::break_of))]
 pub fn break_from<H: Handler>(
     state: &mut State<H>,
@@ -91,7 +91,7 @@ pub fn label<H: Handler>(
     state.place.name(source)
 }
 
-/// The empty statement, behind its semicolon.
+/// The empty statement, after its semicolon.
 pub fn empty<H: Handler>(state: &mut State<H>) -> Result<StmtNode<H::S>, ParseFault>
     ensures { (i : Interpretation) (source : Source) → Reads (StmtOf (H.shows_stmt i)) (ret Empty) source i state.old.place state.new.place result }
 {

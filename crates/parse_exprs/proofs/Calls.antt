@@ -2,8 +2,8 @@
 use Rattle.std.proofs.Common.{◌≡◌, ◌∙◌, ℕ, zero, suc, ◌+◌, ◌-◌, ◌<◌, ◌≤◌, List, Bool, true, false, sym, ap, subst, arith, if◌then◌else◌, Result}
 use Rattle.script_grammar.specs.Interpretation.{Interpretation}
 use Rattle.script_grammar.specs.Lexeme.{Lexeme}
-use Rattle.pure_parser.specs.Parser.{Recorded, head_of, noted, deep, bad, when, no_room}
-use Rattle.pure_parser.specs.Exprs.{Call, Result as Answer, calls, call_case, begins_call, passing}
+use Rattle.grammar_parser_specs.specs.Parser.{Recorded, head_of, noted, deep, bad, when, no_room}
+use Rattle.grammar_parser_specs.specs.Exprs.{Call, Result as Answer, calls, call_case, begins_call, passing}
 use Rattle.parse_exprs.specs.declared.source.Source.{Source}
 use Rattle.parse_exprs.specs.declared.place.Place.{Place}
 use Rattle.parse_exprs.specs.declared.place.ParseFault.{ParseFault}

@@ -14,7 +14,7 @@ use Rattle.script_grammar.specs.Shows.{TailOf, ShowTail, ShowMaybe, ShowArgs}
 use Rattle.script_grammar.specs.Tree.{Expr, Tail}
 use Rattle.script_grammar.specs.Tree as model
 use Rattle.script_grammar.specs.TreeLists.{Args, exprs_of}
-use Rattle.pure_parser.specs.Exprs.{atom_case}
+use Rattle.grammar_parser_specs.specs.Exprs.{atom_case}
 use Rattle.parse_exprs.specs.declared.part.Rank.TheVariants as ranks
 use Rattle.parse_exprs.specs.Means.{MaybeArgsOf}
 use Rattle.parse_exprs.specs.Ranks.{rank_of}

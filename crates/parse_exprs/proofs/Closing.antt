@@ -10,15 +10,15 @@ use Rattle.script_grammar.specs.Interpretation.{Interpretation}
 use Rattle.script_grammar.specs.Lexeme.{Lexeme}
 use Rattle.script_grammar.specs.Matching.{part_of, part_at, next_open, all_open}
 use Rattle.script_grammar.specs.Pieces.{Opener, open_behind, open_at_end}
-use Rattle.pure_parser.specs.Parser.{end_lexeme}
-use Rattle.pure_parser.proofs.Bracketed.{kinds, openers, AllInner, open_behind-next}
-use Rattle.pure_parser.proofs.Closed.{Ended}
-use Rattle.pure_parser.proofs.Nested.{open_step, open_append}
+use Rattle.grammar_parser_specs.specs.Parser.{end_lexeme}
+use Rattle.grammar_script_laws.proofs.Bracketed.{kinds, openers, AllInner, open_behind-next}
+use Rattle.grammar_script_laws.proofs.Closed.{Ended}
+use Rattle.grammar_parser_laws.proofs.Nested.{open_step, open_append}
 use Rattle.parse_exprs.specs.declared.source.Source.{Source}
 use Rattle.parse_exprs.specs.Source.{IsSource, lexemes, ends_all}
 use Rattle.parse_exprs.proofs.Partners.{inner_kind, true_false, ls, within, inner, matches, kind_at, more, stop_ends}
 
--- brackets that are open behind tokens of a text
+-- brackets that are open after tokens of a text
 pub opens_all : (us : List Lexeme) (st o : List Bracket) → AllInner us → all_open st (kinds us) ≡ Some o → open_at_end (openers st) us ≡ Some (openers o)
 opens_all [] st o h e = ap (λ (x : Option (List Bracket)). elim x [ None ↦ None | Some y ↦ Some (openers y) ]) e
 opens_all (t ∷ us) st o h e = past (next_open st (part_of t.kind)) refl (λ s. opens_all us s o h.1) e

@@ -6,8 +6,8 @@ use Rattle.script_grammar.specs.Pieces.{Ending}
 use Rattle.script_grammar.specs.Shows.{ShowAll}
 use Rattle.script_grammar.specs.Tree.{Expr}
 use Rattle.script_grammar.specs.TreeLists.{Operand, exprs_of, operands_of}
-use Rattle.pure_parser.specs.Parser.{Recorded, Parser, Reply, Turn, Again, Stop, Many, loop}
-use Rattle.pure_parser.proofs.Local.{Gains}
+use Rattle.grammar_parser_specs.specs.Parser.{Recorded, Parser, Reply, Turn, Again, Stop, Many, loop}
+use Rattle.grammar_parser_laws.proofs.Local.{Gains}
 use Rattle.parse_exprs.specs.Answers.{ReadAs}
 use Rattle.parse_exprs.proofs.Loops.{Looping, looping_init, looping_again, looping_stop, init_done, again_done, stop_done}
 

@@ -10,9 +10,9 @@ use Rattle.script_grammar.specs.Lexeme.{Lexeme}
 use Rattle.script_grammar.specs.Tree.{Expr}
 use Rattle.script_grammar.specs.Tree as model
 use Rattle.script_grammar.specs.TreeLists.{Args, exprs_of}
-use Rattle.pure_parser.specs.Parser.{Recorded, Reply, Parser, head_of, rest_of, after, ret, Again, Stop}
-use Rattle.pure_parser.specs.Exprs.{Env, AnAssign, more_turn, unary_of, power_operand, power_turn, is_update_expr, operand, is_op, op_turn, level_of, operands_from, power_of, args_of, call_of, tail_turn}
-use Rattle.pure_parser.proofs.LocalExprs.{after_twice}
+use Rattle.grammar_parser_specs.specs.Parser.{Recorded, Reply, Parser, head_of, rest_of, after, ret, Again, Stop}
+use Rattle.grammar_parser_specs.specs.Exprs.{Env, AnAssign, more_turn, unary_of, power_operand, power_turn, is_update_expr, operand, is_op, op_turn, level_of, operands_from, power_of, args_of, call_of, tail_turn}
+use Rattle.grammar_local_laws.proofs.LocalExprs.{after_twice}
 use Rattle.parse_exprs.specs.declared.source.Source.{Source}
 use Rattle.parse_exprs.specs.declared.place.Place.{Place}
 use Rattle.parse_exprs.specs.declared.place.ParseFault.{ParseFault}
@@ -39,7 +39,7 @@ pub power_turn_last : {rs qs : List Recorded} {us : List Lexeme} (v : Env) (ts :
 unfolding power_turn
 power_turn_last v ts e h f k = when_true _ _ h (read_is (made (power_operand (head_of ts)) k) (ap (λ b. if b then Again (operand (head_of ts) e) else Stop (Some (operand (head_of ts) e))) f))
 
--- a level is the level below, and operands behind it
+-- a level is the level below, and operands after it
 pub level_next : (v : Env) (w : Bool) (n : ℕ) (heads : Bool) (ts : List Lexeme) → 0 < n → after (level_of v w (n - 1) heads ts) (operands_from w n (level_of v w (n - 1) false)) ≡ level_of v w n heads ts
 unfolding level_of
 level_next v w zero heads ts h = absurd (omega arith)

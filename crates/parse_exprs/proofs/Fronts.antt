@@ -5,7 +5,7 @@ use Rattle.std.proofs.lemmas.List.{length-map, get_or-map}
 use Rattle.script_grammar.specs.declared.token.Token.{Token}
 use Rattle.script_grammar.specs.Interpretation.{Interpretation}
 use Rattle.script_grammar.specs.Lexeme.{Lexeme, lexeme_of}
-use Rattle.pure_parser.specs.Parser.{head_of, rest_of, end_lexeme}
+use Rattle.grammar_parser_specs.specs.Parser.{head_of, rest_of, end_lexeme}
 use Rattle.parse_exprs.specs.declared.source.Source.{Source}
 use Rattle.parse_exprs.specs.Source.{front, lexemes}
 
@@ -30,7 +30,7 @@ front_none : (s : Source) (i : Interpretation) (at : ℕ) → length s.tokens.no
 unfolding front
 front_none s i at h = drop-all at (lexemes s i) (let e = length-map s.tokens.now (lexeme_of s.get s.set i.texts) in omega arith)
 
--- behind the last token
+-- after the last token
 pub front_end : (s : Source) (i : Interpretation) (at : ℕ) → length s.tokens.now ≤ at → front s i at ≡ rest_of (front s i at)
 front_end s i at h = front_none s i at h ∙ sym (ap rest_of (front_none s i at h))
 

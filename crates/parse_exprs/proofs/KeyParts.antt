@@ -11,8 +11,8 @@ use Rattle.script_grammar.specs.Kinds.{is_name}
 use Rattle.script_grammar.specs.Lexeme.{Lexeme, lexeme_of}
 use Rattle.script_grammar.specs.Shows.{KeyOf, ShowKey}
 use Rattle.script_grammar.specs.Tree.{Expr, Key}
-use Rattle.pure_parser.specs.Exprs as pure
-use Rattle.pure_parser.specs.Parser.{Recorded, Reply}
+use Rattle.grammar_parser_specs.specs.Exprs as pure
+use Rattle.grammar_parser_specs.specs.Parser.{Recorded, Reply}
 use Rattle.parse_exprs.specs.Answers.{ReadAs}
 use Rattle.parse_exprs.specs.Source.{has_atom}
 use Rattle.parse_exprs.proofs.TokenTexts.{atom_text}

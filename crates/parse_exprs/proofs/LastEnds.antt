@@ -4,9 +4,9 @@ use Rattle.std.proofs.lemmas.Bool.Decides.{nat_tests}
 use Rattle.std.proofs.lemmas.List.{length-drop, length-map, get_or-drop, get_or-map}
 use Rattle.script_grammar.specs.Interpretation.{Interpretation}
 use Rattle.script_grammar.specs.Lexeme.{Lexeme, lexeme_of}
-use Rattle.pure_parser.specs.Parser.{Recorded, Reply, Read, Bad, Deep, Parser, noted, end_lexeme}
-use Rattle.pure_parser.specs.Exprs.{last_end, spanned, spanned_reply}
-use Rattle.pure_parser.proofs.Local.{Eats, Ate}
+use Rattle.grammar_parser_specs.specs.Parser.{Recorded, Reply, Read, Bad, Deep, Parser, noted, end_lexeme}
+use Rattle.grammar_parser_specs.specs.Exprs.{last_end, spanned, spanned_reply}
+use Rattle.grammar_parser_laws.proofs.Local.{Eats, Ate}
 use Rattle.parse_exprs.specs.declared.source.Source.{Source}
 use Rattle.parse_exprs.specs.declared.place.Place.{Place}
 use Rattle.parse_exprs.specs.declared.place.ParseFault.{ParseFault}

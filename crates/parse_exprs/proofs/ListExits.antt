@@ -7,8 +7,8 @@ use Rattle.script_grammar.specs.Shows.{ShowAll, ShowMaybe}
 use Rattle.script_grammar.specs.Tree.{Expr}
 use Rattle.script_grammar.specs.Tree as model
 use Rattle.script_grammar.specs.TreeLists.{exprs_of}
-use Rattle.pure_parser.specs.Exprs.{has_items, list_case}
-use Rattle.pure_parser.specs.Parser.{Recorded, Reply}
+use Rattle.grammar_parser_specs.specs.Exprs.{has_items, list_case}
+use Rattle.grammar_parser_specs.specs.Parser.{Recorded, Reply}
 use Rattle.parse_exprs.specs.declared.source.Source.{Source}
 use Rattle.parse_exprs.specs.declared.place.Place.{Place}
 use Rattle.parse_exprs.specs.declared.place.ParseFault.{ParseFault}

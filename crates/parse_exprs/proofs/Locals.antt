@@ -1,12 +1,12 @@
--- The parser that the code computes looks at nothing behind the place where it stops.
+-- The parser that the code computes looks at nothing after the place where it stops.
 use Rattle.std.proofs.Common.{ℕ, ◌-◌, refl}
 use Rattle.script_grammar.specs.Fault.{depth_limit}
 use Rattle.script_grammar.specs.Interpretation.{Interpretation}
 use Rattle.script_grammar.specs.Pieces.{passed}
-use Rattle.pure_parser.specs.Exprs.{passing}
-use Rattle.pure_parser.proofs.LocalCalls.{local_room}
-use Rattle.pure_parser.proofs.LocalExprs.{LocalEnv}
-use Rattle.pure_parser.proofs.PassingLaws.{AreBraced, passing_local, passing_sound}
+use Rattle.grammar_parser_specs.specs.Exprs.{passing}
+use Rattle.grammar_local_laws.proofs.LocalCalls.{local_room}
+use Rattle.grammar_local_laws.proofs.LocalExprs.{LocalEnv}
+use Rattle.grammar_local_laws.proofs.PassingLaws.{AreBraced, passing_local, passing_sound}
 use Rattle.parse_exprs.specs.Env.{env_at, body_at}
 
 braced : (i : Interpretation) → AreBraced (body_at i)

@@ -6,9 +6,9 @@ use Rattle.script_grammar.specs.Interpretation.{Interpretation}
 use Rattle.script_grammar.specs.Lexeme.{Lexeme, lexeme_of}
 use Rattle.script_grammar.specs.Shows.{ShowAll}
 use Rattle.script_grammar.specs.Tree.{no_stmts}
-use Rattle.pure_parser.specs.Parser.{Recorded, Parser, Reply, Read, Bad, Deep, noted, after, ret, Turn, Again, Stop, Many, stopped, begun, turned, turns, loop, led}
-use Rattle.pure_parser.proofs.Local.{Gains, Moves, moves_noted}
-use Rattle.pure_parser.proofs.LocalExprs.{after_noted}
+use Rattle.grammar_parser_specs.specs.Parser.{Recorded, Parser, Reply, Read, Bad, Deep, noted, after, ret, Turn, Again, Stop, Many, stopped, begun, turned, turns, loop, led}
+use Rattle.grammar_parser_laws.proofs.Local.{Gains, Moves, moves_noted}
+use Rattle.grammar_local_laws.proofs.LocalExprs.{after_noted}
 use Rattle.parse_exprs.specs.declared.source.Source.{Source}
 use Rattle.parse_exprs.specs.declared.place.Place.{Place}
 use Rattle.parse_exprs.specs.declared.place.ParseFault.{ParseFault}
@@ -23,7 +23,7 @@ with_front xs (Read m rs ts) = Read (record { items = xs ++ m.items; last = m.la
 with_front xs (Bad rs ts) = Bad rs ts
 with_front xs (Deep rs ts) = Deep rs ts
 
--- What a loop that began with this reply, with bodies recorded before, has read, where these bodies are recorded and these lexemes stand behind it.
+-- What a loop that began with this reply, with bodies recorded before, has read, where these bodies are recorded and these lexemes stand after it.
 pub record Looping {E A B : Type 0} (for : E → A → Type 0) (turn : Parser (Turn A B)) (ns : List Recorded) (start : Reply (Many A B)) (rs : List Recorded) (us : List Lexeme) (es : List E) : Type 0 where
   pub done : List A
   pub means : ShowAll for es done
@@ -54,7 +54,7 @@ pub looping_init : {E A B : Type 0} (for : E → A → Type 0) (turn : Parser (T
 unfolding loop
 looping_init for turn rs us = record { done = []; means = tt; fuel = suc (length us); enough = omega arith; read = sym (front_nil _) }
 
--- a loop behind a first item
+-- a loop after a first item
 pub looping_led : {E A B : Type 0} (for : E → A → Type 0) (turn : Parser (Turn A B)) (rs : List Recorded) (us : List Lexeme) (e : E) (a : A) → for e a → Looping for turn rs (led turn a us) rs us (e ∷ [])
 unfolding loop
 looping_led for turn rs us e a h = record { done = a ∷ []; means = (h, tt); fuel = suc (length us); enough = omega arith; read = sym (front_nil _) ∙ front_more [] a rs (turns turn (suc (length us)) us) }
@@ -99,7 +99,7 @@ unfolding again_at
 again_at_done for turn ns start rs qs us vs es e a done zero h r m t s f = absurd (omega arith)
 again_at_done for turn ns start rs qs us vs es e a done (suc n) h r m t s f = refl
 
--- which items a loop has read: at its start, behind a turn, and at its end
+-- which items a loop has read: at its start, after a turn, and at its end
 
 pub init_done : {E A B : Type 0} (for : E → A → Type 0) (turn : Parser (Turn A B)) (rs : List Recorded) (us : List Lexeme) → (looping_init for turn rs us).done ≡ []
 unfolding looping_init

@@ -2,7 +2,7 @@
 use Rattle.std.proofs.Common.{◌≡◌, ℕ, zero, suc, List, [], ◌∷◌, length, nat_eq, false, refl, Result, Ok, Err}
 use Rattle.script_grammar.specs.Interpretation.{Interpretation}
 use Rattle.script_grammar.specs.Shows.{ShowAll}
-use Rattle.pure_parser.specs.Parser.{Recorded, Reply}
+use Rattle.grammar_parser_specs.specs.Parser.{Recorded, Reply}
 use Rattle.parse_exprs.specs.declared.source.Source.{Source}
 use Rattle.parse_exprs.specs.declared.place.Place.{Place}
 use Rattle.parse_exprs.specs.declared.place.ParseFault.{ParseFault}

@@ -4,8 +4,8 @@ use Rattle.script_grammar.specs.Lexeme.{Lexeme}
 use Rattle.script_grammar.specs.Interpretation.{Interpretation}
 use Rattle.script_grammar.specs.Shows.{NodeOf, MaybeOf, ArgsOf, OperandOf, PartOf}
 use Rattle.script_grammar.specs.Tree.{Expr}
-use Rattle.pure_parser.specs.Parser.{Recorded, Reply, Parser, after, when}
-use Rattle.pure_parser.proofs.LocalExprs.{after_noted}
+use Rattle.grammar_parser_specs.specs.Parser.{Recorded, Reply, Parser, after, when}
+use Rattle.grammar_local_laws.proofs.LocalExprs.{after_noted}
 use Rattle.parse_exprs.specs.declared.source.Source.{Source}
 use Rattle.parse_exprs.specs.declared.place.Place.{Place}
 use Rattle.parse_exprs.specs.declared.place.ParseFault.{ParseFault}
@@ -27,7 +27,7 @@ onward gives s i p (Err (faults.Unexpected n)) rs r f m h k = record { is = sym 
 onward gives s i p (Err (faults.TooDeep n)) rs r f m h k = record { is = sym (after_noted rs r f) ∙ ap (λ x. after x f) h.is ∙ k.is }
 onward gives s i p (Err faults.NoMemory) rs r f m h k = tt
 
--- the same behind a test
+-- the same after a test
 
 pub onward_true : {E A : Type 0} {b : Bool} (gives : E → (A → Type 0) → Type 0) (s : Source) (i : Interpretation) (p : Place) (o : Result E ParseFault) (rs : List Recorded) (us : List Lexeme) (f g : Parser A) → b ≡ true → Answers gives s i p o rs (f us) → Answers gives s i p o rs (when b f g us)
 onward_true gives s i p o rs us f g e h = subst (λ x. Answers gives s i p o rs (when x f g us)) (sym e) h

@@ -9,11 +9,11 @@ use Rattle.script_grammar.specs.Interpretation.{Interpretation, named}
 use Rattle.script_grammar.specs.Shows.{ShowAll, ShowParam, ParamOf, MaybeOf}
 use Rattle.script_grammar.specs.Lexeme.{Lexeme}
 use Rattle.script_grammar.specs.Tree.{Expr, Named}
-use Rattle.pure_parser.specs.Parser.{Recorded, Reply, Turn, Again, Stop, Many}
+use Rattle.grammar_parser_specs.specs.Parser.{Recorded, Reply, Turn, Again, Stop, Many}
 use Rattle.parse_exprs.specs.Answers.{ReadAs}
 use Rattle.parse_exprs.specs.declared.part.Params.{Params}
 use Rattle.script_grammar.specs.TreeLists.{Param}
-use Rattle.pure_parser.specs.Exprs as pure
+use Rattle.grammar_parser_specs.specs.Exprs as pure
 use Rattle.parse_exprs.specs.declared.part.ParamsEnd.{ParamsEnd}
 use Rattle.parse_exprs.specs.declared.part.ParamsEnd.TheVariants as ends
 use Rattle.parse_exprs.specs.Means.{ParamsEndOf, ParamsOf}

@@ -1,4 +1,4 @@
--- What the parser on lists of lexemes finds behind an opening bracket of the tokens, by the bracket's partner.
+-- What the parser on lists of lexemes finds after an opening bracket of the tokens, by the bracket's partner.
 use Rattle.std.proofs.Common.{◌≡◌, ◌∙◌, ℕ, zero, suc, ◌<◌, ◌≤◌, List, [], ◌∷◌, ◌++◌, map, drop, take, length, refl, sym, ap, subst, arith, get_or, Bool, true, false, not, ◌||◌, nat_eq, nat_lt, if◌then◌else◌, Option, Some, None, ◌⊎◌, inl, inr, ◌+◌, add-one}
 use Rattle.std.proofs.lemmas.Bool.{eqb-true, ltb-true, lt-ltb}
 use Rattle.std.proofs.Math.Seq.{drop-cons}
@@ -17,19 +17,19 @@ use Rattle.script_grammar.specs.Lexeme.{Lexeme, lexeme_of}
 use Rattle.script_grammar.specs.Matching.{kinds_of, part_of, part_at, next_open, opened_by, closed_by, IsBalanced, Pairs, IsMatching, partner_of}
 use Rattle.script_grammar.specs.Pieces.{paren, brace}
 use Rattle.script_grammar.specs.Tree.{no_stmts}
-use Rattle.pure_parser.specs.Parser.{Recorded, Reply, Read, Bad, Deep, head_of, rest_of, end_lexeme}
-use Rattle.pure_parser.specs.Exprs.{pass_over, arrow_behind, is_arrow, only_params, begins_param}
-use Rattle.pure_parser.proofs.Bracketed.{kinds, IsInner, AllInner}
-use Rattle.pure_parser.proofs.Local.{Same, out, kept, grown, grown_records}
-use Rattle.pure_parser.proofs.LocalRace.{behind_local, runs_false}
-use Rattle.pure_parser.proofs.Strides.{Striding, strides_init, strides_stop, strides_end, strides_step, strides_jump}
-use Rattle.pure_parser.proofs.Partnered.{inner-take, part-read, walk-paired, pass_over-walks, arrow_behind-walks, pass_over-alone, arrow_behind-alone}
-use Rattle.pure_parser.proofs.Tests.{mark_known}
+use Rattle.grammar_parser_specs.specs.Parser.{Recorded, Reply, Read, Bad, Deep, head_of, rest_of, end_lexeme}
+use Rattle.grammar_parser_specs.specs.Exprs.{pass_over, arrow_behind, is_arrow, only_params, begins_param}
+use Rattle.grammar_script_laws.proofs.Bracketed.{kinds, IsInner, AllInner}
+use Rattle.grammar_parser_laws.proofs.Local.{Same, out, kept, grown, grown_records}
+use Rattle.grammar_local_laws.proofs.LocalRace.{behind_local, runs_false}
+use Rattle.grammar_script_laws.proofs.Strides.{Striding, strides_init, strides_stop, strides_end, strides_step, strides_jump}
+use Rattle.grammar_script_laws.proofs.Partnered.{inner-take, part-read, walk-paired, pass_over-walks, arrow_behind-walks, pass_over-alone, arrow_behind-alone}
+use Rattle.grammar_parser_laws.proofs.Tests.{mark_known}
 use Rattle.parse_exprs.specs.declared.source.Source.{Source}
 use Rattle.parse_exprs.specs.Source.{IsSource, lexemes, front, ends_all}
 use Rattle.parse_exprs.specs.Ends.{no_token}
 use Rattle.parse_exprs.specs.Strides.{stride}
-use Rattle.pure_parser.proofs.PassingLaws.{pass_local}
+use Rattle.grammar_local_laws.proofs.PassingLaws.{pass_local}
 
 pub true_false : true ≡ false → ⊥
 true_false e = cc
@@ -372,7 +372,7 @@ module _ (s : Source) (h : IsSource s) (i : Interpretation) where
     no_some : {A : Type 0} {x : A} → None ≡ Some x → ⊥
     no_some k = cc
 
-    -- a token that opens nothing has no partner behind it
+    -- a token that opens nothing has no partner after it
     stride_one : (n : ℕ) (o : Option ℕ) → n < p → partner_of s.brackets.now n ≡ o → opened_by (part_at (kinds ls) n) ≡ None → stride o n ≡ suc n
     stride_one n None l k z = refl
     stride_one n (Some q) l k z = elim (matches.partner n q k).pairs [
@@ -406,6 +406,6 @@ module _ (s : Source) (h : IsSource s) (i : Interpretation) where
 any_texts : Interpretation
 any_texts = record { texts = []; bodies = λ start. no_stmts }
 
--- the partner of a parenthesis that opens stands behind it
+-- the partner of a parenthesis that opens stands after it
 pub opens_before : (s : Source) → IsSource s → (a p : ℕ) → ((i : Interpretation) → is_mark mark.OPEN_PAREN (head_of (front s i a)).kind ≡ true) → partner_of s.brackets.now a ≡ Some p → a < p
 opens_before s h a p e g = closes_behind s h any_texts a p (e any_texts) g

@@ -1,4 +1,4 @@
--- What a braced body that is passed over is to the parser on lists of lexemes, behind bodies that were recorded before.
+-- What a braced body that is passed over is to the parser on lists of lexemes, after bodies that were recorded before.
 use Rattle.std.proofs.Common.{◌≡◌, ◌∙◌, ℕ, ◌-◌, List, [], ◌∷◌, ◌++◌, Bool, true, false, map, sym, ap}
 use Rattle.std.proofs.lemmas.List.{map-append}
 use Rattle.script_grammar.specs.declared.token.FuncForm.{FuncForm}
@@ -8,9 +8,9 @@ use Rattle.script_grammar.specs.Interpretation.{Interpretation}
 use Rattle.script_grammar.specs.Kinds.{is_mark}
 use Rattle.script_grammar.specs.Lexeme.{Lexeme}
 use Rattle.script_grammar.specs.Pieces.{brace}
-use Rattle.pure_parser.specs.Parser.{Recorded, Read, Bad, head_of, rest_of, noted, after, ret, bad, bind, step, when, note}
-use Rattle.pure_parser.specs.Exprs.{pass_over, passed_body, passing}
-use Rattle.pure_parser.proofs.LocalExprs.{noted_twice}
+use Rattle.grammar_parser_specs.specs.Parser.{Recorded, Read, Bad, head_of, rest_of, noted, after, ret, bad, bind, step, when, note}
+use Rattle.grammar_parser_specs.specs.Exprs.{pass_over, passed_body, passing}
+use Rattle.grammar_local_laws.proofs.LocalExprs.{noted_twice}
 use Rattle.parse_exprs.specs.declared.source.Source.{Source}
 use Rattle.parse_exprs.specs.declared.place.Place.{Place}
 use Rattle.parse_exprs.specs.declared.place.Pending.{Pending}

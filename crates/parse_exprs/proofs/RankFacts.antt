@@ -4,7 +4,7 @@ use Rattle.std.proofs.lemmas.Bool.Decides.{nat_tests}
 use Rattle.script_grammar.specs.Proper.{rank, are_member_tails, operands_level, left_rank}
 use Rattle.script_grammar.specs.Tree.{Expr, Tails, Operands}
 use Rattle.script_grammar.specs.Tree as model
-use Rattle.pure_parser.specs.Exprs.{is_chain_head, is_update_expr}
+use Rattle.grammar_parser_specs.specs.Exprs.{is_chain_head, is_update_expr}
 use Rattle.parse_exprs.specs.declared.part.Rank.TheVariants as ranks
 use Rattle.parse_exprs.specs.Ranks.{rank_of, begins, assigns, raises}
 

@@ -1,14 +1,14 @@
--- What the parser on lists of lexemes answers, part by part, behind bodies that were recorded before.
+-- What the parser on lists of lexemes answers, part by part, after bodies that were recorded before.
 use Rattle.std.proofs.Common.{◌≡◌, ◌∙◌, ℕ, List, [], ◌∷◌, Bool, true, false, refl, sym, ap, subst, append-nil, Result, Err}
 use Rattle.std.specs.Prelude.{IsErrAnd}
 use Rattle.std.proofs.lemmas.Result.{err_from_is_err_and}
 use Rattle.script_grammar.specs.Lexeme.{Lexeme}
 use Rattle.script_grammar.specs.Interpretation.{Interpretation}
 use Rattle.script_grammar.specs.Kinds.{is_mark}
-use Rattle.pure_parser.specs.Parser.{Recorded, Reply, Read, Bad, Deep, Parser, head_of, rest_of, noted, after, ret, bad, step, when}
-use Rattle.pure_parser.specs.Exprs.{expect, arrow_mark, is_arrow}
-use Rattle.pure_parser.proofs.LocalExprs.{after_noted, after_twice}
-use Rattle.pure_parser.proofs.LocalHeads.{read_noted}
+use Rattle.grammar_parser_specs.specs.Parser.{Recorded, Reply, Read, Bad, Deep, Parser, head_of, rest_of, noted, after, ret, bad, step, when}
+use Rattle.grammar_parser_specs.specs.Exprs.{expect, arrow_mark, is_arrow}
+use Rattle.grammar_local_laws.proofs.LocalExprs.{after_noted, after_twice}
+use Rattle.grammar_local_laws.proofs.LocalHeads.{read_noted}
 use Rattle.parse_exprs.specs.declared.source.Source.{Source}
 use Rattle.parse_exprs.specs.declared.place.Place.{Place}
 use Rattle.parse_exprs.specs.declared.place.ParseFault.{ParseFault}
@@ -31,7 +31,7 @@ deep_here (r ∷ rs) us = ap (λ x. Deep x us) (append-nil (r ∷ rs))
 pub read_at : {A : Type 0} {a : A} {r : Reply A} {ps rs qs : List Recorded} {us vs : List Lexeme} → ReadAs ps r a rs us → qs ≡ rs → vs ≡ us → ReadAs ps r a qs vs
 read_at {a = a} {qs = qs} {us = us} h e f = record { is = h.is ∙ (ap (λ x. Read a x us) (sym e) ∙ ap (λ x. Read a qs x) (sym f)) }
 
--- one part behind another
+-- one part after another
 pub then : {A B : Type 0} {rs qs ps : List Recorded} {us vs : List Lexeme} {r : Reply A} {a : A} {b : B} (f : A → Parser B) → ReadAs rs r a qs us → ReadAs qs (f a us) b ps vs → ReadAs rs (after r f) b ps vs
 then {rs = rs} {r = r} f h k = record { is = sym (after_noted rs r f) ∙ ap (λ x. after x f) h.is ∙ k.is }
 

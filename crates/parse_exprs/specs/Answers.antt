@@ -3,7 +3,7 @@ use Rattle.std.specs.Prelude.{◌-◌, List, map, ◌≡◌, Result, Ok, Err}
 use Rattle.script_grammar.specs.Fault.{depth_limit}
 use Rattle.script_grammar.specs.Lexeme.{Lexeme}
 use Rattle.script_grammar.specs.Interpretation.{Interpretation}
-use Rattle.pure_parser.specs.Parser.{Recorded, Reply, Read, Bad, Deep, Parser, noted}
+use Rattle.grammar_parser_specs.specs.Parser.{Recorded, Reply, Read, Bad, Deep, Parser, noted}
 use Rattle.parse_exprs.specs.declared.source.Source.{Source}
 use Rattle.parse_exprs.specs.declared.place.Place.{Place}
 use Rattle.parse_exprs.specs.declared.place.Pending.{Pending}
@@ -20,7 +20,7 @@ unfoldable pub records : Source → Interpretation → Place → List Recorded
 records s i p = map (recorded s i) p.pending.items
 
 -- With these bodies recorded before, the reply is: so much was read, and then these bodies are recorded and these lexemes
--- stand behind it; or it is a fault.
+-- stand after it; or it is a fault.
 
 pub record ReadAs {A : Type 0} (rs : List Recorded) (reply : Reply A) (a : A) (qs : List Recorded) (us : List Lexeme) : Type 0 where
   pub is : noted rs reply ≡ Read a qs us

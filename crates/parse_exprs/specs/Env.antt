@@ -3,7 +3,7 @@ use Rattle.std.specs.Prelude.{ℕ, ◌-◌}
 use Rattle.script_grammar.specs.Fault.{depth_limit}
 use Rattle.script_grammar.specs.Interpretation.{Interpretation}
 use Rattle.script_grammar.specs.Tree.{Body, BracedBody}
-use Rattle.pure_parser.specs.Exprs.{Env, calls, passing}
+use Rattle.grammar_parser_specs.specs.Exprs.{Env, calls, passing}
 
 -- a body that was passed over has the statements that the interpretation gives to its function, by its start
 abbrev pub body_at : Interpretation → ℕ → Body

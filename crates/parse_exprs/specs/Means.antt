@@ -11,8 +11,8 @@ use Rattle.script_grammar.specs.declared.node.NodeOperand.{NodeOperand}
 use Rattle.script_grammar.specs.Tree.{Named, Expr, Stmts}
 use Rattle.script_grammar.specs.TreeLists.{Args, Operand, Param, operands_of}
 use Rattle.script_grammar.specs.Endings.{ending, operands_ending, body_ending}
-use Rattle.pure_parser.specs.Parser.{Turn, Again, Stop, Many}
-use Rattle.pure_parser.specs.Exprs as pure
+use Rattle.grammar_parser_specs.specs.Parser.{Turn, Again, Stop, Many}
+use Rattle.grammar_parser_specs.specs.Exprs as pure
 use Rattle.parse_exprs.specs.declared.part.Turned.{Turned}
 use Rattle.parse_exprs.specs.declared.part.Turned.TheVariants as turned
 use Rattle.parse_exprs.specs.declared.part.Items.{Items}
@@ -75,7 +75,7 @@ MaybeEndedOf shows (Some n) k = EndedOf shows n (λ o. k (Some o))
 abbrev pub EndsOf : {E A : Type 0} → (E → A → Type 0) → (List A → pieces.Ending) → Items E Ending → (Many A (Unit {0}) → Type 0) → Type 0
 EndsOf {A = A} shows ends v k = (xs : List A) × ShowAll shows v.items.items xs × (ending_as v.last ≡ ends xs) × k (record { items = xs; last = tt })
 
--- the operands behind an expression that ends so, and how what ends with them ends
+-- the operands after an expression that ends so, and how what ends with them ends
 abbrev pub OperandsOf : {E : Type 0} → (E → Expr → Type 0) → pieces.Ending → Items (NodeOperand E) Ending → (List Operand → Type 0) → Type 0
 OperandsOf shows e v k = (os : List Operand) × ShowAll (ShowOperand shows) v.items.items os × (ending_as v.last ≡ operands_ending e (operands_of os)) × k os
 

@@ -38,7 +38,7 @@ pub record IsScanned (ts : List Token) : Type 0 where
 pub record IsSource (s : Source) : Type 0 where
   pub few : length s.tokens.now < 2 ^ 32
   pub atoms : (k : ℕ) (d : Token) → k < length s.tokens.now → HasAtom (slice_index_or s.tokens.now k d)
-  -- the tokens of the text behind the stop
+  -- the tokens of the text after the stop
   pub behind : List Token
   pub matching : IsMatching (kinds_of (s.tokens.now ++ behind)) s.brackets.now
   pub stop : suc s.brackets.now.stop ≡ length s.tokens.now

@@ -9,8 +9,8 @@ ghost use Rattle.script_grammar.specs.Shows.{ShowMaybe, ShowArgs, ShowTail, Tail
 ghost use Rattle.script_grammar.specs.Tree as model;
 ghost use Rattle.script_grammar.specs.TreeLists as part;
 ghost use Rattle.script_grammar.specs.TreeLists.{maybe_args_of};
-ghost use Rattle.pure_parser.specs.Parser.{loop};
-ghost use Rattle.pure_parser.specs.Exprs as pure;
+ghost use Rattle.grammar_parser_specs.specs.Parser.{loop};
+ghost use Rattle.grammar_parser_specs.specs.Exprs as pure;
 ghost use Rattle.parse_exprs.specs.Source.{IsSource, HasAtom};
 ghost use Rattle.parse_exprs.specs.Env.{env_at};
 ghost use Rattle.parse_exprs.specs.Answers.{Reads, Makes};

@@ -3,7 +3,7 @@
 ghost use Rattle.std.specs.Prelude.{◌<◌, Option};
 ghost use Rattle.script_grammar.specs.Interpretation.{Interpretation, maybe_named};
 ghost use Rattle.script_grammar.specs.Shows.{FuncOf};
-ghost use Rattle.pure_parser.specs.Exprs as pure;
+ghost use Rattle.grammar_parser_specs.specs.Exprs as pure;
 ghost use Rattle.parse_exprs.specs.Source.{IsSource};
 ghost use Rattle.parse_exprs.specs.Env.{env_at};
 ghost use Rattle.parse_exprs.specs.Answers.{Reads};
@@ -45,7 +45,7 @@ impl<H: Handler> State<H> {
         })
     }
 
-    /// A function expression, behind its word.
+    /// A function expression, after its word.
     #[cycle(exprs)]
     #[tactic(auto, unfolding(pure_parser::specs::Exprs::func_of))]
     pub(crate) fn func(&mut self, source: &Source, at: u32, depth: u32) -> Result<H::E, ParseFault>

@@ -6,8 +6,8 @@ ghost use Rattle.script_grammar.specs.Kinds as test;
 ghost use Rattle.script_grammar.specs.declared.token.mark.TheConstants as marks;
 ghost use Rattle.script_grammar.specs.Matching.{partner_of};
 ghost use Rattle.script_grammar.specs.Pieces.{paren};
-ghost use Rattle.pure_parser.specs.Parser.{head_of, rest_of};
-ghost use Rattle.pure_parser.specs.Exprs as pure;
+ghost use Rattle.grammar_parser_specs.specs.Parser.{head_of, rest_of};
+ghost use Rattle.grammar_parser_specs.specs.Exprs as pure;
 ghost use Rattle.parse_exprs.specs.Source.{IsSource, front};
 ghost use Rattle.parse_exprs.specs.Strides.{stride};
 
@@ -23,7 +23,7 @@ fn kind_at(source: &Source, at: u32) -> Kind
     source.token(at as usize).kind
 }
 
-/// The kind of the token behind this one.
+/// The kind of the token after this one.
 fn kind_behind(source: &Source, at: u32) -> Kind
     requires { IsSource source.now }
     ensures { (i : Interpretation) → result ≡ (head_of (rest_of (front source.now i at))).kind }
@@ -31,7 +31,7 @@ fn kind_behind(source: &Source, at: u32) -> Kind
     source.token(at as usize + 1).kind
 }
 
-/// Whether this token is a name, and `,`, `)` or `=` stands behind it.
+/// Whether this token is a name, and `,`, `)` or `=` stands after it.
 pub fn is_param_form(source: &Source, at: u32) -> bool
     requires { IsSource source.now }
     ensures { (i : Interpretation) → result ≡ pure.is_param_form (head_of (front source.now i at)) (head_of (rest_of (front source.now i at))) }

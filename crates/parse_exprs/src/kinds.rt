@@ -2,7 +2,7 @@
 
 ghost use Rattle.std.specs.Prelude.{◌≡◌};
 ghost use Rattle.script_grammar.specs.Kinds as test;
-ghost use Rattle.pure_parser.specs.Exprs as pure;
+ghost use Rattle.grammar_parser_specs.specs.Exprs as pure;
 ghost use Rattle.parse_exprs.specs.Levels.{loose_level};
 
 use script_grammar::token::{Kind, mark, word};
@@ -282,7 +282,7 @@ pub fn is_atom(kind: Kind) -> bool
     }
 }
 
-/// Whether a token of this kind stands behind a name that is a key of its own.
+/// Whether a token of this kind stands after a name that is a key of its own.
 pub fn ends_key(kind: Kind) -> bool
     ensures { result ≡ pure.ends_key kind }
 {

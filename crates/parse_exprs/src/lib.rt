@@ -1,6 +1,6 @@
 //! The parser of expressions and functions, over tokens and for every handler.
 //!
-//! It stands on pure_parser, which has the same parser as functions on lists of lexemes: each function here answers what the
+//! It stands on grammar_parser_specs, which has the same parser as functions on lists of lexemes: each function here answers what the
 //! function of the same name there answers. So a function is stated by one clause, as of `expect`:
 //!
 //! `(i : Interpretation) → Reads Itself (pure.expect mark) source.now i self.old self.new result`

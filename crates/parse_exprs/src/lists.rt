@@ -4,8 +4,8 @@ ghost use Rattle.std.specs.Prelude.{◌≡◌, ◌<◌, List, true, false, Optio
 ghost use Rattle.script_grammar.specs.Interpretation.{Interpretation, text_of};
 ghost use Rattle.script_grammar.specs.Shows.{ShowAll, ShowMaybe, ShowPart, NodeOf, MaybeOf, ArgsOf, PartOf};
 ghost use Rattle.script_grammar.specs.Tree as model;
-ghost use Rattle.pure_parser.specs.Parser.{loop, led};
-ghost use Rattle.pure_parser.specs.Exprs as pure;
+ghost use Rattle.grammar_parser_specs.specs.Parser.{loop, led};
+ghost use Rattle.grammar_parser_specs.specs.Exprs as pure;
 ghost use Rattle.parse_exprs.specs.Source.{IsSource};
 ghost use Rattle.parse_exprs.specs.Env.{env_at};
 ghost use Rattle.parse_exprs.specs.Answers.{Reads, Makes};
@@ -58,7 +58,7 @@ impl<H: Handler> State<H> {
         }
     }
 
-    /// Arguments, behind the opening parenthesis.
+    /// Arguments, after the opening parenthesis.
     #[cycle(exprs)]
     #[tactic(auto, unfolding(pure_parser::specs::Exprs::args_of, pure_parser::specs::Exprs::more_args))]
     pub fn args(&mut self, source: &Source, depth: u32) -> Result<NodeArgs<H::E>, ParseFault>
@@ -136,7 +136,7 @@ impl<H: Handler> State<H> {
         }
     }
 
-    /// An array of these items, of which one more may stand behind the last comma.
+    /// An array of these items, of which one more may stand after the last comma.
     fn make_array(
         &mut self,
         at: u32,
@@ -157,7 +157,7 @@ impl<H: Handler> State<H> {
         Ok(self.handler.make_array(at, items, comma)?)
     }
 
-    /// An array, behind the bracket that opens it.
+    /// An array, after the bracket that opens it.
     #[cycle(exprs)]
     #[tactic(auto, unfolding(pure_parser::specs::Exprs::array_of))]
     pub(crate) fn array(&mut self, source: &Source, at: u32, depth: u32) -> Result<H::E, ParseFault>
@@ -230,7 +230,7 @@ impl<H: Handler> State<H> {
         }
     }
 
-    /// A template, behind its head.
+    /// A template, after its head.
     #[cycle(exprs)]
     #[tactic(auto, unfolding(pure_parser::specs::Exprs::template_of))]
     pub(crate) fn template(

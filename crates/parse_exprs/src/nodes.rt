@@ -7,7 +7,7 @@ ghost use Rattle.script_grammar.specs.Shows.{ShowAll, ShowTail, ShowOperand};
 ghost use Rattle.script_grammar.specs.Tree as model;
 ghost use Rattle.script_grammar.specs.TreeLists as part;
 ghost use Rattle.script_grammar.specs.TreeLists.{exprs_of, operands_of};
-ghost use Rattle.pure_parser.specs.Exprs as pure;
+ghost use Rattle.grammar_parser_specs.specs.Exprs as pure;
 ghost use Rattle.parse_exprs.specs.Answers.{Makes};
 ghost use Rattle.parse_exprs.specs.Means.{ShowRanked, ending_as};
 
@@ -18,7 +18,7 @@ use script_grammar::handler::Handler;
 use script_grammar::node::{NodeOperand, NodeTail};
 
 impl<H: Handler> State<H> {
-    /// An item and others behind it.
+    /// An item and others after it.
     pub fn make_comma(
         &mut self,
         first: Ranked<H::E>,
@@ -40,7 +40,7 @@ impl<H: Handler> State<H> {
         })
     }
 
-    /// What may begin a chain, and the tails behind it.
+    /// What may begin a chain, and the tails after it.
     pub fn make_chain(
         &mut self,
         head: Ranked<H::E>,

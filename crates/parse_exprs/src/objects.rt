@@ -7,9 +7,9 @@ ghost use Rattle.script_grammar.specs.Lexeme.{lexeme_of};
 ghost use Rattle.script_grammar.specs.Kinds as test;
 ghost use Rattle.script_grammar.specs.Shows.{ShowKey, NodeOf, KeyOf};
 ghost use Rattle.script_grammar.specs.Tree as model;
-ghost use Rattle.pure_parser.specs.Parser.{loop, led, bind, ret};
-ghost use Rattle.pure_parser.specs.Exprs as pure;
-ghost use Rattle.pure_parser.specs.Exprs.{AnAssign};
+ghost use Rattle.grammar_parser_specs.specs.Parser.{loop, led, bind, ret};
+ghost use Rattle.grammar_parser_specs.specs.Exprs as pure;
+ghost use Rattle.grammar_parser_specs.specs.Exprs.{AnAssign};
 ghost use Rattle.parse_exprs.specs.Source.{IsSource, HasAtom};
 ghost use Rattle.parse_exprs.specs.Env.{env_at};
 ghost use Rattle.parse_exprs.specs.Answers.{Reads};
@@ -59,7 +59,7 @@ impl<H: Handler> State<H> {
         })
     }
 
-    /// Behind a key: a value or a method.
+    /// After a key: a value or a method.
     #[cycle(exprs)]
     #[tactic(auto, unfolding(pure_parser::specs::Exprs::keyed_of))]
     fn keyed(&mut self, source: &Source, key: NodeKey<H::E>, depth: u32) -> Result<H::P, ParseFault>
@@ -82,7 +82,7 @@ impl<H: Handler> State<H> {
         })
     }
 
-    /// Behind a name that is a key: a value, a method, or nothing.
+    /// After a name that is a key: a value, a method, or nothing.
     #[cycle(exprs)]
     #[tactic(auto, unfolding(pure_parser::specs::Exprs::short_of))]
     fn short(&mut self, source: &Source, name: Ident, depth: u32) -> Result<H::P, ParseFault>
@@ -96,7 +96,7 @@ impl<H: Handler> State<H> {
         Ok(prop)
     }
 
-    /// Behind the word `get`: a getter, or a property that has the word as its name.
+    /// After the word `get`: a getter, or a property that has the word as its name.
     #[cycle(exprs)]
     #[tactic(auto, unfolding(pure_parser::specs::Exprs::accessor_of, pure_parser::specs::Exprs::getter_of))]
     fn getter(&mut self, source: &Source, name: Ident, depth: u32) -> Result<H::P, ParseFault>
@@ -112,7 +112,7 @@ impl<H: Handler> State<H> {
         Ok(prop)
     }
 
-    /// Behind the word `set`: a setter, or a property that has the word as its name.
+    /// After the word `set`: a setter, or a property that has the word as its name.
     #[cycle(exprs)]
     #[tactic(auto, unfolding(pure_parser::specs::Exprs::accessor_of, pure_parser::specs::Exprs::setter_of))]
     fn setter(&mut self, source: &Source, name: Ident, depth: u32) -> Result<H::P, ParseFault>
@@ -203,7 +203,7 @@ impl<H: Handler> State<H> {
         self.props_led(source, first, depth)
     }
 
-    /// An object literal, behind the brace that opens it.
+    /// An object literal, after the brace that opens it.
     #[cycle(exprs)]
     #[tactic(auto, unfolding(pure_parser::specs::Exprs::object_of))]
     pub(crate) fn object(

@@ -7,8 +7,8 @@ ghost use Rattle.script_grammar.specs.Proper.{rank};
 ghost use Rattle.script_grammar.specs.Shows.{ShowOperand};
 ghost use Rattle.script_grammar.specs.Tree as model;
 ghost use Rattle.script_grammar.specs.TreeLists.{operands_of};
-ghost use Rattle.pure_parser.specs.Parser.{loop, bind, ret};
-ghost use Rattle.pure_parser.specs.Exprs as pure;
+ghost use Rattle.grammar_parser_specs.specs.Parser.{loop, bind, ret};
+ghost use Rattle.grammar_parser_specs.specs.Exprs as pure;
 ghost use Rattle.parse_exprs.specs.Source.{IsSource};
 ghost use Rattle.parse_exprs.specs.Env.{env_at};
 ghost use Rattle.parse_exprs.specs.Answers.{Reads};
@@ -155,7 +155,7 @@ impl<H: Handler> State<H> {
         Ok(Turned::Last(Some(operand)))
     }
 
-    /// The operands of a chain of powers, behind what ends so.
+    /// The operands of a chain of powers, after what ends so.
     #[cycle(exprs)]
     fn powers(
         &mut self,
@@ -265,7 +265,7 @@ impl<H: Handler> State<H> {
         }
     }
 
-    /// The further operands of a level, behind the first.
+    /// The further operands of a level, after the first.
     #[cycle(exprs)]
     fn operands_from(
         &mut self,

@@ -4,8 +4,8 @@ ghost use Rattle.std.specs.Prelude.{◌≡◌, ◌<◌, true, false, Option, Som
 ghost use Rattle.script_grammar.specs.Interpretation.{Interpretation};
 ghost use Rattle.script_grammar.specs.Shows.{ShowAll, ShowParam, MaybeOf, ParamOf};
 ghost use Rattle.script_grammar.specs.TreeLists as part;
-ghost use Rattle.pure_parser.specs.Parser.{loop, led, Many};
-ghost use Rattle.pure_parser.specs.Exprs as pure;
+ghost use Rattle.grammar_parser_specs.specs.Parser.{loop, led, Many};
+ghost use Rattle.grammar_parser_specs.specs.Exprs as pure;
 ghost use Rattle.parse_exprs.specs.Source.{IsSource};
 ghost use Rattle.parse_exprs.specs.Env.{env_at};
 ghost use Rattle.parse_exprs.specs.Answers.{Reads, Makes};

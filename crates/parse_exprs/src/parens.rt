@@ -4,8 +4,8 @@ ghost use Rattle.std.specs.Prelude.{◌≡◌, ◌<◌, ◌++◌, ◌∷◌, Lis
 ghost use Rattle.script_grammar.specs.Interpretation.{Interpretation};
 ghost use Rattle.script_grammar.specs.Shows.{ShowAll, NodeOf};
 ghost use Rattle.script_grammar.specs.Tree as model;
-ghost use Rattle.pure_parser.specs.Parser.{loop, when};
-ghost use Rattle.pure_parser.specs.Exprs as pure;
+ghost use Rattle.grammar_parser_specs.specs.Parser.{loop, when};
+ghost use Rattle.grammar_parser_specs.specs.Exprs as pure;
 ghost use Rattle.parse_exprs.specs.Source.{IsSource, front};
 ghost use Rattle.parse_exprs.specs.Env.{env_at};
 ghost use Rattle.parse_exprs.specs.Answers.{Reads, Makes};
@@ -108,7 +108,7 @@ impl<H: Handler> State<H> {
         }
     }
 
-    /// The one list behind the other.
+    /// The one list after the other.
     fn joined(front: Vec<H::E>, back: Vec<H::E>) -> Result<Vec<H::E>, ParseFault>
         ensures { Makes result (λ v. v.items ≡ front.items ++ back.items) }
     {
@@ -158,7 +158,7 @@ impl<H: Handler> State<H> {
         self.items(source, depth)
     }
 
-    /// A parenthesized expression, behind the parenthesis; the flag says whether an arrow's parameters may stand there.
+    /// A parenthesized expression, after the parenthesis; the flag says whether an arrow's parameters may stand there.
     #[cycle(exprs)]
     #[tactic(auto, unfolding(pure_parser::specs::Exprs::paren_of))]
     pub(crate) fn paren(

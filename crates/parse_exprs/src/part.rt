@@ -5,7 +5,7 @@ ghost use Rattle.script_grammar.specs.Interpretation.{Interpretation};
 ghost use Rattle.script_grammar.specs.Proper.{rank, left_rank};
 ghost use Rattle.script_grammar.specs.Shows.{ShowAll, ShowParam};
 ghost use Rattle.script_grammar.specs.Tree as model;
-ghost use Rattle.pure_parser.specs.Exprs as pure;
+ghost use Rattle.grammar_parser_specs.specs.Exprs as pure;
 ghost use Rattle.parse_exprs.specs.Ranks.{rank_of, raises, assigns, begins};
 ghost use Rattle.parse_exprs.specs.Simple.{is_plain};
 ghost use Rattle.std.specs.List.{list_all};
@@ -39,7 +39,7 @@ pub enum Rank {
     Other,
 }
 
-/// How an expression ends, as far as a semicolon that is left out behind it asks.
+/// How an expression ends, as far as a semicolon that is left out after it asks.
 #[derive(Clone, Copy, Debug)]
 pub enum Ending {
     /// Its last part is an arrow with a braced body.

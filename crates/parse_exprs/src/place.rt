@@ -6,8 +6,8 @@ ghost use Rattle.script_grammar.specs.Interpretation.{Interpretation, named};
 ghost use Rattle.script_grammar.specs.Lexeme.{lexeme_of};
 ghost use Rattle.script_grammar.specs.Kinds as test;
 ghost use Rattle.script_grammar.specs.declared.token.mark.TheConstants as marks;
-ghost use Rattle.pure_parser.specs.Parser.{head_of, rest_of, Turn};
-ghost use Rattle.pure_parser.specs.Exprs as pure;
+ghost use Rattle.grammar_parser_specs.specs.Parser.{head_of, rest_of, Turn};
+ghost use Rattle.grammar_parser_specs.specs.Exprs as pure;
 ghost use Rattle.parse_exprs.specs.declared.place.ParseFault.TheVariants.{NoMemory as OutOfMemory, TooDeep as TooDeepAt, Unexpected as UnexpectedAt};
 ghost use Rattle.parse_exprs.specs.Source.{IsSource, HasAtom, front};
 ghost use Rattle.parse_exprs.specs.Answers.{Reads, Refuses, records};
@@ -70,7 +70,7 @@ pub struct Place {
 }
 
 impl Place {
-    /// The present token; behind the last one, a token that ends all.
+    /// The present token; after the last one, a token that ends all.
     pub fn token(&self, source: &Source) -> Token
         requires { IsSource source.now }
         ensures lexeme { (i : Interpretation) → lexeme_of source.now.get source.now.set i.texts result ≡ head_of (front source.now i self.now.at) }
@@ -196,7 +196,7 @@ impl Place {
         }
     }
 
-    /// Whether a name stands here, and `,`, `)` or `=` behind it.
+    /// Whether a name stands here, and `,`, `)` or `=` after it.
     pub fn is_param_form(&self, source: &Source) -> bool
         requires { IsSource source.now }
         ensures { (i : Interpretation) → result ≡ pure.is_param_form (head_of (front source.now i self.now.at)) (head_of (rest_of (front source.now i self.now.at))) }
@@ -233,7 +233,7 @@ impl Place {
         }
     }
 
-    /// Whether an arrow's parameters stand between the parenthesis here and its partner, and the mark behind.
+    /// Whether an arrow's parameters stand between the parenthesis here and its partner, and the mark after.
     fn opens_arrow(&self, source: &Source, close: u32) -> bool
         requires source { IsSource source.now }
         requires opens { (i : Interpretation) → test.is_mark marks.OPEN_PAREN (head_of (front source.now i self.now.at)).kind ≡ true }

@@ -4,7 +4,7 @@ ghost use Rattle.std.specs.Prelude.{◌≡◌, true, suc, take};
 ghost use Rattle.script_grammar.specs.Interpretation.{Interpretation};
 ghost use Rattle.script_grammar.specs.Kinds as test;
 ghost use Rattle.script_grammar.specs.Lexeme.{lexeme_of};
-ghost use Rattle.pure_parser.specs.Parser.{head_of};
+ghost use Rattle.grammar_parser_specs.specs.Parser.{head_of};
 ghost use Rattle.parse_exprs.specs.Source.{IsSource, IsScanned, HasAtom, front};
 ghost use Rattle.script_grammar.specs.Matching.{IsMatching, kinds_of};
 
@@ -20,7 +20,7 @@ pub struct Source<'a> {
 }
 
 impl<'a> Source<'a> {
-    /// The tokens of a text, as far as its brackets match: nothing is read behind the brackets' stop. `get` and `set` are
+    /// The tokens of a text, as far as its brackets match: nothing is read after the brackets' stop. `get` and `set` are
     /// the atoms of these names.
     pub fn new(tokens: &'a [Token], brackets: &'a Brackets, get: u32, set: u32) -> Source<'a>
         requires scanned { IsScanned tokens.now }
@@ -38,7 +38,7 @@ impl<'a> Source<'a> {
         }
     }
 
-    /// The token of this number; behind the last one, a token that ends all.
+    /// The token of this number; after the last one, a token that ends all.
     pub fn token(&self, at: usize) -> Token
         requires { IsSource self.now }
         ensures lexeme { (i : Interpretation) → lexeme_of self.now.get self.now.set i.texts result ≡ head_of (front self.now i at) }

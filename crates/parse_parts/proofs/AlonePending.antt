@@ -13,19 +13,19 @@ use Rattle.script_grammar.specs.Script.{print_alone}
 use Rattle.script_grammar.specs.Shows.{ShowAll, ShowFunc, FuncOf}
 use Rattle.script_grammar.specs.Tree.{Expr, Stmts, Body, Function, function}
 use Rattle.script_grammar.specs.Tree as tree
-use Rattle.pure_parser.specs.Parser.{Recorded, Reply, Read, Bad, Deep, Parser, head_of, noted}
-use Rattle.pure_parser.specs.Exprs.{Env, BodyRead}
-use Rattle.pure_parser.specs.Stmts as pure
-use Rattle.pure_parser.proofs.Agrees as agrees
-use Rattle.pure_parser.proofs.AgreesAlone.{fill_alone}
-use Rattle.pure_parser.proofs.AloneLaws.{read_is_function}
-use Rattle.pure_parser.proofs.Complete.{bare}
-use Rattle.pure_parser.proofs.Local.{left}
-use Rattle.pure_parser.proofs.PassedFunctions.{pass_alone}
-use Rattle.pure_parser.proofs.Tests.{end_known}
-use Rattle.recorded_bodies.proofs.ListsAlone.{in_alone}
-use Rattle.recorded_order.proofs.Rises.{Falls, Rises}
-use Rattle.recorded_order.proofs.RisesAll.{passed_alone_rises}
+use Rattle.grammar_parser_specs.specs.Parser.{Recorded, Reply, Read, Bad, Deep, Parser, head_of, noted}
+use Rattle.grammar_parser_specs.specs.Exprs.{Env, BodyRead}
+use Rattle.grammar_parser_specs.specs.Stmts as pure
+use Rattle.grammar_local_laws.proofs.Agrees as agrees
+use Rattle.grammar_script_laws.proofs.AgreesAlone.{fill_alone}
+use Rattle.grammar_deferred_laws.proofs.AloneLaws.{read_is_function}
+use Rattle.grammar_parser_laws.proofs.Complete.{bare}
+use Rattle.grammar_parser_laws.proofs.Local.{left}
+use Rattle.grammar_deferred_laws.proofs.PassedFunctions.{pass_alone}
+use Rattle.grammar_parser_laws.proofs.Tests.{end_known}
+use Rattle.parse_pending_laws.proofs.ListsAlone.{in_alone}
+use Rattle.parse_pending_laws.proofs.Rises.{Falls, Rises}
+use Rattle.parse_pending_laws.proofs.RisesAll.{passed_alone_rises}
 use Rattle.parse_exprs.specs.declared.place.ParseFault.{ParseFault}
 use Rattle.parse_exprs.specs.declared.place.ParseFault.TheVariants as faults
 use Rattle.parse_exprs.specs.declared.place.Pending.{Pending}
@@ -173,7 +173,7 @@ module _ (s : Source) (h : IsSource s) (i : Interpretation) (f : FuncForm) (n : 
           passed_to : left (passes (body_at i) (given i) depth_limit f (front s i old.at)) ≡ front s i q.at
           passed_to = passes_left (body_at i) (given i) f (front s i old.at) (recorded s i own) st _ (front s i q.at) (ap bare (sym (own_here s h i f n old.at l shows shows_body own st q [])) ∙ read_bare r.2)
 
-          -- a fault behind the own body
+          -- a fault after the own body
           pub behind_lost : (e : ParseFault) → Passes s h i f n old.at l shows shows_body p (Err e) → IsGained {A = NodeFunc E B} s old q (Err e)
           behind_lost (faults.Unexpected k) g = gains_read_to k (sym passed_to ∙ ap (λ (x : Parser Function). left (x (front s i old.at))) (sym passes_here) ∙ (told s i [] (pure.alone_of (env_at i 0) f (front s i old.at)) (Bad (records s i p) (front s i k)) g.is).1)
           behind_lost (faults.TooDeep k) g = gains_read_to k (sym passed_to ∙ ap (λ (x : Parser Function). left (x (front s i old.at))) (sym passes_here) ∙ (told s i [] (pure.alone_of (env_at i 0) f (front s i old.at)) (Deep (records s i p) (front s i k)) g.is).1)

@@ -12,21 +12,21 @@ use Rattle.script_grammar.specs.Lexeme.{Lexeme, lexeme_of}
 use Rattle.script_grammar.specs.Pieces.{passed}
 use Rattle.script_grammar.specs.Shows.{FuncOf}
 use Rattle.script_grammar.specs.Tree.{Named, Expr, Stmts}
-use Rattle.pure_parser.specs.Parser.{Recorded, Reply, Read, Bad, Deep, Parser}
-use Rattle.pure_parser.specs.Exprs.{Env, Calls, AnAssign, passing, expr_of, function_of}
-use Rattle.pure_parser.specs.Stmts as pure
-use Rattle.pure_parser.proofs.AgreesScripts.{calls_are}
-use Rattle.pure_parser.proofs.Closed.{Closed}
-use Rattle.pure_parser.proofs.ClosedParts.{Balanced, Matches, leaves_some, balanced_matches, assign_balanced, expression_balanced, body_balanced, head_balanced}
-use Rattle.pure_parser.proofs.Complete.{bare, bare_noted}
-use Rattle.pure_parser.proofs.CompleteFunctions.{PlainForm}
-use Rattle.pure_parser.proofs.Exact.{FaultsAt, assign_is_exact, expression_is_exact}
-use Rattle.pure_parser.proofs.FirstFaults.{Decides}
-use Rattle.pure_parser.proofs.PartLaws.{NoneDeep}
-use Rattle.pure_parser.proofs.PassedBodies.{pass_braced, body_decides}
-use Rattle.pure_parser.proofs.PassedHeads as heads
-use Rattle.pure_parser.proofs.PassedHeads.{pass_head, head_decides}
-use Rattle.pure_parser.proofs.PassedParts.{pass_env, pass_assign, pass_expression, assign_decides, expression_decides}
+use Rattle.grammar_parser_specs.specs.Parser.{Recorded, Reply, Read, Bad, Deep, Parser}
+use Rattle.grammar_parser_specs.specs.Exprs.{Env, Calls, AnAssign, passing, expr_of, function_of}
+use Rattle.grammar_parser_specs.specs.Stmts as pure
+use Rattle.grammar_local_laws.proofs.AgreesScripts.{calls_are}
+use Rattle.grammar_script_laws.proofs.Closed.{Closed}
+use Rattle.grammar_deferred_laws.proofs.ClosedParts.{Balanced, Matches, leaves_some, balanced_matches, assign_balanced, expression_balanced, body_balanced, head_balanced}
+use Rattle.grammar_parser_laws.proofs.Complete.{bare, bare_noted}
+use Rattle.grammar_complete_laws.proofs.CompleteFunctions.{PlainForm}
+use Rattle.grammar_deferred_laws.proofs.Exact.{FaultsAt, assign_is_exact, expression_is_exact}
+use Rattle.grammar_script_laws.proofs.FirstFaults.{Decides}
+use Rattle.grammar_script_laws.proofs.PartLaws.{NoneDeep}
+use Rattle.grammar_deferred_laws.proofs.PassedBodies.{pass_braced, body_decides}
+use Rattle.grammar_deferred_laws.proofs.PassedHeads as heads
+use Rattle.grammar_deferred_laws.proofs.PassedHeads.{pass_head, head_decides}
+use Rattle.grammar_deferred_laws.proofs.PassedParts.{pass_env, pass_assign, pass_expression, assign_decides, expression_decides}
 use Rattle.parse_exprs.specs.declared.part.Ranked.{Ranked}
 use Rattle.parse_exprs.specs.declared.place.ParseFault.{ParseFault}
 use Rattle.parse_exprs.specs.declared.place.ParseFault.TheVariants as faults
@@ -119,7 +119,7 @@ module _ (s : Source) (h : IsSource s) (i : Interpretation) where
       let some : 0 < length (drop at (lexemes s i)) = some_left (drop at (lexemes s i)) n in
       omega (arith, size, left, some)
 
-  -- behind a part that was taken stands a token of the text
+  -- after a part that was taken stands a token of the text
   pub taken_in : (P : Part) → Balanced P → (start stop : ℕ) → start < length s.tokens.now → (t : Taken P (front s i start) (front s i stop)) → stop < length s.tokens.now
   taken_in P b start stop l t = place_in stop (leaves_some P b (front s i start) t.tokens (front s i stop) t.deep (closed_at start l) t.split t.part)
 

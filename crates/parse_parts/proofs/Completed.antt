@@ -11,17 +11,17 @@ use Rattle.script_grammar.specs.Script.{IsBody, print_braced}
 use Rattle.script_grammar.specs.Shows.{ShowAll, ShowFunc}
 use Rattle.script_grammar.specs.Tree.{Named, Expr, Stmts, Function}
 use Rattle.script_grammar.specs.Tree as tree
-use Rattle.pure_parser.specs.Parser.{Read, Recorded, head_of}
-use Rattle.pure_parser.specs.Exprs.{BodyRead}
-use Rattle.pure_parser.specs.Filling.{fill_stmts}
-use Rattle.pure_parser.proofs.Complete.{bare}
-use Rattle.pure_parser.proofs.CompleteFunctions.{PlainForm}
-use Rattle.pure_parser.proofs.PartLaws.{NoneDeep}
-use Rattle.pure_parser.proofs.PassedBodies.{pass_braced}
-use Rattle.pure_parser.proofs.PassedHeads.{pass_head}
-use Rattle.pure_parser.proofs.PassedParts.{pass_assign, pass_expression}
-use Rattle.pure_parser.proofs.AloneLaws.{body_is, read_is_assign, read_is_expression, read_is_body}
-use Rattle.recorded_bodies.proofs.ListsStmts.{in_inside}
+use Rattle.grammar_parser_specs.specs.Parser.{Read, Recorded, head_of}
+use Rattle.grammar_parser_specs.specs.Exprs.{BodyRead}
+use Rattle.grammar_parser_specs.specs.Filling.{fill_stmts}
+use Rattle.grammar_parser_laws.proofs.Complete.{bare}
+use Rattle.grammar_complete_laws.proofs.CompleteFunctions.{PlainForm}
+use Rattle.grammar_script_laws.proofs.PartLaws.{NoneDeep}
+use Rattle.grammar_deferred_laws.proofs.PassedBodies.{pass_braced}
+use Rattle.grammar_deferred_laws.proofs.PassedHeads.{pass_head}
+use Rattle.grammar_deferred_laws.proofs.PassedParts.{pass_assign, pass_expression}
+use Rattle.grammar_deferred_laws.proofs.AloneLaws.{body_is, read_is_assign, read_is_expression, read_is_body}
+use Rattle.parse_pending_laws.proofs.ListsStmts.{in_inside}
 use Rattle.parse_exprs.specs.declared.place.Pending.{Pending}
 use Rattle.parse_exprs.specs.declared.source.Source.{Source}
 use Rattle.parse_exprs.specs.Answers.{recorded}

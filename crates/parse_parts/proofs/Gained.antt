@@ -5,10 +5,10 @@ use Rattle.script_grammar.specs.declared.token.FuncForm.{FuncForm}
 use Rattle.script_grammar.specs.Fault.{depth_limit}
 use Rattle.script_grammar.specs.Interpretation.{Interpretation}
 use Rattle.script_grammar.specs.Lexeme.{Lexeme, lexeme_of}
-use Rattle.pure_parser.specs.Parser.{Recorded, Reply, Read, Bad, Deep, Parser, noted}
-use Rattle.pure_parser.proofs.Agrees as agrees
-use Rattle.pure_parser.proofs.Complete.{bare, bare_noted}
-use Rattle.pure_parser.proofs.Local.{left, left_noted}
+use Rattle.grammar_parser_specs.specs.Parser.{Recorded, Reply, Read, Bad, Deep, Parser, noted}
+use Rattle.grammar_local_laws.proofs.Agrees as agrees
+use Rattle.grammar_parser_laws.proofs.Complete.{bare, bare_noted}
+use Rattle.grammar_parser_laws.proofs.Local.{left, left_noted}
 use Rattle.parse_exprs.specs.declared.place.ParseFault.{ParseFault}
 use Rattle.parse_exprs.specs.declared.place.ParseFault.TheVariants as faults
 use Rattle.parse_exprs.specs.declared.place.Pending.{Pending}
@@ -16,7 +16,7 @@ use Rattle.parse_exprs.specs.declared.place.Place.{Place}
 use Rattle.parse_exprs.specs.declared.source.Source.{Source}
 use Rattle.parse_exprs.specs.Answers.{Refuses, ReadAs, recorded, records}
 use Rattle.parse_exprs.specs.Source.{lexemes, front}
-use Rattle.recorded_order.proofs.Rises.{Falls, Rises, falls_wider, records_noted}
+use Rattle.parse_pending_laws.proofs.Rises.{Falls, Rises, falls_wider, records_noted}
 use Rattle.parse_parts.specs.Pending.{gained, counted, AreInText, Rise, Gains, IsGained}
 
 falls_below : (n : ℕ) (rs : List Recorded) (m : ℕ) → Falls n rs m → m < n
@@ -37,7 +37,7 @@ module _ (s : Source) (i : Interpretation) where
   unfolding front
   front_length k = length-drop k (lexemes s i) ∙ ap (λ n. n - k) (length-map s.tokens.now (lexeme_of s.get s.set i.texts))
 
-  -- bodies whose recorded ones stand one behind another
+  -- bodies whose recorded ones stand one after another
   rise_of : (start stop : ℕ) (bodies : List Pending) → Falls (suc (length (front s i start))) (map (recorded s i) bodies) (length (front s i stop)) → Rise start stop bodies
   rise_of start stop [] h = tt
   rise_of start stop (b ∷ bodies) h =
@@ -83,7 +83,7 @@ module _ (s : Source) (i : Interpretation) where
     rise = rise_of old.at stop (gained old.pending.items new.pending.items) (subst (λ rs. Falls (suc (length (front s i old.at))) rs (length (front s i stop))) (sym (gained_are old.pending.items new.pending.items gs e)) h);
   }
 
-  -- what a reply tells that stands behind records
+  -- what a reply tells that stands after records
   pub told : {A : Type 0} (rs : List Recorded) (r t : Reply A) → noted rs r ≡ t → (agrees.records t ≡ rs ++ agrees.records r) × (left r ≡ left t)
   told rs r t e = (sym (ap agrees.records e) ∙ records_noted rs r, sym (left_noted rs r) ∙ ap left e)
 

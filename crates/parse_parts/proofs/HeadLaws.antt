@@ -9,27 +9,27 @@ use Rattle.script_grammar.specs.Print.{print_function}
 use Rattle.script_grammar.specs.Proper as plain
 use Rattle.script_grammar.specs.Script.{IsOf}
 use Rattle.script_grammar.specs.Fault.{depth_limit, Begins}
-use Rattle.pure_parser.specs.Parser.{Read, Parser, head_of, end_lexeme}
-use Rattle.pure_parser.specs.Exprs.{function_of}
-use Rattle.pure_parser.proofs.Friendly.{Inside}
-use Rattle.pure_parser.proofs.Complete.{bare}
-use Rattle.pure_parser.proofs.Completes.{Completes, Any}
-use Rattle.pure_parser.proofs.SoundNext.{Plain, next_of, stands}
-use Rattle.pure_parser.proofs.SoundParts.{SoundEnv}
-use Rattle.pure_parser.proofs.SoundFunctions.{IsFunctionOf, IsPlainForm, function_sound}
-use Rattle.pure_parser.proofs.SoundEverything.{in_place_sound, reading_sound}
-use Rattle.pure_parser.proofs.LocalExprs.{function_local}
-use Rattle.pure_parser.proofs.LocalEverything.{in_place_local}
-use Rattle.pure_parser.proofs.CompleteParts.{CompleteEnv}
-use Rattle.pure_parser.proofs.CompleteEverything.{in_place_complete, reading_complete}
-use Rattle.pure_parser.proofs.CompleteFunctions.{PlainForm, function_complete}
-use Rattle.pure_parser.proofs.Bracketed.{AllInner}
-use Rattle.pure_parser.proofs.NestedTrees.{nested_function}
-use Rattle.pure_parser.proofs.FirstFaults.{Decides, read_shallow}
-use Rattle.pure_parser.proofs.PartLaws.{bad_part, deep_part, nested_inner, of_read, cuts_end, NoneDeep}
-use Rattle.pure_parser.proofs.ProperIn.{whole_mode, in_function}
-use Rattle.pure_parser.proofs.AloneLaws.{stmts_with, env_with}
-use Rattle.pure_parser.proofs.PassedHeads.{IsHeaded, HeadPart}
+use Rattle.grammar_parser_specs.specs.Parser.{Read, Parser, head_of, end_lexeme}
+use Rattle.grammar_parser_specs.specs.Exprs.{function_of}
+use Rattle.grammar_parser_laws.proofs.Friendly.{Inside}
+use Rattle.grammar_parser_laws.proofs.Complete.{bare}
+use Rattle.grammar_complete_laws.proofs.Completes.{Completes, Any}
+use Rattle.grammar_sound_laws.proofs.SoundNext.{Plain, next_of, stands}
+use Rattle.grammar_parser_laws.proofs.SoundParts.{SoundEnv}
+use Rattle.grammar_sound_laws.proofs.SoundFunctions.{IsFunctionOf, IsPlainForm, function_sound}
+use Rattle.grammar_sound_laws.proofs.SoundEverything.{in_place_sound, reading_sound}
+use Rattle.grammar_local_laws.proofs.LocalExprs.{function_local}
+use Rattle.grammar_local_laws.proofs.LocalEverything.{in_place_local}
+use Rattle.grammar_complete_laws.proofs.CompleteParts.{CompleteEnv}
+use Rattle.grammar_complete_laws.proofs.CompleteEverything.{in_place_complete, reading_complete}
+use Rattle.grammar_complete_laws.proofs.CompleteFunctions.{PlainForm, function_complete}
+use Rattle.grammar_script_laws.proofs.Bracketed.{AllInner}
+use Rattle.grammar_parser_laws.proofs.NestedTrees.{nested_function}
+use Rattle.grammar_script_laws.proofs.FirstFaults.{Decides, read_shallow}
+use Rattle.grammar_script_laws.proofs.PartLaws.{bad_part, deep_part, nested_inner, of_read, cuts_end, NoneDeep}
+use Rattle.grammar_parser_laws.proofs.ProperIn.{whole_mode, in_function}
+use Rattle.grammar_deferred_laws.proofs.AloneLaws.{stmts_with, env_with}
+use Rattle.grammar_deferred_laws.proofs.PassedHeads.{IsHeaded, HeadPart}
 
 env_sound : (room d : ℕ) → SoundEnv whole d (env_with room)
 env_sound room d = record { calls = (in_place_sound room d).exprs; body = reading_sound d (stmts_with room) (in_place_sound room d).stmts }

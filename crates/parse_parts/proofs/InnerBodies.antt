@@ -12,24 +12,24 @@ use Rattle.script_grammar.specs.Endings.{body_ending}
 use Rattle.script_grammar.specs.Pieces.{BracedArrow}
 use Rattle.script_grammar.specs.Braced.{in_expr, in_function}
 use Rattle.script_grammar.specs.Fault.{depth_limit}
-use Rattle.pure_parser.specs.Parser.{Recorded, Read, Parser, head_of}
-use Rattle.pure_parser.specs.Exprs.{BodyRead, function_of}
-use Rattle.pure_parser.specs.Stmts.{in_place, read_alone}
-use Rattle.pure_parser.proofs.Complete.{bare}
-use Rattle.pure_parser.proofs.Agrees.{fine, or_else, judged, records}
-use Rattle.pure_parser.proofs.Alike.{ExprK, FunctionK}
-use Rattle.pure_parser.proofs.AgreesStmts.{OwnK}
-use Rattle.pure_parser.proofs.AgreesAlone.{AloneK}
-use Rattle.pure_parser.proofs.AgreesScripts.{body_in_place, passed_over, silent, own_bodies_agree}
-use Rattle.pure_parser.proofs.PartLaws.{NoneDeep}
-use Rattle.pure_parser.proofs.PassingLaws.{AreBraced}
-use Rattle.pure_parser.proofs.PassedBodies.{pass_braced}
-use Rattle.pure_parser.proofs.PassedParts.{pass_env, pass_assign, pass_expression}
-use Rattle.pure_parser.proofs.AloneLaws.{env_with, read_assign, read_expression, read_braced, body_is_read}
-use Rattle.recorded_bodies.proofs.Lists.{Bodies, as_is, in_records, in_read, ListsAt, Lists}
-use Rattle.recorded_bodies.proofs.ListsStmts.{in_inner}
-use Rattle.recorded_bodies.proofs.ListsScripts.{own_bodies_list, assign_list, expr_list, head_list}
-use Rattle.recorded_bodies.proofs.ListsAlone.{in_alone, functions_list}
+use Rattle.grammar_parser_specs.specs.Parser.{Recorded, Read, Parser, head_of}
+use Rattle.grammar_parser_specs.specs.Exprs.{BodyRead, function_of}
+use Rattle.grammar_parser_specs.specs.Stmts.{in_place, read_alone}
+use Rattle.grammar_parser_laws.proofs.Complete.{bare}
+use Rattle.grammar_local_laws.proofs.Agrees.{fine, or_else, judged, records}
+use Rattle.grammar_local_laws.proofs.Alike.{ExprK, FunctionK}
+use Rattle.grammar_local_laws.proofs.AgreesStmts.{OwnK}
+use Rattle.grammar_script_laws.proofs.AgreesAlone.{AloneK}
+use Rattle.grammar_local_laws.proofs.AgreesScripts.{body_in_place, passed_over, silent, own_bodies_agree}
+use Rattle.grammar_script_laws.proofs.PartLaws.{NoneDeep}
+use Rattle.grammar_local_laws.proofs.PassingLaws.{AreBraced}
+use Rattle.grammar_deferred_laws.proofs.PassedBodies.{pass_braced}
+use Rattle.grammar_deferred_laws.proofs.PassedParts.{pass_env, pass_assign, pass_expression}
+use Rattle.grammar_deferred_laws.proofs.AloneLaws.{env_with, read_assign, read_expression, read_braced, body_is_read}
+use Rattle.parse_pending_laws.proofs.Lists.{Bodies, as_is, in_records, in_read, ListsAt, Lists}
+use Rattle.parse_pending_laws.proofs.ListsStmts.{in_inner}
+use Rattle.parse_pending_laws.proofs.ListsScripts.{own_bodies_list, assign_list, expr_list, head_list}
+use Rattle.parse_pending_laws.proofs.ListsAlone.{in_alone, functions_list}
 
 -- a recorded body, read in place, has these statements
 pub record ReadsTo (b : Recorded) (items : Stmts) : Type 0 where

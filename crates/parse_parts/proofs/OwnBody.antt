@@ -9,20 +9,20 @@ use Rattle.script_grammar.specs.Print.{print_stmts}
 use Rattle.script_grammar.specs.Script.{print_braced}
 use Rattle.script_grammar.specs.Tree.{Body, Function, Stmts}
 use Rattle.script_grammar.specs.Fault.{depth_limit}
-use Rattle.pure_parser.specs.Parser.{Recorded, Reply, Read, Bad, Deep, Parser, head_of, noted, after, ret, bad, bind, step, when}
-use Rattle.pure_parser.specs.Exprs.{Calls, BodyParser, BodyRead, Head, is_simple, expect, function_case, passing, pass_over, passed_body}
-use Rattle.pure_parser.specs.Stmts as parser
-use Rattle.pure_parser.specs.Stmts.{StmtCalls, everything, reading, alone_of, end_of}
-use Rattle.pure_parser.proofs.Tests.{bool_cases}
-use Rattle.pure_parser.proofs.Complete.{bare, bare_noted}
-use Rattle.pure_parser.proofs.LocalExprs.{after_noted}
-use Rattle.pure_parser.proofs.NestedTrees.{nested_stmts}
-use Rattle.pure_parser.proofs.Passing.{braced_pass, record_at, passed_reply, passing_here, passing_no}
-use Rattle.pure_parser.proofs.PassingLaws.{AreBraced}
-use Rattle.pure_parser.proofs.PassedBodies.{passed_is_body}
-use Rattle.pure_parser.proofs.PassedFunctions.{pass_alone}
-use Rattle.pure_parser.proofs.Agrees.{records}
-use Rattle.pure_parser.proofs.AgreesScripts.{passed_over}
+use Rattle.grammar_parser_specs.specs.Parser.{Recorded, Reply, Read, Bad, Deep, Parser, head_of, noted, after, ret, bad, bind, step, when}
+use Rattle.grammar_parser_specs.specs.Exprs.{Calls, BodyParser, BodyRead, Head, is_simple, expect, function_case, passing, pass_over, passed_body}
+use Rattle.grammar_parser_specs.specs.Stmts as parser
+use Rattle.grammar_parser_specs.specs.Stmts.{StmtCalls, everything, reading, alone_of, end_of}
+use Rattle.grammar_parser_laws.proofs.Tests.{bool_cases}
+use Rattle.grammar_parser_laws.proofs.Complete.{bare, bare_noted}
+use Rattle.grammar_local_laws.proofs.LocalExprs.{after_noted}
+use Rattle.grammar_parser_laws.proofs.NestedTrees.{nested_stmts}
+use Rattle.grammar_local_laws.proofs.Passing.{braced_pass, record_at, passed_reply, passing_here, passing_no}
+use Rattle.grammar_local_laws.proofs.PassingLaws.{AreBraced}
+use Rattle.grammar_deferred_laws.proofs.PassedBodies.{passed_is_body}
+use Rattle.grammar_deferred_laws.proofs.PassedFunctions.{pass_alone}
+use Rattle.grammar_local_laws.proofs.Agrees.{records}
+use Rattle.grammar_local_laws.proofs.AgreesScripts.{passed_over}
 use Rattle.parse_parts.proofs.Quiet.{over_records}
 use Rattle.parse_parts.proofs.Rooms.{NoneWith, none_last, no_body, none_with}
 use Rattle.parse_parts.proofs.Spine.{Spine, apart, within, from_body, spine}
@@ -227,7 +227,7 @@ module _ (bodies : ℕ → Body) (braced : AreBraced bodies) (room : ℕ) (f : F
           let p = passed_is_body bodies braced room d q f s.head.start (is_simple s.head.params) (s.first ∷ s.behind) vs x here in
           over_front p.front p.split p.items (head_of vs) (nested_stmts passed d true p.items p.is.proper) p.is.fits
         where
-          over_front : (front : List Lexeme) → s.first ∷ s.behind ≡ front ++ vs → (items : Stmts) (n : Lexeme) → Rattle.pure_parser.proofs.Nested.Nested (print_stmts passed d items) → Fits (print_braced passed d x.end items) front n → pass_over (brace ∷ []) s.behind ≡ Read x.end [] vs
+          over_front : (front : List Lexeme) → s.first ∷ s.behind ≡ front ++ vs → (items : Stmts) (n : Lexeme) → Rattle.grammar_parser_laws.proofs.Nested.Nested (print_stmts passed d items) → Fits (print_braced passed d x.end items) front n → pass_over (brace ∷ []) s.behind ≡ Read x.end [] vs
           over_front [] e items n k h = absurd h
           over_front (t ∷ w) e items n k h = ap (pass_over (brace ∷ [])) (tail e) ∙ braced_pass d x.end (print_stmts passed d items) k t w n vs h
             where

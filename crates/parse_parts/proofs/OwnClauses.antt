@@ -13,14 +13,14 @@ use Rattle.script_grammar.specs.Pieces.{passed}
 use Rattle.script_grammar.specs.Shows.{FuncBodyOf, FuncOf, ShowFunc}
 use Rattle.script_grammar.specs.Tree.{Expr, Stmts, Body, BracedBody, Function, function}
 use Rattle.script_grammar.specs.TreeLists.{params_of}
-use Rattle.pure_parser.specs.Parser.{Recorded, Reply, Read, Bad, Deep, Parser, head_of, ret, bad, when}
-use Rattle.pure_parser.specs.Exprs.{Env, BodyRead, is_simple, function_case, passed_body}
-use Rattle.pure_parser.specs.Stmts as pure
-use Rattle.pure_parser.specs.Stmts.{end_of}
-use Rattle.pure_parser.proofs.Agrees as agrees
-use Rattle.pure_parser.proofs.ClosedParts.{balanced_matches, function_balanced}
-use Rattle.pure_parser.proofs.Complete.{bare}
-use Rattle.pure_parser.proofs.PassedFunctions.{pass_alone, function_decides}
+use Rattle.grammar_parser_specs.specs.Parser.{Recorded, Reply, Read, Bad, Deep, Parser, head_of, ret, bad, when}
+use Rattle.grammar_parser_specs.specs.Exprs.{Env, BodyRead, is_simple, function_case, passed_body}
+use Rattle.grammar_parser_specs.specs.Stmts as pure
+use Rattle.grammar_parser_specs.specs.Stmts.{end_of}
+use Rattle.grammar_local_laws.proofs.Agrees as agrees
+use Rattle.grammar_deferred_laws.proofs.ClosedParts.{balanced_matches, function_balanced}
+use Rattle.grammar_parser_laws.proofs.Complete.{bare}
+use Rattle.grammar_deferred_laws.proofs.PassedFunctions.{pass_alone, function_decides}
 use Rattle.parse_exprs.specs.declared.place.ParseFault.{ParseFault}
 use Rattle.parse_exprs.specs.declared.place.ParseFault.TheVariants as faults
 use Rattle.parse_exprs.specs.declared.place.Pending.{Pending}
@@ -198,7 +198,7 @@ module _ (s : Source) (h : IsSource s) (i : Interpretation) (f : FuncForm) (n : 
           by (faults.TooDeep k) h = alone_refused shows shows_body stop (faults.TooDeep k) (own_deep (body_at i) (given i) depth_limit f (front s i start) (front s i k) (recorded s i own) st (ap bare (sym own_here) ∙ h))
           by faults.NoMemory h = tt
 
-      -- the own body is read: behind it the same is found as where it is passed over
+      -- the own body is read: after it the same is found as where it is passed over
 
       module _ (p : Place) (b : BodyNode B) (a : Answers (BodyOf shows_body) s i q (Ok b) rs own_reply) where
         here : (bare (pass_alone (body_at i) (given i) depth_limit f (front s i start)) ≡ bare (end_of (function_case f None st.head (record { body = BracedBody a.0; end = b.end })) (front s i q.at)))

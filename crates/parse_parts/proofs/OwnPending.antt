@@ -1,22 +1,22 @@
 -- A function that is read alone: its own body is passed over last, and is taken from what was recorded when it is read; what is
--- recorded then are the bodies in the parameters, and behind them those inside the own body.
+-- recorded then are the bodies in the parameters, and after them those inside the own body.
 use Rattle.std.proofs.Common.{◌≡◌, ◌∙◌, ℕ, suc, List, [], ◌∷◌, ◌++◌, length, append-nil, refl, sym, ap, subst, Bool, true, false, None}
 use Rattle.script_grammar.specs.declared.token.FuncForm.{FuncForm}
 use Rattle.script_grammar.specs.Fault.{depth_limit}
 use Rattle.script_grammar.specs.Kinds.{is_end}
 use Rattle.script_grammar.specs.Lexeme.{Lexeme}
 use Rattle.script_grammar.specs.Tree.{Body}
-use Rattle.pure_parser.specs.Parser.{Recorded, Reply, Read, Bad, Deep, head_of, after, ret, bad, when}
-use Rattle.pure_parser.specs.Exprs.{BodyRead, function_case, is_simple, passed_body}
-use Rattle.pure_parser.specs.Stmts.{end_of}
-use Rattle.pure_parser.proofs.Agrees.{records}
-use Rattle.pure_parser.proofs.Complete.{bare}
-use Rattle.pure_parser.proofs.Local.{left}
-use Rattle.pure_parser.proofs.Refuse.{left_bare}
-use Rattle.pure_parser.proofs.PassingLaws.{AreBraced}
-use Rattle.pure_parser.proofs.PassedFunctions.{pass_alone}
-use Rattle.recorded_order.proofs.Rises.{Falls, falls_append, records_noted}
-use Rattle.recorded_order.proofs.RisesAll.{own_rises, passed_alone_rises}
+use Rattle.grammar_parser_specs.specs.Parser.{Recorded, Reply, Read, Bad, Deep, head_of, after, ret, bad, when}
+use Rattle.grammar_parser_specs.specs.Exprs.{BodyRead, function_case, is_simple, passed_body}
+use Rattle.grammar_parser_specs.specs.Stmts.{end_of}
+use Rattle.grammar_local_laws.proofs.Agrees.{records}
+use Rattle.grammar_parser_laws.proofs.Complete.{bare}
+use Rattle.grammar_parser_laws.proofs.Local.{left}
+use Rattle.grammar_script_laws.proofs.Refuse.{left_bare}
+use Rattle.grammar_local_laws.proofs.PassingLaws.{AreBraced}
+use Rattle.grammar_deferred_laws.proofs.PassedFunctions.{pass_alone}
+use Rattle.parse_pending_laws.proofs.Rises.{Falls, falls_append, records_noted}
+use Rattle.parse_pending_laws.proofs.RisesAll.{own_rises, passed_alone_rises}
 use Rattle.parse_parts.proofs.OwnBody.{passes, whole, own_body, end_records, Stood, own_read}
 
 -- what is in front of the last
@@ -33,7 +33,7 @@ end_left {A = A} a us = by (is_end (head_of us).kind)
     by false = refl
 
 module _ (bodies : ℕ → Body) (braced : AreBraced bodies) (f : FuncForm) (ts : List Lexeme) (b : Recorded) (s : Stood bodies braced depth_limit f ts b) where
-  -- all that was recorded when the own body was read, one behind another
+  -- all that was recorded when the own body was read, one after another
   pub own_falls : Falls (suc (length ts)) (s.before ++ records (own_body bodies braced depth_limit f s.head b.from)) (length (left (own_body bodies braced depth_limit f s.head b.from)))
   own_falls =
       let all = subst (λ rs. Falls (suc (length ts)) rs (length (left (passes bodies braced depth_limit f ts)))) s.recorded_are ((passed_alone_rises bodies depth_limit f).at ts) in
@@ -41,7 +41,7 @@ module _ (bodies : ℕ → Body) (braced : AreBraced bodies) (f : FuncForm) (ts 
       (falls_front (suc (length ts)) s.before b (length (left (passes bodies braced depth_limit f ts))) all)
       ((own_rises bodies depth_limit f s.head.start (is_simple s.head.params)).at b.from)
 
-  -- behind the own body the function stands where it is passed over
+  -- after the own body the function stands where it is passed over
   pub passes_left : (x : BodyRead) (vs : List Lexeme) → bare (own_body bodies braced depth_limit f s.head b.from) ≡ Read x [] vs → left (passes bodies braced depth_limit f ts) ≡ vs
   passes_left x vs e =
       sym (left_bare (passes bodies braced depth_limit f ts)) ∙ ap left (own_read bodies braced depth_limit f 0 refl ts vs b s x e).1

@@ -5,15 +5,15 @@ use Rattle.script_grammar.specs.declared.token.FuncForm.{FuncForm}
 use Rattle.script_grammar.specs.Fault.{depth_limit}
 use Rattle.script_grammar.specs.Interpretation.{Interpretation}
 use Rattle.script_grammar.specs.Tree.{Named, Expr, Stmts, no_stmts}
-use Rattle.pure_parser.specs.Parser.{Parser}
-use Rattle.pure_parser.specs.Exprs.{Env, AnAssign, BodyRead, expr_of, function_of, passing}
-use Rattle.pure_parser.specs.Stmts as pure
-use Rattle.pure_parser.proofs.AgreesScripts.{calls_are}
-use Rattle.pure_parser.proofs.CompleteFunctions.{PlainForm}
-use Rattle.pure_parser.proofs.PassedBodies.{pass_braced}
-use Rattle.pure_parser.proofs.PassedParts.{pass_assign, pass_expression}
-use Rattle.recorded_order.proofs.Rises.{Rises}
-use Rattle.recorded_order.proofs.RisesAll.{assign_rises, expression_rises, headed_rises, own_rises}
+use Rattle.grammar_parser_specs.specs.Parser.{Parser}
+use Rattle.grammar_parser_specs.specs.Exprs.{Env, AnAssign, BodyRead, expr_of, function_of, passing}
+use Rattle.grammar_parser_specs.specs.Stmts as pure
+use Rattle.grammar_local_laws.proofs.AgreesScripts.{calls_are}
+use Rattle.grammar_complete_laws.proofs.CompleteFunctions.{PlainForm}
+use Rattle.grammar_deferred_laws.proofs.PassedBodies.{pass_braced}
+use Rattle.grammar_deferred_laws.proofs.PassedParts.{pass_assign, pass_expression}
+use Rattle.parse_pending_laws.proofs.Rises.{Rises}
+use Rattle.parse_pending_laws.proofs.RisesAll.{assign_rises, expression_rises, headed_rises, own_rises}
 use Rattle.parse_exprs.specs.declared.part.Ranked.{Ranked}
 use Rattle.parse_exprs.specs.declared.place.ParseFault.{ParseFault}
 use Rattle.parse_exprs.specs.declared.place.Place.{Place}

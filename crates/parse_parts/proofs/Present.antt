@@ -1,4 +1,4 @@
--- A part that stands in front of the tokens behind it is read, where no token of it is too deep. So there is none where the
+-- A part that stands in front of the tokens after it is read, where no token of it is too deep. So there is none where the
 -- parser faults.
 use Rattle.std.proofs.Common.{◌≡◌, ◌∙◌, ℕ, ◌+◌, List, [], ◌++◌, sym, ap, subst, Bool, Option, None}
 use Rattle.script_grammar.specs.declared.token.FuncForm.{FuncForm}
@@ -11,14 +11,14 @@ use Rattle.script_grammar.specs.Pieces.{passed, depths}
 use Rattle.script_grammar.specs.Print.{print_function}
 use Rattle.script_grammar.specs.Script.{IsFunction, IsBody, print_braced, print_alone}
 use Rattle.script_grammar.specs.Tree.{Named, Stmts, Function}
-use Rattle.pure_parser.specs.Parser.{Read, Parser, head_of}
-use Rattle.pure_parser.specs.Exprs.{BodyRead}
-use Rattle.pure_parser.proofs.Complete.{bare}
-use Rattle.pure_parser.proofs.CompleteFunctions.{PlainForm}
-use Rattle.pure_parser.proofs.PartLaws.{NoneDeep}
-use Rattle.pure_parser.proofs.PassedBodies.{pass_braced, body_is_passed}
-use Rattle.pure_parser.proofs.PassedFunctions.{pass_alone, function_is_passed}
-use Rattle.pure_parser.proofs.PassedHeads.{pass_head, head_is_passed}
+use Rattle.grammar_parser_specs.specs.Parser.{Read, Parser, head_of}
+use Rattle.grammar_parser_specs.specs.Exprs.{BodyRead}
+use Rattle.grammar_parser_laws.proofs.Complete.{bare}
+use Rattle.grammar_complete_laws.proofs.CompleteFunctions.{PlainForm}
+use Rattle.grammar_script_laws.proofs.PartLaws.{NoneDeep}
+use Rattle.grammar_deferred_laws.proofs.PassedBodies.{pass_braced, body_is_passed}
+use Rattle.grammar_deferred_laws.proofs.PassedFunctions.{pass_alone, function_is_passed}
+use Rattle.grammar_deferred_laws.proofs.PassedHeads.{pass_head, head_is_passed}
 use Rattle.parse_exprs.specs.Env.{body_at}
 use Rattle.parse_parts.specs.Parts.{IsHead, NoHead, NoBody, NoFunction}
 use Rattle.parse_parts.proofs.Takes.{given}

@@ -7,17 +7,17 @@ use Rattle.script_grammar.specs.Kinds.{is_mark}
 use Rattle.script_grammar.specs.Lexeme.{Lexeme}
 use Rattle.script_grammar.specs.Pieces.{Opener, brace, open_behind}
 use Rattle.script_grammar.specs.Tree.{Body}
-use Rattle.pure_parser.specs.Parser.{Recorded, Reply, Read, Bad, Deep, Parser, put_before, after, ret}
-use Rattle.pure_parser.specs.Exprs.{Call, BodyParser, BodyRead, passing, pass_case, pass_over, passed_body, calls}
-use Rattle.pure_parser.specs.Filling.{fill_body}
-use Rattle.pure_parser.proofs.Tests.{bool_cases}
-use Rattle.pure_parser.proofs.Complete.{bare, bare_noted}
-use Rattle.pure_parser.proofs.Passing.{record_at, passed_reply, passing_here, passing_no}
-use Rattle.pure_parser.proofs.PassingLaws.{AreBraced}
-use Rattle.pure_parser.proofs.Agrees.{Verdict, fine, or_else, judged, records, MeetsAt, Agrees}
-use Rattle.pure_parser.proofs.Alike.{BodyK}
-use Rattle.pure_parser.proofs.AgreesExprs.{CallK, AgreesEnv}
-use Rattle.pure_parser.proofs.AgreesCalls.{case_agrees, no_calls_agrees}
+use Rattle.grammar_parser_specs.specs.Parser.{Recorded, Reply, Read, Bad, Deep, Parser, put_before, after, ret}
+use Rattle.grammar_parser_specs.specs.Exprs.{Call, BodyParser, BodyRead, passing, pass_case, pass_over, passed_body, calls}
+use Rattle.grammar_parser_specs.specs.Filling.{fill_body}
+use Rattle.grammar_parser_laws.proofs.Tests.{bool_cases}
+use Rattle.grammar_parser_laws.proofs.Complete.{bare, bare_noted}
+use Rattle.grammar_local_laws.proofs.Passing.{record_at, passed_reply, passing_here, passing_no}
+use Rattle.grammar_local_laws.proofs.PassingLaws.{AreBraced}
+use Rattle.grammar_local_laws.proofs.Agrees.{Verdict, fine, or_else, judged, records, MeetsAt, Agrees}
+use Rattle.grammar_local_laws.proofs.Alike.{BodyK}
+use Rattle.grammar_local_laws.proofs.AgreesExprs.{CallK, AgreesEnv}
+use Rattle.grammar_local_laws.proofs.AgreesCalls.{case_agrees, no_calls_agrees}
 
 -- what was read, with its records
 pub with_records : {A : Type 0} (a : A) (us : List Lexeme) (r : Reply A) → bare r ≡ Read a [] us → (rs : List Recorded) × (r ≡ Read a rs us)

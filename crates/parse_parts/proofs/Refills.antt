@@ -3,16 +3,16 @@
 use Rattle.std.proofs.Common.{◌≡◌, ◌∙◌, ℕ, suc, ◌<◌, List, [], ◌∷◌, refl, sym, ap, subst, arith, Bool}
 use Rattle.script_grammar.specs.Lexeme.{Lexeme}
 use Rattle.script_grammar.specs.Tree.{Body, Expr}
-use Rattle.pure_parser.specs.Parser.{Recorded, Reply, Read, Parser}
-use Rattle.pure_parser.specs.Exprs.{Env, AnAssign, passing, calls, expr_of}
-use Rattle.pure_parser.specs.Filling.{fill}
-use Rattle.pure_parser.proofs.Complete.{bare}
-use Rattle.pure_parser.proofs.PassingLaws.{AreBraced}
-use Rattle.pure_parser.proofs.PassedParts.{pass_env, pass_assign, pass_expression}
-use Rattle.pure_parser.proofs.Agrees.{fine, judged, records, MeetsAt, Agrees}
-use Rattle.pure_parser.proofs.Alike.{ExprK}
-use Rattle.pure_parser.proofs.AgreesExprs.{AgreesEnv, expr_agrees}
-use Rattle.pure_parser.proofs.AgreesScripts.{calls_are}
+use Rattle.grammar_parser_specs.specs.Parser.{Recorded, Reply, Read, Parser}
+use Rattle.grammar_parser_specs.specs.Exprs.{Env, AnAssign, passing, calls, expr_of}
+use Rattle.grammar_parser_specs.specs.Filling.{fill}
+use Rattle.grammar_parser_laws.proofs.Complete.{bare}
+use Rattle.grammar_local_laws.proofs.PassingLaws.{AreBraced}
+use Rattle.grammar_deferred_laws.proofs.PassedParts.{pass_env, pass_assign, pass_expression}
+use Rattle.grammar_local_laws.proofs.Agrees.{fine, judged, records, MeetsAt, Agrees}
+use Rattle.grammar_local_laws.proofs.Alike.{ExprK}
+use Rattle.grammar_local_laws.proofs.AgreesExprs.{AgreesEnv, expr_agrees}
+use Rattle.grammar_local_laws.proofs.AgreesScripts.{calls_are}
 use Rattle.parse_parts.proofs.Quiet.{quiet, quiet_passing, quiet_quiet, env_alike, with_records}
 
 -- every recorded body is held to have no fault

@@ -3,18 +3,18 @@ use Rattle.std.proofs.Common.{◌≡◌, ◌∙◌, ℕ, ◌+◌, ◌-◌, ◌<�
 use Rattle.std.proofs.lemmas.List.{length-drop, length-append}
 use Rattle.script_grammar.specs.Lexeme.{Lexeme}
 use Rattle.script_grammar.specs.Fault.{Part, RefusedAs, Refusal, Unexpected, TooDeep, FirstFault}
-use Rattle.pure_parser.specs.Parser.{Bad, Deep, Parser}
-use Rattle.pure_parser.proofs.Complete.{bare}
-use Rattle.pure_parser.proofs.FirstFaults.{Decides, first_deep}
-use Rattle.pure_parser.proofs.Closed.{Closed}
-use Rattle.pure_parser.proofs.ClosedParts.{Matches, closed_some, first_bad_closed}
+use Rattle.grammar_parser_specs.specs.Parser.{Bad, Deep, Parser}
+use Rattle.grammar_parser_laws.proofs.Complete.{bare}
+use Rattle.grammar_script_laws.proofs.FirstFaults.{Decides, first_deep}
+use Rattle.grammar_script_laws.proofs.Closed.{Closed}
+use Rattle.grammar_deferred_laws.proofs.ClosedParts.{Matches, closed_some, first_bad_closed}
 use Rattle.parse_parts.specs.Parts.{Refused}
 
 pub some_left : (us : List Lexeme) → (us ≡ [] → ⊥) → 0 < length us
 some_left [] n = absurd (n refl)
 some_left (t ∷ us) n = omega arith
 
--- a fault behind what was read stands in the text
+-- a fault after what was read stands in the text
 at_token : (P : Part) (all front : List Lexeme) (start token : ℕ) (why : Refusal) → drop start all ≡ front ++ drop token all → (drop token all ≡ [] → ⊥) → FirstFault P (drop start all) (length (drop start all) - length (drop token all)) why → Refused P (drop start all) start token why
 at_token P all front start token why e n h =
     let left = some_left (drop token all) n in

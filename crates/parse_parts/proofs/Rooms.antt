@@ -5,13 +5,13 @@ use Rattle.std.proofs.lemmas.Bool.{ne_eqb, eq-eqb}
 use Rattle.script_grammar.specs.declared.token.FuncForm.{FuncForm}
 use Rattle.script_grammar.specs.Lexeme.{Lexeme}
 use Rattle.script_grammar.specs.Tree.{Body, Function}
-use Rattle.pure_parser.specs.Parser.{Recorded, Reply, Read, Bad, Deep}
-use Rattle.pure_parser.specs.Exprs.{Env, Calls, BodyParser, passing, calls}
-use Rattle.pure_parser.specs.Stmts.{everything, alone_of}
-use Rattle.pure_parser.proofs.PassingLaws.{AreBraced}
-use Rattle.pure_parser.proofs.Agrees.{Verdict, bad_at, deep_at, or_else, judged, records, MeetsAt, Agrees, agrees_bad}
-use Rattle.pure_parser.proofs.AgreesAlone.{AloneK, alone_agrees}
-use Rattle.pure_parser.proofs.AgreesScripts.{passed_over, calls_are}
+use Rattle.grammar_parser_specs.specs.Parser.{Recorded, Reply, Read, Bad, Deep}
+use Rattle.grammar_parser_specs.specs.Exprs.{Env, Calls, BodyParser, passing, calls}
+use Rattle.grammar_parser_specs.specs.Stmts.{everything, alone_of}
+use Rattle.grammar_local_laws.proofs.PassingLaws.{AreBraced}
+use Rattle.grammar_local_laws.proofs.Agrees.{Verdict, bad_at, deep_at, or_else, judged, records, MeetsAt, Agrees, agrees_bad}
+use Rattle.grammar_script_laws.proofs.AgreesAlone.{AloneK, alone_agrees}
+use Rattle.grammar_local_laws.proofs.AgreesScripts.{passed_over, calls_are}
 use Rattle.parse_parts.proofs.Quiet.{quiet, quiet_passing, calls_alike}
 
 -- no body of these has so much room

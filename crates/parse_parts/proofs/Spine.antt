@@ -1,5 +1,5 @@
 -- A function that is read alone, whatever its braced body is read by: either the body is not reached, and the reply is the same
--- for all, or it is reached behind the same parameters.
+-- for all, or it is reached after the same parameters.
 use Rattle.std.proofs.Common.{◌≡◌, ◌∙◌, List, [], ◌++◌, refl, sym, ap, Bool, true, false, None}
 use Rattle.script_grammar.specs.declared.token.FuncForm.{FuncForm}
 use Rattle.script_grammar.specs.declared.token.FuncForm.TheVariants as form
@@ -7,19 +7,19 @@ use Rattle.script_grammar.specs.declared.token.mark.TheConstants as mark
 use Rattle.script_grammar.specs.Kinds.{is_mark}
 use Rattle.script_grammar.specs.Lexeme.{Lexeme}
 use Rattle.script_grammar.specs.Tree.{Function}
-use Rattle.pure_parser.specs.Parser.{Recorded, Reply, Read, Bad, Deep, Parser, head_of, noted, after, ret, bind, when}
-use Rattle.pure_parser.specs.Exprs
-use Rattle.pure_parser.specs.Exprs.{Env, Calls, AnAssign, BodyParser, BodyRead, Head, is_simple, function_case, function_of, spanned, short_body}
-use Rattle.pure_parser.specs.Stmts as parser
-use Rattle.pure_parser.specs.Stmts.{alone_of, arrow_alone, end_of}
-use Rattle.pure_parser.proofs.LocalExprs.{noted_twice, after_noted, after_twice}
+use Rattle.grammar_parser_specs.specs.Parser.{Recorded, Reply, Read, Bad, Deep, Parser, head_of, noted, after, ret, bind, when}
+use Rattle.grammar_parser_specs.specs.Exprs
+use Rattle.grammar_parser_specs.specs.Exprs.{Env, Calls, AnAssign, BodyParser, BodyRead, Head, is_simple, function_case, function_of, spanned, short_body}
+use Rattle.grammar_parser_specs.specs.Stmts as parser
+use Rattle.grammar_parser_specs.specs.Stmts.{alone_of, arrow_alone, end_of}
+use Rattle.grammar_local_laws.proofs.LocalExprs.{noted_twice, after_noted, after_twice}
 
 module _ (sub : Calls) (f : FuncForm) where
   -- with this reader of braced bodies
   abbrev pub with_body : BodyParser → Env
   with_body x = record { sub = sub; body = x }
 
-  -- the body and what stands behind it, once the parameters are read
+  -- the body and what stands after it, once the parameters are read
   abbrev pub from_body : BodyParser → Head → Parser Function
   from_body x h us = after (x f h.start (is_simple h.params) us) (λ b. end_of (function_case f None h b))
 

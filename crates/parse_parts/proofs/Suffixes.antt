@@ -4,8 +4,8 @@ use Rattle.std.proofs.Common.{◌≡◌, ◌∙◌, ℕ, ◌≤◌, List, [], �
 use Rattle.std.proofs.lemmas.List.{take-append-drop, drop-append-le}
 use Rattle.script_grammar.specs.Lexeme.{Lexeme}
 use Rattle.script_grammar.specs.Pieces.{Opener, open_behind, open_at_end}
-use Rattle.pure_parser.proofs.Nested.{open_step, open_append, deeper_behind}
-use Rattle.pure_parser.proofs.Closed.{Closed, open_front, not_both}
+use Rattle.grammar_parser_laws.proofs.Nested.{open_step, open_append, deeper_behind}
+use Rattle.grammar_script_laws.proofs.Closed.{Closed, open_front, not_both}
 
 -- what is known of brackets is known where more are open around
 more_around : (u : List Lexeme) (ps qs os : List Opener) → open_at_end ps u ≡ Some qs → open_at_end (ps ++ os) u ≡ Some (qs ++ os)

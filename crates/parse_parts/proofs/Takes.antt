@@ -12,21 +12,21 @@ use Rattle.script_grammar.specs.Pieces.{passed, depths}
 use Rattle.script_grammar.specs.Print.{print, print_function}
 use Rattle.script_grammar.specs.Script.{print_braced, print_alone}
 use Rattle.script_grammar.specs.Fault.{depth_limit, Part, Begins, AssignPart, ExpressionPart}
-use Rattle.pure_parser.specs.Parser.{Reply, Read, head_of}
-use Rattle.pure_parser.specs.Exprs.{BodyRead}
-use Rattle.pure_parser.specs.Filling.{fill_stmts, fill_function}
-use Rattle.pure_parser.proofs.Complete.{bare}
-use Rattle.pure_parser.proofs.CompleteFunctions.{PlainForm}
-use Rattle.pure_parser.proofs.Tests.{end_known}
-use Rattle.pure_parser.proofs.Closed.{Closed}
-use Rattle.pure_parser.proofs.ClosedParts.{assign_balanced, expression_balanced, leaves_some}
-use Rattle.pure_parser.proofs.Longest.{passed_assign_is_longest, passed_expression_is_longest}
-use Rattle.pure_parser.proofs.PassingLaws.{AreBraced}
-use Rattle.pure_parser.proofs.PassedParts.{pass_assign, pass_expression, passed_is_assign, passed_is_expression}
-use Rattle.pure_parser.proofs.PassedBodies.{pass_braced, passed_is_body, body_is_passed}
-use Rattle.pure_parser.proofs.PassedHeads.{pass_head, passed_is_head, head_is_passed}
-use Rattle.pure_parser.proofs.PassedFunctions.{pass_alone, passed_is_function, function_is_passed}
-use Rattle.pure_parser.proofs.AgreesAlone.{fill_alone}
+use Rattle.grammar_parser_specs.specs.Parser.{Reply, Read, head_of}
+use Rattle.grammar_parser_specs.specs.Exprs.{BodyRead}
+use Rattle.grammar_parser_specs.specs.Filling.{fill_stmts, fill_function}
+use Rattle.grammar_parser_laws.proofs.Complete.{bare}
+use Rattle.grammar_complete_laws.proofs.CompleteFunctions.{PlainForm}
+use Rattle.grammar_parser_laws.proofs.Tests.{end_known}
+use Rattle.grammar_script_laws.proofs.Closed.{Closed}
+use Rattle.grammar_deferred_laws.proofs.ClosedParts.{assign_balanced, expression_balanced, leaves_some}
+use Rattle.grammar_deferred_laws.proofs.Longest.{passed_assign_is_longest, passed_expression_is_longest}
+use Rattle.grammar_local_laws.proofs.PassingLaws.{AreBraced}
+use Rattle.grammar_deferred_laws.proofs.PassedParts.{pass_assign, pass_expression, passed_is_assign, passed_is_expression}
+use Rattle.grammar_deferred_laws.proofs.PassedBodies.{pass_braced, passed_is_body, body_is_passed}
+use Rattle.grammar_deferred_laws.proofs.PassedHeads.{pass_head, passed_is_head, head_is_passed}
+use Rattle.grammar_deferred_laws.proofs.PassedFunctions.{pass_alone, passed_is_function, function_is_passed}
+use Rattle.grammar_script_laws.proofs.AgreesAlone.{fill_alone}
 use Rattle.parse_exprs.specs.Env.{body_at}
 use Rattle.parse_parts.specs.Parts.{IsLongest, TakesAssign, TakesExpression, TakesHead, TakesBody, TakesAlone, fill_inside}
 use Rattle.parse_parts.proofs.Refills.{assign_kept, expression_kept}
@@ -35,7 +35,7 @@ use Rattle.parse_parts.proofs.Refills.{assign_kept, expression_kept}
 pub given : (i : Interpretation) → AreBraced (body_at i)
 given i = record { items = i.bodies; are = λ n. refl }
 
--- behind what was read stands a token
+-- after what was read stands a token
 longest_by : (P : Part) (tokens us : List Lexeme) → (us ≡ [] → ⊥) → ((x : Lexeme) (r : List Lexeme) → us ≡ x ∷ r → Begins P (tokens ++ x ∷ []) → ⊥) → IsLongest P tokens us
 longest_by P tokens [] n h b = n refl
 longest_by P tokens (x ∷ r) n h b = h x r refl b

@@ -1,6 +1,6 @@
 -- What is read of a part alone: which tokens, which tree the node stands for, and where the first fault is.
 --
--- Everywhere here `from` are the tokens of the text from the place on where a call began, and `behind` those from the place on
+-- Everywhere here `from` are the tokens of the text from the place on where a call began, and `after` those from the place on
 -- where it stands afterwards. Braced bodies of functions are passed over: they are looked at as tokens whose brackets match.
 use Rattle.std.specs.Prelude.{ℕ, ◌≤◌, ◌-◌, ◌≡◌, List, [], ◌∷◌, ◌++◌, get_or, take, Bool, Option, None}
 use Rattle.script_grammar.specs.declared.token.Kind.TheVariants as kind
@@ -16,8 +16,8 @@ use Rattle.script_grammar.specs.Print.{print_function}
 use Rattle.script_grammar.specs.Proper.{ProperFunction}
 use Rattle.script_grammar.specs.Script.{IsOf}
 use Rattle.script_grammar.specs.Fault.{depth_limit, Part, Begins, Refusal, FirstFault, AssignPart, ExpressionPart, BodyPart, FunctionPart}
-use Rattle.pure_parser.specs.Parser.{head_of}
-use Rattle.pure_parser.specs.Filling.{fill, fill_params, fill_stmts, fill_function}
+use Rattle.grammar_parser_specs.specs.Parser.{head_of}
+use Rattle.grammar_parser_specs.specs.Filling.{fill, fill_params, fill_stmts, fill_function}
 use Rattle.parse_exprs.specs.Env.{body_at}
 
 -- A function that is no arrow (ECMA-262, 12th edition, clause 15), from its parameters on up to the end of its braced body,
@@ -85,7 +85,7 @@ pub record TakesBody {B : Type 0} (i : Interpretation) (shows : B → Stmts → 
   pub ends : taken.part.end ≡ end
   pub shown : shows node (fill_stmts (body_at i) taken.part.items)
 
--- behind the function only the End token stands
+-- after the function only the End token stands
 pub record TakesAlone {E B : Type 0} (i : Interpretation) (shows : E → Expr → Type 0) (shows_body : B → Stmts → Type 0) (form : FuncForm) (depth : ℕ) (from behind : List Lexeme) (node : NodeFunc E B) : Type 0 where
   pub taken : Taken (FunctionPart passed form None depth) from behind
   pub next : taken.part.next ≡ head_of behind
@@ -97,7 +97,7 @@ pub record TakesAlone {E B : Type 0} (i : Interpretation) (shows : E → Expr �
 pub record NoneWhole (P : Part) (from : List Lexeme) (count : ℕ) : Type 0 where
   pub none : (deep : List ℕ) → P (take count from) deep → ((j : ℕ) → get_or deep j 0 ≤ depth_limit) → ⊥
 
--- Where no token behind a part matters there is none at all: what ends with a brace stands nowhere, and a function not in front
+-- Where no token after a part matters there is none at all: what ends with a brace stands nowhere, and a function not in front
 -- of the End token.
 
 pub record NoHead (form : FuncForm) (name : Option Named) (depth : ℕ) (from : List Lexeme) : Type 0 where

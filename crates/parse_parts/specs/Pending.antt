@@ -1,6 +1,6 @@
 -- Which bodies a call puts on the pending list that reads a part: the braced bodies of functions that it passes over.
 --
--- Everywhere here `old` is the list where a call began, and `new` the list where it stands afterwards. The bodies behind as many
+-- Everywhere here `old` is the list where a call began, and `new` the list where it stands afterwards. The bodies after as many
 -- as there were before are gained.
 use Rattle.std.specs.Prelude.{ℕ, suc, ◌<◌, ◌≤◌, ◌≡◌, List, [], ◌∷◌, ◌++◌, length, map, drop, min, Bool, false, Option, None, Result, Ok, Err}
 use Rattle.script_grammar.specs.declared.token.Kind.TheVariants as kind
@@ -14,8 +14,8 @@ use Rattle.script_grammar.specs.Pieces.{whole}
 use Rattle.script_grammar.specs.Shows.{ShowAll, ShowFunc}
 use Rattle.script_grammar.specs.Tree.{Named, Expr, Stmts, Body, Function, function}
 use Rattle.script_grammar.specs.Tree as tree
-use Rattle.pure_parser.specs.Parser.{head_of}
-use Rattle.pure_parser.specs.Filling.{fill, fill_stmts, fill_function}
+use Rattle.grammar_parser_specs.specs.Parser.{head_of}
+use Rattle.grammar_parser_specs.specs.Filling.{fill, fill_stmts, fill_function}
 use Rattle.parse_exprs.specs.declared.place.ParseFault.{ParseFault}
 use Rattle.parse_exprs.specs.declared.place.ParseFault.TheVariants as faults
 use Rattle.parse_exprs.specs.declared.place.Pending.{Pending}
@@ -38,13 +38,13 @@ abbrev pub AreInText : Source → List Pending → Type 0
 AreInText s [] = Unit {0}
 AreInText s (b ∷ bodies) = (b.token < length s.tokens.now) × AreInText s bodies
 
--- One behind another: each begins at a token from the first of these numbers on and in front of the second, and behind the one
+-- One after another: each begins at a token from the first of these numbers on and in front of the second, and after the one
 -- before it.
 abbrev pub Rise : (from to : ℕ) → List Pending → Type 0
 Rise from to [] = Unit {0}
 Rise from to (b ∷ bodies) = (from ≤ b.token) × (b.token < to) × Rise (suc b.token) to bodies
 
--- What was on the list is there as it was, and behind it are bodies between the two tokens, each once, in the order of the source.
+-- What was on the list is there as it was, and after it are bodies between the two tokens, each once, in the order of the source.
 pub record Gains (s : Source) (start stop : ℕ) (old new : List Pending) : Type 0 where
   pub kept : AreInText s old → map counted new ≡ map counted (old ++ gained old new)
   pub rise : Rise start stop (gained old new)

@@ -9,7 +9,7 @@
 //!
 //! Braced bodies of functions inside a part are passed over and put on the pending list: they are looked at as tokens whose
 //! brackets match. Of a function that is read alone, and of a body, the own statements are read. What was on the list stays in
-//! front; behind it come the bodies that were passed over, each once, in the order of the source, after Ok and up to the token
+//! front; after it come the bodies that were passed over, each once, in the order of the source, after Ok and up to the token
 //! of a fault. After Ok they complete the part: where each of them is a braced body by the grammar, the tokens that were taken
 //! are the part with all bodies in it read, and its own bodies are these (specs/Pending.antt).
 #![tactic(auto)]

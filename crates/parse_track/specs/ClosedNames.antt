@@ -8,7 +8,7 @@ use Rattle.parse_track.specs.EarlyErrors.{has}
 abbrev pub names_of : {A : Type 0} → List (Name A) → List A
 names_of xs = map (λ x. x.name) xs
 
--- of these names those that stand for the first time, behind some that were seen
+-- of these names those that stand for the first time, after some that were seen
 abbrev pub without : {A : Type 0} → (A → A → Bool) → List A → List A → List A
 without same seen [] = []
 without same seen (x ∷ xs) = cond (has same x seen) [] (x ∷ []) ++ without same (seen ++ x ∷ []) xs
@@ -29,7 +29,7 @@ has_body (leaf _ t) = has_body t
 has_body (inner k _ _ t) = is_body k || has_body t
 
 -- The scopes of a function, which are those of FunctionDeclarationInstantiation, ECMA-262, 10.2.11: the parameters and the
--- var names, with what is implicit behind them, then the lexical names. Where the body is a region of its own it has the
+-- var names, with what is implicit after them, then the lexical names. Where the body is a region of its own it has the
 -- var names and the lexical names.
 abbrev pub function_scopes : {A : Type 0} → (A → A → Bool) → List A → Bool → Told A → List (List A)
 function_scopes same implicit true i = distinct same (names_of (directly is_param i) ++ implicit) ∷ []

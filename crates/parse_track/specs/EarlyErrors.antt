@@ -89,7 +89,7 @@ pub record Around (A : Type 0) : Type 0 where
 abbrev pub nothing_around : {A : Type 0} → Around A
 nothing_around = record { loop = false; leaves = false; labels = []; loops = [] }
 
--- a label labels a loop where the statement behind it is one, also through further labels: LabelSet of ECMA-262, 14.13.4
+-- a label labels a loop where the statement after it is one, also through further labels: LabelSet of ECMA-262, 14.13.4
 abbrev pub is_loop : {A : Type 0} → Told A → Bool
 is_loop nothing = false
 is_loop (leaf _ _) = false

@@ -18,7 +18,7 @@ first_inner [] = None
 first_inner (Leaf _ ∷ _) = None
 first_inner (Inner m ∷ _) = Some m
 
--- whether a region of this kind is a loop, also behind labels
+-- whether a region of this kind is a loop, also after labels
 abbrev pub loop_kind : Region ℕ → Told ℕ → Bool
 loop_kind Loop i = true
 loop_kind (Label _) i = is_loop i

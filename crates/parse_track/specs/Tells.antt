@@ -1,5 +1,5 @@
 -- What a tree tells: its regions, in the order of the source, with the names that are declared, used and jumped to in them.
--- Each function puts what its part tells in front of what is told behind it.
+-- Each function puts what its part tells in front of what is told after it.
 use Rattle.std.specs.Prelude.{ℕ, Bool, true, false, cond, codes, Option, None, Some, List}
 use Rattle.script_grammar.specs.declared.token.FuncForm.{FuncForm}
 use Rattle.script_grammar.specs.declared.token.Decl.{Decl}
@@ -78,7 +78,7 @@ abbrev pub declares_function : Bool → Option Named → Told Text → Told Text
 declares_function top None t = t
 declares_function top (Some name) t = tells_name (function_declares top) name t
 
--- Behind a label a statement that is neither a loop nor a label stands in a block region, so that the label does not
+-- After a label a statement that is neither a loop nor a label stands in a block region, so that the label does not
 -- seem to label a loop inside it.
 abbrev pub labels_on : Stmt → Bool
 labels_on (tree.Do _ _ _) = true

@@ -36,7 +36,7 @@ pub data Leaf (A : Type 0) : Type 0 where
   Jumped : Jump → ℕ → Option (Name A) → Leaf A
 
 -- What stands in a region. `inner` has a region inside: its kind, the offset of its first token (of a
--- function that of its parameters), what stands in it, and what stands behind it.
+-- function that of its parameters), what stands in it, and what stands after it.
 pub data Told (A : Type 0) : Type 0 where
   nothing : Told A
   leaf : Leaf A → Told A → Told A

@@ -1,4 +1,4 @@
--- What a visit of the code leaves behind, in the words of the walk.
+-- What a visit of the code leaves after, in the words of the walk.
 use Rattle.std.specs.Prelude.{ℕ, ◌≡◌, ◌+◌, ◌++◌, Bool, Option, List, length, nat_eq}
 use Rattle.std.specs.Ordering.{nat_cmp}
 use Rattle.std.specs.BTreeMap.{get}

@@ -86,7 +86,7 @@ pub fn put_back<V: Copy>(
     Ok(())
 }
 
-/// The names of these scopes, one behind the other.
+/// The names of these scopes, one after the other.
 fn join(alloc: Global, scopes: &[Vec<u32>]) -> Result<Vec<u32>, AllocError>
     ensures { IfOk result (λ names. names.items ≡ joined (items_of_lists scopes.now)) }
 {
@@ -192,14 +192,14 @@ fn first_scope(begun: bool, scope: u32) -> u32
     if begun { 0 } else { scope }
 }
 
-/// The number of the next scope behind a region, whose own end at `end`.
+/// The number of the next scope after a region, whose own end at `end`.
 fn scope_behind(begun: bool, scope: u32, end: u32) -> u32
     ensures { result ≡ cond begun scope end }
 {
     if begun { scope } else { end }
 }
 
-/// The number behind those of these scopes, of which the first has the number `from`.
+/// The number after those of these scopes, of which the first has the number `from`.
 fn next_scope(from: u32, scopes: &[Vec<u32>]) -> Result<u32, AllocError>
     ensures { IfOk result (λ next. (next ≡ from + length scopes.now) × (next < 2 ^ 32)) }
 {

@@ -120,7 +120,7 @@ fn first_inner(items: &[Item]) -> Option<u32>
     }
 }
 
-/// Whether a region is a loop, also behind labels.
+/// Whether a region is a loop, also after labels.
 #[cycle(loops)]
 fn is_loop_at(rows: &[Row], room: usize, region: u32) -> bool
     ensures { result ≡ loop_kind (kind_of (slice_get (map row_of rows.now) region)) (told_region room (map row_of rows.now) region) }
@@ -140,7 +140,7 @@ fn is_loop_at(rows: &[Row], room: usize, region: u32) -> bool
     }
 }
 
-/// Whether what stands in a region is a loop, also behind labels.
+/// Whether what stands in a region is a loop, also after labels.
 #[cycle(loops)]
 fn is_loop(rows: &[Row], room: usize, region: u32) -> bool
     ensures { result ≡ is_loop (told_region room (map row_of rows.now) region) }
@@ -257,7 +257,7 @@ fn jumps_in_switch(
     Ok(first)
 }
 
-/// The first wrong jump behind a label.
+/// The first wrong jump after a label.
 #[cycle(jumping)]
 fn jumps_in_label(
     alloc: Global,

@@ -12,7 +12,7 @@ use Rattle.parser_atoms.specs.Indexed.{Places, place_of, IsIndexed}
 use Rattle.parser_atoms.specs.Places.{StandsIn, AreWithoutEquals}
 
 module _ {X : Type 0} where
-  -- what stands in a list stands there still when more is put behind it
+  -- what stands in a list stands there still when more is put after it
   pub slice_get-append_old : (xs ys : List X) (i : ℕ) (x : X) → slice_get xs i ≡ Some x → slice_get (xs ++ ys) i ≡ Some x
   slice_get-append_old [] ys i x h = cc
   slice_get-append_old (a ∷ xs) ys zero x h = h

@@ -119,7 +119,7 @@ closed_first n t inner ds parent frame later =
     ∙ (or_false (has_closed n t (closed_bindings n (placed ds (slots scope.Function frame (unplaced inner ds)))))
     ∙ (ap (λ (bs : List LinkName). has_closed n t (closed_bindings n bs)) same ∙ closed_here n t inner ds 0 0 frame)))
 
--- of a function's own scope, behind that of its name
+-- of a function's own scope, after that of its name
 pub closed_of_function : (t : Text) (named : List Declaration) (inner_named inner : List Text) (ds : List Declaration) (content : Within → List NamedScope)
     → has_closed (scope_count named) t (closed_over (scope_around scope.StrictNamedLambda named inner_named (scope_and scope.Function ds inner content) outermost)) ≡ (has_text (texts_of ds) t && has_text inner t)
 closed_of_function t [] inner_named inner ds content = closed_first 0 t inner ds None 0 (content (inside scope.Function ds inner outermost))

@@ -24,7 +24,7 @@ pub record Added (texts : List (List ℕ)) (closed : List ClosedName) (old new :
   pub scopes : map (named_scope texts) new ≡ map (named_scope texts) old ++ part
   pub left : named_left texts closed to ≡ closed_from (length new) later
 
--- the same, where these scopes fit and their closed names are the next that are left, whatever scopes are behind them
+-- the same, where these scopes fit and their closed names are the next that are left, whatever scopes are after them
 pub record Adds (texts : List (List ℕ)) (closed : List ClosedName) (old : List ScopeView) (from : ℕ) (new : List ScopeView) (to : ℕ) (part : List NamedScope) : Type 0 where
   pub adds : (later : List NamedScope) → ScopesFit part → length old + length part < 2 ^ 32 → named_left texts closed from ≡ closed_from (length old) (part ++ later) → Added texts closed old new to part later
 

@@ -132,7 +132,7 @@ fn takes_frame(slot: Slot) -> bool
     matches!(slot, Slot::Frame(_))
 }
 
-// The next slots behind a binding.
+// The next slots after a binding.
 fn after(next: NextSlots, kind: BindKind, closed: bool, slot: Slot) -> NextSlots
     requires env { next.env < 2 ^ 63 }
     requires arg { next.arg < 2 ^ 63 }

@@ -10,7 +10,7 @@ use Rattle.script_grammar.specs.declared.brackets.BracketPart.{BracketPart}
 use Rattle.script_grammar.specs.declared.brackets.BracketPart.TheVariants.{Opening, Closing, Middle, Other}
 use Rattle.script_grammar.specs.Matching.{part_of, is_same, next_open, all_open, opened_by, closed_by, between, IsBalanced}
 
--- a chain of steps is one step behind another
+-- a chain of steps is one step after another
 and_then_twice : (g h : List Bracket → Option (List Bracket)) (o : Option (List Bracket)) → option_and_then h (option_and_then g o) ≡ option_and_then (λ s. option_and_then h (g s)) o
 and_then_twice g h None = refl
 and_then_twice g h (Some s) = refl
@@ -76,7 +76,7 @@ is_same-eq Template Square h = absurd (cc)
 is_same-eq Template Brace h = absurd (cc)
 is_same-eq Template Template h = refl
 
--- Behind a token that opens a bracket something is open.
+-- After a token that opens a bracket something is open.
 pub opens-some : (p : BracketPart) (b : Bracket) (s o : List Bracket) → opened_by p ≡ Some b → next_open s p ≡ Some o → (first : Bracket) × ((rest : List Bracket) × (o ≡ first ∷ rest))
 opens-some (Opening b) c s o h e = (b, (s, ap (λ x. option_or x) (sym e)))
   where
@@ -103,7 +103,7 @@ closes-none (Closing b) c h = refl
 closes-none Middle c h = refl
 closes-none Other c h = absurd (cc)
 
--- Tokens with one among them that opens a bracket, and balanced ones behind it, are not balanced.
+-- Tokens with one among them that opens a bracket, and balanced ones after it, are not balanced.
 pub opens-not_balanced : (xs ys : List Kind) (k : Kind) (b : Bracket) → opened_by (part_of k) ≡ Some b → IsBalanced ys → IsBalanced (xs ++ (k ∷ ys)) → ⊥
 opens-not_balanced xs ys k b opened ys_balanced all_balanced = before (all_open [] xs) refl (sym (all_open-append [] xs (k ∷ ys)) ∙ all_balanced)
   where

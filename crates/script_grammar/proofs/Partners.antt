@@ -14,7 +14,7 @@ some_is a (Some b) = b
 some-eq : {A : Type 0} {a b : A} → Some a ≡ Some b → a ≡ b
 some-eq {a = a} h = ap (some_is a) h
 
--- Two tokens that open brackets, with balanced tokens behind each up to one place, are one.
+-- Two tokens that open brackets, with balanced tokens after each up to one place, are one.
 first-before : (ks : List Kind) (t x n : ℕ) (b : Bracket) → t < x → x < n → n ≤ length ks → opened_by (part_at ks x) ≡ Some b → IsBalanced (between ks x n) → IsBalanced (between ks t n) → ⊥
 first-before ks t x n b t_x x_n within opened x_balanced t_balanced =
     let d = n - suc x in

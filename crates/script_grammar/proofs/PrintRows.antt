@@ -43,15 +43,15 @@ empty_row = refl
 sum_row : written (one (tree.Value (tree.Binary (tree.Number 0 1) (more_operands mark.PLUS false (tree.Number 4 2) no_operands)) true)) ≡ token Number 2 ∷ token (Mark mark.PLUS) 2 ∷ token Number 2 ∷ token (Mark mark.SEMICOLON) 1 ∷ []
 sum_row = refl
 
--- `a` and behind a line end `(b)`: one statement
+-- `a` and after a line end `(b)`: one statement
 call_row : written (one (tree.Value (tree.Chain (tree.Name (name 97 0)) (more_tails (tree.Call (more_exprs (tree.Name (name 98 3)) no_exprs) false) no_tails)) false)) ≡ token Name 2 ∷ token (Mark mark.OPEN_PAREN) 2 ∷ token Name 3 ∷ token (Mark mark.CLOSE_PAREN) 2 ∷ gap Operand ∷ []
 call_row = refl
 
--- `a` and behind a line end `++b`: two statements
+-- `a` and after a line end `++b`: two statements
 update_row : written (more_stmts (tree.Value (tree.Name (name 97 0)) false) (one (tree.Value (tree.Update 2 mark.INCREMENT true (tree.Name (name 98 4))) false))) ≡ token Name 2 ∷ gap Operand ∷ token (Mark mark.INCREMENT) 3 ∷ token Name 3 ∷ gap Operand ∷ []
 update_row = refl
 
--- `x => {}` and behind a line end `(y)`: two statements
+-- `x => {}` and after a line end `(y)`: two statements
 arrow_row : written (more_stmts (tree.Value (tree.Func 0 (function form.Arrow 0 7 None (more_params (name 120 0) no_expr false no_params) false true (BracedBody no_stmts))) false) (one (tree.Value (tree.Paren 8 (tree.Name (name 121 9))) false))) ≡ token Name 2 ∷ token (Mark mark.ARROW) 2 ∷ token (Mark mark.OPEN_BRACE) 2 ∷ token (Mark mark.CLOSE_BRACE) 2 ∷ gap BracedArrow ∷ token (Mark mark.OPEN_PAREN) 2 ∷ token Name 3 ∷ token (Mark mark.CLOSE_PAREN) 2 ∷ gap Operand ∷ []
 arrow_row = refl
 

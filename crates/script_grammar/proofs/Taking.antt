@@ -1,4 +1,4 @@
--- What the walk knows behind one more token, by what its calls did to partners and open tokens.
+-- What the walk knows after one more token, by what its calls did to partners and open tokens.
 use Rattle.std.proofs.Common.{◌≡◌, ◌∙◌, ◌<◌, ◌+◌, ℕ, suc, List, [], ◌∷◌, Bool, true, false, Option, Some, None, length, get_or, set, replicate, refl, ap, sym, subst, arith, if◌then◌else◌}
 use Rattle.std.proofs.lemmas.List.{get_or-map, length-map}
 use Rattle.script_grammar.specs.declared.token.Token.{Token}

@@ -9,7 +9,7 @@ use Rattle.script_grammar.specs.Matching.{is_same, next_open, IsMatching, all_op
 abbrev pub brackets_of : List Open → List Bracket
 brackets_of = map (λ o. o.bracket)
 
--- Each of these tokens, innermost first, opened its bracket, and those above it are what is open behind it before token n.
+-- Each of these tokens, innermost first, opened its bracket, and those above it are what is open after it before token n.
 abbrev pub AllOpen : List Kind → ℕ → List Bracket → List Open → Type 0
 AllOpen ks n above [] = Unit {0}
 AllOpen ks n above (o ∷ os) =
@@ -24,7 +24,7 @@ pub record Walked (ks : List Kind) (n : ℕ) (partners : List (Option ℕ)) (sta
   pub partner : (t p : ℕ) → partner_of (record { partners = partners; stop = n }) t ≡ Some p → IsPartner ks n t p
   pub only : (t p : ℕ) → IsPartner ks n t p → partner_of (record { partners = partners; stop = n }) t ≡ Some p
 
--- What the walk knows behind token n, whether it fits or not.
+-- What the walk knows after token n, whether it fits or not.
 abbrev pub After : List Kind → ℕ → Bool → List (Option ℕ) → List Open → Type 0
 After ks n true partners stack = Walked ks (suc n) partners stack
 After ks n false partners stack = IsMatching ks (record { partners = partners; stop = n })

@@ -17,7 +17,7 @@ depth_limit = 400
 abbrev pub Part : Type 1
 Part = List Lexeme → List ℕ → Type 0
 
--- a script with the End token behind it, which is in nothing
+-- a script with the End token after it, which is in nothing
 pub record ScriptPart (m : Bodies) (depth : ℕ) (w : List Lexeme) (deep : List ℕ) : Type 0 where
   pub inner : List Lexeme
   pub end : Lexeme

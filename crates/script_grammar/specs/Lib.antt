@@ -14,3 +14,4 @@ pub mod Fault
 pub mod Matching
 pub mod BracketWalk
 pub mod Braced
+pub mod NameTokens

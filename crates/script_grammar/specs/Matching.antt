@@ -37,7 +37,7 @@ is_same Brace Brace = true
 is_same Template Template = true
 is_same _ _ = false
 
--- The brackets that are open behind a token, innermost first, from those that are open before it. None: the token closes
+-- The brackets that are open after a token, innermost first, from those that are open before it. None: the token closes
 -- a bracket that is not the innermost open one.
 abbrev pub next_open : List Bracket → BracketPart → Option (List Bracket)
 next_open stack (Opening b) = Some (b ∷ stack)
@@ -47,7 +47,7 @@ next_open [] Middle = None
 next_open (b ∷ stack) Middle = if is_same b Template then Some (b ∷ stack) else None
 next_open stack Other = Some stack
 
--- the same behind a list of tokens
+-- the same after a list of tokens
 abbrev pub all_open : List Bracket → List Kind → Option (List Bracket)
 all_open stack [] = Some stack
 all_open stack (k ∷ ks) = option_and_then (λ s. all_open s ks) (next_open stack (part_of k))
@@ -72,7 +72,7 @@ closed_by Other = None
 abbrev pub part_at : List Kind → ℕ → BracketPart
 part_at ks t = part_of (slice_index_or ks t kind.End)
 
--- the tokens behind token t and before token p
+-- the tokens after token t and before token p
 abbrev pub between : List Kind → ℕ → ℕ → List Kind
 between ks t p = drop (suc t) (take p ks)
 
@@ -103,7 +103,7 @@ pub record Matching : Type 0 where
   pub partners : List (Option ℕ)
   pub stop : ℕ
 
--- a token behind the end of the list has no partner
+-- a token after the end of the list has no partner
 abbrev pub partner_of : Matching → ℕ → Option ℕ
 partner_of m t = slice_index_or m.partners t None
 

@@ -39,7 +39,7 @@ pub data Ending : Type 0 where
   Operand : Ending
   -- a binding without initializer
   BareBinding : Ending
-  -- `return`, `break` or `continue` with nothing behind, a label, or `debugger`
+  -- `return`, `break` or `continue` with nothing after, a label, or `debugger`
   Keyword : Ending
   -- the parenthesis of a do-while
   DoWhile : Ending
@@ -116,7 +116,7 @@ closes brace brace = true
 closes template template = true
 closes _ _ = false
 
--- what is open behind a token that closes this bracket
+-- what is open after a token that closes this bracket
 abbrev pub closed : Opener → List Opener → Option (List Opener)
 closed o [] = None
 closed o (p ∷ ps) = if closes o p then Some ps else None
@@ -135,7 +135,7 @@ mark_opens i ps =
     if nat_eq i mark.OPEN_BRACE then Some (brace ∷ ps) else
     if nat_eq i mark.CLOSE_BRACE then closed brace ps else Some ps
 
--- the brackets that are open behind a token, or none where it closes what is not open, or is no token of a text
+-- the brackets that are open after a token, or none where it closes what is not open, or is no token of a text
 abbrev pub open_behind : Kind → List Opener → Option (List Opener)
 open_behind (kind.Mark i) ps = mark_opens i ps
 open_behind kind.TemplateHead ps = Some (template ∷ ps)
@@ -145,7 +145,7 @@ open_behind kind.Bad ps = None
 open_behind kind.End ps = None
 open_behind _ ps = Some ps
 
--- the brackets that are open behind these tokens
+-- the brackets that are open after these tokens
 abbrev pub open_at_end : List Opener → List Lexeme → Option (List Opener)
 open_at_end ps [] = Some ps
 open_at_end ps (t ∷ ts) = elim (open_behind t.kind ps) [ None ↦ None | Some qs ↦ open_at_end qs ts ]

@@ -27,7 +27,7 @@ abbrev pub above : ℕ → ℕ
 above zero = zero
 above (suc d) = d
 
--- the token that goes on behind a template's value
+-- the token that goes on after a template's value
 abbrev pub part_kind : Parts → Kind
 part_kind no_parts = kind.TemplateTail
 part_kind (more_parts value behind rest) = kind.TemplateMiddle

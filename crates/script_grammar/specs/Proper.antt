@@ -182,14 +182,14 @@ abbrev pub is_hole : MaybeExpr → Bool
 is_hole no_expr = true
 is_hole (some_expr e) = false
 
--- The items of an array and its last comma: there is one only behind an item, and behind a last hole there is one, so that
+-- The items of an array and its last comma: there is one only after an item, and after a last hole there is one, so that
 -- each hole is followed by a comma of its own (clause 13.2.5).
 abbrev pub AreItems : Items → Bool → Type 0
 AreItems no_items comma = comma ≡ false
 AreItems (more_items i no_items) comma = is_hole i ≡ true → comma ≡ true
 AreItems (more_items i (more_items j is)) comma = AreItems (more_items j is) comma
 
--- Parameters: a rest parameter is the last, has no initializer and no comma behind it; a comma stands only behind a
+-- Parameters: a rest parameter is the last, has no initializer and no comma after it; a comma stands only after a
 -- parameter (clause 15.1).
 abbrev pub AreParams : Params → Bool → Type 0
 AreParams no_params comma = comma ≡ false
@@ -257,7 +257,7 @@ is_statement (tree.Binding decl bs semi) = is_var decl
 is_statement (tree.Declared f) = false
 is_statement _ = true
 
--- Whether an `else` behind this statement would be that of an `if` in it: an `else` belongs to the nearest `if`
+-- Whether an `else` after this statement would be that of an `if` in it: an `else` belongs to the nearest `if`
 -- (clause 14.6).
 abbrev mutual
   pub takes_else : Stmt → Bool

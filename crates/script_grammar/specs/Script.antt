@@ -10,7 +10,7 @@ use Rattle.script_grammar.specs.Pieces.{Bodies, whole, Piece, Fits, mark_piece, 
 use Rattle.script_grammar.specs.Print.{print, print_stmts, print_params, parenthesized, param_depth, arrow_pieces}
 use Rattle.script_grammar.specs.Proper.{Proper, ProperStmts, ProperParams, AreParams, SuitsForm, BareIf, rank, assign_rank, begins_brace, free_of_in, InIf}
 
--- Everywhere here `w` are the tokens of the part, `next` is the token behind it, and `depth` is that of what is around it.
+-- Everywhere here `w` are the tokens of the part, `next` is the token after it, and `depth` is that of what is around it.
 -- The braced bodies of functions inside it are read as statements, or passed over.
 
 -- The statements of a script (ECMA-262, 12th edition, clause 16.1): the tree obeys the grammar; its words are the kinds and

@@ -20,11 +20,11 @@ mutual
     True : (at : ℕ) → Expr
     False : (at : ℕ) → Expr
     Number : (at value : ℕ) → Expr
-    -- from its start to behind its end
+    -- from its start to after its end
     Str : (at end : ℕ) (text : List ℕ) → Expr
     -- the text up to the first `${`, and the parts
     Template : (at : ℕ) (first : List ℕ) (parts : Parts) → Expr
-    -- the items, and whether a comma stands behind the last
+    -- the items, and whether a comma stands after the last
     Array : (at : ℕ) (items : Items) (comma : Bool) → Expr
     Object : (at : ℕ) (props : Props) (comma : Bool) → Expr
     -- a function expression or an arrow
@@ -53,7 +53,7 @@ mutual
     no_args : MaybeArgs
     some_args : (items : Exprs) (comma : Bool) → MaybeArgs
 
-  -- the parts of a template: a value, and the text behind it
+  -- the parts of a template: a value, and the text after it
   pub data Parts : Type 0 where
     no_parts : Parts
     more_parts : (value : Expr) (behind : List ℕ) → Parts → Parts
@@ -95,7 +95,7 @@ mutual
     more_props : Prop → Props → Props
 
   -- A function (clause 15): its extent is from the start of its parameters to the end of its body. `comma` says that one
-  -- stands behind the last parameter, `bare` that an arrow's single name has no parentheses.
+  -- stands after the last parameter, `bare` that an arrow's single name has no parentheses.
   pub data Function : Type 0 where
     function : (form : FuncForm) (start end : ℕ) (name : Option Named) (params : Params) (comma bare : Bool) (body : Body) → Function
 

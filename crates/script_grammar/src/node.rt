@@ -11,7 +11,7 @@ pub struct NodeArgs<E> {
     pub comma: bool,
 }
 
-/// A binary operator and the operand behind it.
+/// A binary operator and the operand after it.
 #[derive(Drop)]
 pub struct NodeOperand<E> {
     pub op: u8,
@@ -19,7 +19,7 @@ pub struct NodeOperand<E> {
     pub value: E,
 }
 
-/// A substitution of a template, and the atom of the template's part behind it.
+/// A substitution of a template, and the atom of the template's part after it.
 #[derive(Drop)]
 pub struct NodeTemplatePart<E> {
     pub value: E,

@@ -38,7 +38,7 @@ pub struct Token {
     pub value: u64,
     /// The offset of its first byte.
     pub start: u32,
-    /// The offset behind its last byte.
+    /// The offset after its last byte.
     pub end: u32,
     /// Whether a line end stands between the token before it and itself.
     pub after_line: bool,

@@ -2,7 +2,7 @@
 //!
 //! `at` is the offset of a part's first token, in bytes from the text's start. `op` is the index of the operator's
 //! word or mark, in `token::word` or `token::mark`; where `is_word` stands beside it, that tells which. `comma` says
-//! that a comma stands behind the last item, and `semi` that the semicolon of a statement is written. Names are
+//! that a comma stands after the last item, and `semi` that the semicolon of a statement is written. Names are
 //! atoms. Lists that the grammar builds to the left are flat: each level of binary operators is one list, and so are
 //! the operands of `**`, the parts of a member or call chain, and the items of a comma expression.
 
@@ -44,13 +44,13 @@ pub enum Expr {
         at: u32,
         value: u64,
     },
-    /// `end` is the offset behind the token.
+    /// `end` is the offset after the token.
     Str {
         at: u32,
         end: u32,
         atom: u32,
     },
-    /// A template: the atom of its first part, and each substitution with the atom of the part behind it.
+    /// A template: the atom of its first part, and each substitution with the atom of the part after it.
     Template {
         at: u32,
         first: u32,
@@ -76,7 +76,7 @@ pub enum Expr {
         at: u32,
         inner: Box<Expr>,
     },
-    /// Members and calls behind an expression, at least one.
+    /// Members and calls after an expression, at least one.
     Chain {
         head: Box<Expr>,
         tails: Vec<Tail>,
@@ -93,7 +93,7 @@ pub enum Expr {
         of: Box<Expr>,
         is_word: bool,
     },
-    /// `++` or `--`, before or behind its operand.
+    /// `++` or `--`, before or after its operand.
     Update {
         at: u32,
         op: u8,
@@ -121,7 +121,7 @@ pub enum Expr {
     },
 }
 
-/// A binary operator and the operand behind it.
+/// A binary operator and the operand after it.
 #[cycle(syntax)]
 #[derive(Drop)]
 pub struct Operand {
@@ -130,7 +130,7 @@ pub struct Operand {
     pub value: Expr,
 }
 
-/// A substitution of a template, and the atom of the template's part behind it.
+/// A substitution of a template, and the atom of the template's part after it.
 #[cycle(syntax)]
 #[derive(Drop)]
 pub struct TemplatePart {

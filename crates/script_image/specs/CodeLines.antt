@@ -1,4 +1,4 @@
--- The lines of a code: one for each instruction, and behind them one for each try note. The lines are this project's own
+-- The lines of a code: one for each instruction, and after them one for each try note. The lines are this project's own
 -- choice.
 use Rattle.std.specs.Prelude.{ℕ, List, [], ◌∷◌, ◌++◌, flat_map, codes}
 use Rattle.std.specs.Fmt.{decimal}

@@ -37,7 +37,7 @@ range_text start end = decimal start ++ codes ".." ++ decimal end
 abbrev pub extent_text : Extent → List ℕ
 extent_text extent = range_text extent.start extent.end
 
--- each of the items behind a comma
+-- each of the items after a comma
 abbrev pub with_commas : List (List ℕ) → List ℕ
 with_commas items = flat_map (λ (item : List ℕ). codes "," ++ item) items
 

@@ -20,7 +20,7 @@ top_line extent = script_text 0 (codes "top") extent ++ codes "\n"
 abbrev pub function_line : ℕ → NamedFunction (List Listed) → List ℕ
 function_line number f = script_text number (codes "function") f.extent ++ codes " " ++ name_text f.name ++ codes "\n"
 
--- a name that is closed over, behind the number of its scope
+-- a name that is closed over, after the number of its scope
 abbrev pub closed_text : NamedClosed → List ℕ
 closed_text c = decimal c.scope ++ codes ":" ++ quoted c.text
 

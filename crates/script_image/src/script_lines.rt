@@ -87,7 +87,7 @@ fn append_further_numbers(
     Ok(())
 }
 
-/// Appends a name that is closed over, behind the number of its scope.
+/// Appends a name that is closed over, after the number of its scope.
 fn append_closed_name(
     alloc: Global,
     out: &mut Vec<u8>,

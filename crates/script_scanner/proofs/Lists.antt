@@ -51,7 +51,7 @@ module _ {X : Type 0} where
   drop_drop (suc n) (suc m) [] = ap (λ k. drop k []) (let e : suc n + suc m ≡ suc (suc n + m) = omega arith in e)
   drop_drop (suc n) (suc m) (x ∷ xs) = ap (λ k. drop k (x ∷ xs)) (let e : suc n + suc m ≡ suc (n + suc m) = omega arith in e) ∙ drop_drop n (suc m) xs
 
-  -- the item at a place, and the rest behind it
+  -- the item at a place, and the rest after it
   pub place_in : (xs : List X) (i : ℕ) → i < length xs → (x : X) × (rest : List X) × (drop i xs ≡ x ∷ rest) × (drop (i + 1) xs ≡ rest)
   place_in [] i h = absurd (omega (arith, h))
   place_in (x ∷ xs) zero h = (x, xs, refl, refl)

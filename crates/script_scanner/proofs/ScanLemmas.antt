@@ -23,7 +23,7 @@ use Rattle.script_scanner.specs.Stands.{HasValue, StandsFor, StandFor, IsValueAm
 use Rattle.script_scanner.specs.Tokens.{Lexed, Piece, Value, Text, Number, Nothing, front_of, front_at, then_tokens, tokens_within, token_at, last_token, place, braces_after}
 
 module _ {X : Type 0} where
-  -- what stands in a list stands there still when more is put behind it
+  -- what stands in a list stands there still when more is put after it
   get_old : (xs ys : List X) (i : ℕ) (x : X) → slice_get xs i ≡ Some x → slice_get (xs ++ ys) i ≡ Some x
   get_old [] ys i x h = cc
   get_old (a ∷ xs) ys zero x h = h
@@ -33,7 +33,7 @@ module _ {X : Type 0} where
   get_last [] x = refl
   get_last (a ∷ xs) x = get_last xs x
 
--- tokens stand for the same when texts are put behind
+-- tokens stand for the same when texts are put after
 has_value_still : (texts more : List (List ℕ)) (v : Value) (n : ℕ) → HasValue texts v n → HasValue (texts ++ more) v n
 has_value_still texts more (Text units) n h = get_old texts more n units h
 has_value_still texts more (Number value) n h = h
@@ -250,7 +250,7 @@ pub record IsScanning (to : ℕ) (text : List Point) (at : ℕ) (tokens : List T
   pub few : length now ≤ length texts + at
   pub so_far : tokens_within (suc (length text)) to [] false text ≡ made ++ tokens_within fuel to braces after (drop at text)
 
--- behind a step, which took so many code points, or none where the last token came
+-- after a step, which took so many code points, or none where the last token came
 pub record IsStepped (to : ℕ) (text : List Point) (at taken : ℕ) (tokens : List Token) (braces : List Brace) (after : Bool) (texts now : List (List ℕ)) : Type 0 where
   pub within : at + taken ≤ length text
   pub fuel : ℕ

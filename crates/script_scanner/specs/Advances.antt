@@ -17,7 +17,7 @@ TakesValue content.Units units before after value = Interns before after units v
 TakesValue (content.Number n) units before after value = (value ≡ n) × (after ≡ before)
 TakesValue content.Nothing units before after value = (value ≡ 0) × (after ≡ before)
 
--- The token that was found, with its number and its places, is the last one now, and the braces are those behind it.
+-- The token that was found, with its number and its places, is the last one now, and the braces are those after it.
 pub record TakesToken (to : ℕ) (rest : List Point) (found : Found) (before now : Scanner) (texts texts_now : List (List ℕ)) : Type 0 where
   pub token : Token
   pub appended : now.tokens.items ≡ before.tokens.items ++ token ∷ []

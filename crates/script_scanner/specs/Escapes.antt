@@ -58,7 +58,7 @@ single_escape c = if c == 0x62 then 0x8
     else (if c == 0x66 then 0xC
     else (if c == 0x72 then 0xD else c)))))
 
--- What a `\` and the text behind it do. `\0` before a digit and `\` before another digit are no escapes, as in strict code.
+-- What a `\` and the text after it do. `\0` before a digit and `\` before another digit are no escapes, as in strict code.
 abbrev pub escape_step : List ℕ → Step
 escape_step [] = Break
 escape_step (c ∷ codes) = if is_line_end c then Skip (1 + line_end_length (c ∷ codes))

@@ -4,7 +4,7 @@ use Rattle.std.specs.Char.{is_digit, digit_value}
 use Rattle.script_scanner.specs.declared.numbers.Numeral.{Numeral}
 use Rattle.script_scanner.specs.Names.{is_name_start}
 
--- How many code points one more digit takes behind a digit: one `_` may stand before it. 0 where none follows.
+-- How many code points one more digit takes after a digit: one `_` may stand before it. 0 where none follows.
 abbrev pub digit_length : ℕ → List ℕ → ℕ
 digit_length radix [] = 0
 digit_length radix (c ∷ []) = if is_digit c radix then 1 else 0
@@ -29,7 +29,7 @@ limited value = if nat_le value 9007199254740991 then Some value else None
 abbrev pub digits_value : ℕ → List ℕ → Option ℕ
 digits_value radix codes = limited (fold (with_digit radix) 0 codes)
 
--- The base that a letter behind a leading `0` gives: `x`, `o` or `b`, small or capital.
+-- The base that a letter after a leading `0` gives: `x`, `o` or `b`, small or capital.
 abbrev pub radix_of : ℕ → Option ℕ
 radix_of c = if (c == 0x78) || (c == 0x58) then Some 16
     else (if (c == 0x6F) || (c == 0x4F) then Some 8 else (if (c == 0x62) || (c == 0x42) then Some 2 else None))
@@ -57,7 +57,7 @@ numeral_at [] = zero_literal
 numeral_at (c ∷ codes) = if c == 0x30 then after_zero codes
     else record { length = 1 + more_digits 10 codes; value = digits_value 10 (take (1 + more_digits 10 codes) (c ∷ codes)); is_decimal = true }
 
--- Clause 12.8.3: what may not follow a literal directly, a name's start or a digit; and behind a decimal one no `.`, since
+-- Clause 12.8.3: what may not follow a literal directly, a name's start or a digit; and after a decimal one no `.`, since
 -- this project has no fractions.
 abbrev pub is_spoiled_by : Bool → List ℕ → Bool
 is_spoiled_by is_decimal [] = false

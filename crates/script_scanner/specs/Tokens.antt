@@ -48,12 +48,12 @@ valued_piece (Some value) n = Some (record { kind = kind.Number; value = Number 
 abbrev pub number_piece : Numeral → List ℕ → Option Piece
 number_piece numeral codes = if is_spoiled_by numeral.is_decimal (drop numeral.length codes) then None else valued_piece numeral.value numeral.length
 
--- A string, behind its quote.
+-- A string, after its quote.
 abbrev pub string_piece : Option Body → Option Piece
 string_piece None = None
 string_piece (Some body) = Some (record { kind = kind.Str; value = Text body.units; length = 1 + body.inner + body.closing })
 
--- A part of a template, behind the backquote or `}` that begins it: of the one kind where a backquote ends it, of the
+-- A part of a template, after the backquote or `}` that begins it: of the one kind where a backquote ends it, of the
 -- other where a `${` does.
 abbrev pub template_piece : Kind → Kind → Option Body → Option Piece
 template_piece whole head None = None
@@ -78,7 +78,7 @@ token_at in_template (c ∷ codes) = if is_name_start c then Some (name_piece (c
     else (if (c == 0x7D) && in_template then template_piece kind.TemplateTail kind.TemplateMiddle (body_of Template codes)
     else mark_piece (mark_at (c ∷ codes))))))
 
--- The open braces behind a token: the mark `{` and the end `${` open one, the mark `}`, a TemplateMiddle and a
+-- The open braces after a token: the mark `{` and the end `${` open one, the mark `}`, a TemplateMiddle and a
 -- TemplateTail close the innermost.
 abbrev pub braces_after : List Brace → Kind → List Brace
 braces_after braces (kind.Mark i) = if i == 0 then open_brace braces Block else (if i == 1 then close_brace braces else braces)
@@ -87,7 +87,7 @@ braces_after braces kind.TemplateMiddle = open_brace (close_brace braces) Substi
 braces_after braces kind.TemplateTail = close_brace braces
 braces_after braces _ = braces
 
--- A token: its kind and value, the offsets of its first byte and behind its last, and whether a line end stands before it.
+-- A token: its kind and value, the offsets of its first byte and after its last, and whether a line end stands before it.
 pub record Lexed : Type 0 where
   pub kind : Kind
   pub value : Value

@@ -84,7 +84,7 @@ fn hex_length(rest: &[Point]) -> usize
     hex_digits(rest)
 }
 
-/// What `\u{` and the text behind it do.
+/// What `\u{` and the text after it do.
 #[tactic(auto, using(crate::proofs::Lists::map_take, crate::proofs::Lists::map_drop))]
 fn braced_step(rest: &[Point]) -> Step
     ensures value { result ≡ braced_step (map code_of rest.now) }
@@ -112,7 +112,7 @@ fn braced_step(rest: &[Point]) -> Step
     }
 }
 
-/// What `\u` and the text behind it do.
+/// What `\u` and the text after it do.
 #[tactic(auto, using(crate::proofs::Lists::map_drop))]
 fn unicode_step(rest: &[Point]) -> Step
     ensures value { result ≡ unicode_step (map code_of rest.now) }
@@ -127,7 +127,7 @@ fn unicode_step(rest: &[Point]) -> Step
     }
 }
 
-/// What `\x` and the text behind it do.
+/// What `\x` and the text after it do.
 fn hex_step(rest: &[Point]) -> Step
     ensures value { result ≡ value_step (hex_byte (map code_of rest.now)) 4 }
     ensures fits { StepFits (2 + length rest.now) result }
@@ -154,7 +154,7 @@ fn single_escape(letter: char) -> u32
     }
 }
 
-/// What a `\` and the text behind it do.
+/// What a `\` and the text after it do.
 pub fn escape_step(rest: &[Point]) -> Step
     ensures value { result ≡ escape_step (map code_of rest.now) }
     ensures fits { StepFits (1 + length rest.now) result }

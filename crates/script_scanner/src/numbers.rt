@@ -95,7 +95,7 @@ pub fn digits_value(digits: &[Point], radix: u32) -> Option<u64>
     Some(value)
 }
 
-/// The base that a letter behind a leading `0` gives.
+/// The base that a letter after a leading `0` gives.
 fn radix_of(letter: char) -> Option<u32>
     ensures value { result ≡ radix_of letter }
     ensures low { IfSome result (λ radix. 2 ≤ radix) }

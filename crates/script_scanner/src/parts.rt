@@ -106,7 +106,7 @@ pub fn push_code(units: &mut Vec<u16>, code: u32) -> Result<(), AllocError>
     Ok(())
 }
 
-/// Reads a string or a template part behind what begins it, and leaves its units in the buffer.
+/// Reads a string or a template part after what begins it, and leaves its units in the buffer.
 pub fn read_body(
     ending: Ending,
     rest: &[Point],

@@ -96,7 +96,7 @@ fn number_piece(rest: &[Point]) -> Option<Found>
     }
 }
 
-/// The string behind its quote.
+/// The string after its quote.
 fn string_piece(
     quote: char,
     others: &[Point],
@@ -115,7 +115,7 @@ fn string_piece(
     }
 }
 
-/// The part of a template behind what begins it: of the one kind where a backquote ends it, of the other where `${` does.
+/// The part of a template after what begins it: of the one kind where a backquote ends it, of the other where `${` does.
 fn template_piece(
     whole: Kind,
     head: Kind,

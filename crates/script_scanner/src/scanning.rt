@@ -122,7 +122,7 @@ fn last_token(rest: &[Point], to: u32, after_line: bool) -> Token
 struct Scanner {
     tokens: Vec<Token>,
     braces: Vec<Brace>,
-    /// Whether a line end stands behind the last token.
+    /// Whether a line end stands after the last token.
     after_line: bool,
     /// The units of the token that was read last.
     units: Vec<u16>,

@@ -27,7 +27,7 @@ enough (suc n) (suc m) (byte ∷ bytes) a b =
     ∙ followed_same (decoded (byte ∷ bytes)) (λ (i : Numbered). instructions_within n (drop (width_of i.op) (byte ∷ bytes))) (λ (i : Numbered). instructions_within m (drop (width_of i.op) (byte ∷ bytes))) (λ i. enough n m (drop (width_of i.op) (byte ∷ bytes)) (behind_shorter i.op byte bytes n (omega arith)) (behind_shorter i.op byte bytes m (omega arith)))
     ∙ sym (instructions_within-more m (byte ∷ bytes))
 
--- the first of them, and those behind it
+-- the first of them, and those after it
 pub instructions_first : (code : List ℕ) → instructions code ≡ followed (decoded code) (λ i. instructions (drop (width_of i.op) code))
 instructions_first [] = instructions_within-empty 0
 instructions_first (byte ∷ bytes) =

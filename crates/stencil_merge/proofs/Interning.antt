@@ -12,7 +12,7 @@ use Rattle.stencil_merge.proofs.Moves.{Moves}
 
 -- ---- atoms of texts
 
--- texts that are put behind change no atom
+-- texts that are put after change no atom
 pub are_atoms_grow : (texts other more : List (List ℕ)) (atoms : List ℕ) → AreAtoms texts other atoms → AreAtoms texts (other ++ more) atoms
 are_atoms_grow [] other more [] h = refl
 are_atoms_grow [] other more (a ∷ atoms) h = absurd (cc)
@@ -44,7 +44,7 @@ atoms_within (t ∷ texts) other (n ∷ atoms) h (suc a) lt = let rest : AreAtom
 pub moves_by : (texts other : List (List ℕ)) (atoms : List ℕ) → AreAtoms texts other atoms → length other < 2 ^ 32 → Moves texts other (atom_by atoms)
 moves_by texts other atoms h few = record { within = atoms_within texts other atoms h; same = λ a lt. equal_texts texts other atoms h few a }
 
--- atoms stay as they are where texts are put behind
+-- atoms stay as they are where texts are put after
 pub moves_more : (texts more : List (List ℕ)) → Moves texts (texts ++ more) (λ a. a)
 moves_more texts more = record { within = λ a lt. omega (arith, lt, length-append texts more); same = λ a lt. get_or_append_left texts more [] a lt }
 

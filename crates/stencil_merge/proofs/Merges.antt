@@ -1,4 +1,4 @@
--- What parts stand for once their atoms are changed, texts are put behind theirs, or a function is added.
+-- What parts stand for once their atoms are changed, texts are put after theirs, or a function is added.
 use Rattle.std.proofs.Common.{◌≡◌, ℕ, zero, suc, ◌+◌, ◌-◌, ◌^◌, ◌<◌, ◌≤◌, List, [], ◌∷◌, ◌++◌, length, map, get_or, Option, Some, None, option_map, refl, sym, ◌∙◌, ap, ap₂, subst, append_assoc, arith}
 use Rattle.std.proofs.Math.ListN.{set, replicate}
 use Rattle.stencil_data.specs.declared.stencils.Entry.{Entry}
@@ -108,7 +108,7 @@ module _ {Code : Type 0} (shows : List (List ℕ) → List ℕ → Code → Type
         inner = s.inner;
       }
 
-  -- ---- texts that are put behind
+  -- ---- texts that are put after
 
   entry_more : (texts more : List (List ℕ)) (e : Entry) (n : Option (NamedFunction Code)) → length (texts ++ more) < 2 ^ 32 → AreSettled texts (e ∷ []) → EntryStandsFor shows texts e n → EntryStandsFor shows (texts ++ more) e n
   entry_more texts more entry.Lazy None few settled s = tt

@@ -29,7 +29,7 @@ record_by atoms lazy = record { extent = lazy.extent; kind = lazy.kind; name = o
 abbrev pub AreAtoms : List (List ℕ) → List (List ℕ) → List ℕ → Type 0
 AreAtoms texts other atoms = map (slice_get other) atoms ≡ map (λ (text : List ℕ). Some text) texts
 
--- The texts are those from before, in their order, and more behind them, each one of the texts that were added. They have no
+-- The texts are those from before, in their order, and more after them, each one of the texts that were added. They have no
 -- equals.
 pub record TakesIn (before added texts : List (List ℕ)) : Type 0 where
   pub more : List (List ℕ)

@@ -89,7 +89,7 @@ HasFunction merged number = IsCompiled (slice_index_or merged.entries (number - 
 
 -- ---- what a merger knows of its parts
 
--- whatever texts are put behind these, up to their greatest count, the code stands for the same
+-- whatever texts are put after these, up to their greatest count, the code stands for the same
 abbrev pub IsSettled : List (List ℕ) → List ℕ → Type 0
 IsSettled texts code = (more : List (List ℕ)) → length (texts ++ more) < 2 ^ 32 → listed (texts ++ more) code ≡ listed texts code
 

@@ -11,7 +11,7 @@ use Rattle.unit_text.specs.declared.Point.{Point}
 abbrev pub codes_of : List ℕ → List ℕ
 codes_of bytes = chars (take (utf8_valid_len bytes) bytes)
 
--- These code points, spelled one behind the other from an offset on.
+-- These code points, spelled one after the other from an offset on.
 abbrev pub points_from : ℕ → List ℕ → List Point
 points_from at [] = []
 points_from at (c ∷ cs) = record { code = c; start = at; end = at + len_utf8 c } ∷ points_from (at + len_utf8 c) cs

@@ -6,7 +6,7 @@ abbrev pub code_units : ℕ → List ℕ
 code_units c = if nat_le c 0xFFFF then c ∷ []
     else ((c - 0x1_0000) / 0x400 + 0xD800) ∷ ((c - 0x1_0000) % 0x400 + 0xDC00) ∷ []
 
--- The units of code points, one behind the other. Clause 11.1.2: CodePointsToString.
+-- The units of code points, one after the other. Clause 11.1.2: CodePointsToString.
 abbrev pub text_units : List ℕ → List ℕ
 text_units [] = []
 text_units (c ∷ cs) = code_units c ++ text_units cs

@@ -14,14 +14,14 @@ ghost use Rattle.unit_text.specs.declared.DecodeFault.TheVariants.{NoMemory};
 
 use std::alloc::{AllocError, AllocFailed, Global};
 
-/// A code point of a source text, with the offsets of its first byte and of the byte behind it.
+/// A code point of a source text, with the offsets of its first byte and of the byte after it.
 #[derive(Clone, Copy, Debug, PartialEq, Eq)]
 pub struct Point {
     /// The code point, which UTF-8 spells, so never a surrogate (ECMA-262, 12th edition, clause 11.1).
     pub code: char,
     /// The offset of its first byte.
     pub start: u32,
-    /// The offset behind its last byte.
+    /// The offset after its last byte.
     pub end: u32,
 }
 

@@ -13,14 +13,14 @@ use Rattle.parse_exprs.proofs.Onward.{onward, onward_false, onward_true}
 use Rattle.parse_exprs.proofs.Steps.{handed, just, made, refused, then, when_false, when_true}
 use Rattle.parse_exprs.specs.Answers.{records}
 use Rattle.parse_exprs.specs.Means.{ItemsOf, Itself}
-use Rattle.pure_parser.specs.Parser.{Again, Stop}
-use Rattle.pure_parser.specs.Stmts.{block_stmt, braced_from, braced_of, case_of, case_turn, clause_turn, clauses_from, default_of, do_of, else_of, for_decl, for_from, for_head, for_in_from, for_named, for_of, for_valued, if_of, labelled_of, more_clauses, stmt_turn, stmts_from, switch_of, try_of, while_of}
+use Rattle.grammar_parser_specs.specs.Parser.{Again, Stop}
+use Rattle.grammar_parser_specs.specs.Stmts.{block_stmt, braced_from, braced_of, case_of, case_turn, clause_turn, clauses_from, default_of, do_of, else_of, for_decl, for_from, for_head, for_in_from, for_named, for_of, for_valued, if_of, labelled_of, more_clauses, stmt_turn, stmts_from, switch_of, try_of, while_of}
 use Rattle.script_grammar.specs.Interpretation.{maybe_named, named}
 use Rattle.script_grammar.specs.Proper.{takes_else}
 use Rattle.script_grammar.specs.Shows.{ShowClause}
 use Rattle.script_grammar.specs.TreeLists.{binds_of, clauses_of, maybe_expr_of, maybe_stmt_of, stmts_of}
 use Rattle.std.proofs.Common.{Some, [], ap, refl, sym, ◌++◌, ◌∙◌, ◌∷◌, ◌≡◌}
-use Rattle.pure_parser.specs.Stmts as pure
+use Rattle.grammar_parser_specs.specs.Stmts as pure
 use Rattle.script_grammar.specs.Tree as tree
 use Rattle.parse_bodies.proofs.+stmts.Goals as goal
 

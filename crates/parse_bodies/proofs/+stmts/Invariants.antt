@@ -2,8 +2,8 @@ use Rattle.parse_bodies.specs.Blocks.{block_at, stmts_at}
 use Rattle.parse_exprs.proofs.Loops.{Looping}
 use Rattle.parse_exprs.specs.Answers.{records}
 use Rattle.parse_exprs.specs.Source.{front}
-use Rattle.pure_parser.specs.Parser.{loop}
-use Rattle.pure_parser.specs.Stmts.{case_turn, clause_turn, stmt_turn}
+use Rattle.grammar_parser_specs.specs.Parser.{loop}
+use Rattle.grammar_parser_specs.specs.Stmts.{case_turn, clause_turn, stmt_turn}
 use Rattle.script_grammar.specs.Interpretation.{Interpretation}
 use Rattle.script_grammar.specs.Shows.{ShowClause}
 use Rattle.std.proofs.Common.{drop, length, ◌*◌, ◌+◌, ◌-◌}

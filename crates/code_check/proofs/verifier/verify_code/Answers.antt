@@ -1,7 +1,7 @@
 use Rattle.std.proofs.Common.{ℕ, List, Option, sym, subst}
 use Rattle.std.specs.List.Sorted.{IsPermutation}
 use Rattle.bytecode_buf.specs.Machine.{IsLeastTable}
-use Rattle.code_verdicts.specs.Verdicts.{IsGreatest}
+use Rattle.bytecode_buf.specs.Verdicts.{IsGreatest}
 use Rattle.code_check.specs.Survey.{depth_at}
 use Rattle.code_check.proofs.Arrivals.{never_stuck}
 use Rattle.code_check.proofs.SortedNotes.{least_sorted, no_table_sorted}

@@ -1,6 +1,6 @@
 use Rattle.std.proofs.Common.{map}
 use Rattle.std.specs.String.{string_bytes}
-use Rattle.command_words.specs.Asked.{asked}
+use Rattle.session_words.specs.Asked.{asked}
 use Rattle.compile_session.proofs.RunLemmas.{settled_seen, front_of_answer, GainsFront-all, turned_front, turned_all}
 use Rattle.compile_session.proofs.WorkLemmas.{work_bounded}
 use Rattle.compile_session.proofs.command.run.Goals as goal

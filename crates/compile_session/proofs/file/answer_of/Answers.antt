@@ -1,5 +1,5 @@
-use Rattle.command_words.specs.declared.options.Command.TheVariants as command
-use Rattle.command_words.specs.Asked as asked
+use Rattle.session_words.specs.declared.options.Command.TheVariants as command
+use Rattle.session_words.specs.Asked as asked
 use Rattle.compile_session.proofs.FileLemmas.{settles_read}
 use Rattle.compile_session.proofs.file.answer_of.Goals as goal
 

@@ -1,11 +1,11 @@
 use Rattle.std.proofs.Common.{ℕ, ◌<◌, ◌^◌, List, length, refl, sym, ap, subst, arith}
 use Rattle.parser_atoms.specs.Places.{AreWithoutEquals}
-use Rattle.function_starts.specs.Own.{TokensRise}
-use Rattle.renamed_names.specs.Texts.{NamesAreFull}
-use Rattle.token_starts.proofs.Rising.{lexemes_rise}
-use Rattle.token_names.proofs.FullNames.{names_are_full}
-use Rattle.known_words.specs.Known.{HasWords}
-use Rattle.known_words.proofs.Interning.{words_kept}
+use Rattle.grammar_start_laws.specs.Own.{TokensRise}
+use Rattle.script_grammar.specs.NameTokens.{NamesAreFull}
+use Rattle.grammar_start_laws.proofs.Rising.{lexemes_rise}
+use Rattle.scan_laws.proofs.FullNames.{names_are_full}
+use Rattle.track_atoms.specs.Known.{HasWords}
+use Rattle.track_atoms.proofs.Interning.{words_kept}
 use Rattle.compile_session.proofs.TokenLemmas.{KnowsWords, file_tokens, file_scanned}
 use Rattle.compile_session.proofs.file_tokens.tokens_of.Goals as goal
 

@@ -1,7 +1,7 @@
 use Rattle.std.proofs.Common.{◌++◌, map, ap, ◌∙◌, refl, sym, arith, subst, List, length}
 use Rattle.std.specs.String.{string_bytes}
 use Rattle.std.proofs.lemmas.Option.{slice_get_read}
-use Rattle.command_words.specs.Asked as asked
+use Rattle.session_words.specs.Asked as asked
 use Rattle.compile_session.specs.declared.answer.FileAnswer.{FileAnswer}
 use Rattle.compile_session.specs.Workers.{SettleFiles}
 use Rattle.compile_session.proofs.FilesLemmas.{answering_start, answered_more, answered_end, or_first, or_second}

@@ -1,6 +1,6 @@
 use Rattle.std.proofs.Common.{map}
 use Rattle.std.specs.String.{string_bytes}
-use Rattle.command_words.specs.Asked as asked
+use Rattle.session_words.specs.Asked as asked
 use Rattle.compile_session.proofs.FilesLemmas.{IsAnswering}
 use Rattle.compile_session.proofs.files.answers_of.Given as goal
 

@@ -1,9 +1,9 @@
 use Rattle.std.proofs.Common.{List, ℕ, length, sym, subst}
 use Rattle.script_grammar.specs.Tree.{Stmts}
-use Rattle.lazy_compile.specs.Shown.{Wanted}
-use Rattle.command_words.specs.Asked as asked
-use Rattle.command_answer.specs.Answer as answer
-use Rattle.eager_compile.specs.Compiles.{IsOf, IsCompiled, Shows}
+use Rattle.compile_specs.specs.Shown.{Wanted}
+use Rattle.session_words.specs.Asked as asked
+use Rattle.session_specs.specs.Answer as answer
+use Rattle.compile_eager.specs.Compiles.{IsOf, IsCompiled, Shows}
 use Rattle.compile_session.specs.Answers.{IsScriptOf}
 use Rattle.compile_session.proofs.ListingLemmas.{of_seen}
 use Rattle.compile_session.proofs.listing.stencil_of.Goals as goal

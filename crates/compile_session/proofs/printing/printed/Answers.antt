@@ -1,6 +1,6 @@
 use Rattle.std.proofs.Common.{length, refl}
-use Rattle.command_words.specs.Asked as asked
-use Rattle.command_answer.specs.Answer.{file_line}
+use Rattle.session_words.specs.Asked as asked
+use Rattle.session_specs.specs.Answer.{file_line}
 use Rattle.compile_session.proofs.KeptLemmas.{lists, checked_line}
 use Rattle.compile_session.proofs.ListingLemmas.{written}
 use Rattle.compile_session.proofs.printing.printed.Goals as goal

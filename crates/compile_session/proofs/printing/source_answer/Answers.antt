@@ -1,4 +1,4 @@
-use Rattle.command_words.specs.Asked as asked
+use Rattle.session_words.specs.Asked as asked
 use Rattle.compile_session.proofs.FileLemmas.{answers_script, answers_refused, script_is}
 use Rattle.compile_session.proofs.printing.source_answer.Goals as goal
 

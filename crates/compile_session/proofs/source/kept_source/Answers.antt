@@ -1,9 +1,9 @@
 use Rattle.std.proofs.Common.{List, arith, ap, refl, sym, length, subst}
 use Rattle.script_grammar.specs.declared.tree.Stmt.{Stmt}
-use Rattle.eager_compile.specs.Compiles.{AreSeated}
+use Rattle.compile_eager.specs.Compiles.{AreSeated}
 use Rattle.std.proofs.lemmas.List.{with_items_is}
 use Rattle.script_grammar.specs.Tree.{Stmts}
-use Rattle.command_words.specs.Asked as asked
+use Rattle.session_words.specs.Asked as asked
 use Rattle.compile_session.proofs.KeptLemmas.{IsFound, found_of, early_at, none_of, missing_at, has_all, seated_script, compiles}
 use Rattle.compile_session.proofs.source.kept_source.Goals as goal
 

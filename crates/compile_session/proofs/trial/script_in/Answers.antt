@@ -1,5 +1,5 @@
 use Rattle.std.proofs.Common.{subst}
-use Rattle.command_words.specs.Asked as asked
+use Rattle.session_words.specs.Asked as asked
 use Rattle.compile_session.specs.declared.source.SourceText.{SourceText}
 use Rattle.compile_session.specs.Answers.{IsSourceText}
 use Rattle.compile_session.proofs.TrialLemmas.{not_refused}

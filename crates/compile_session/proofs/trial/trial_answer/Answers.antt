@@ -1,9 +1,9 @@
 use Rattle.std.proofs.Common.{ℕ, ◌≤◌, List, length, ap, sym, ◌∙◌, subst, arith}
 use Rattle.script_grammar.specs.Tree.{Stmts}
-use Rattle.generated_scripts.proofs.Valid.{generated_has_all, generated_is_short}
-use Rattle.command_words.specs.Asked as asked
-use Rattle.command_answer.specs.Answer.{most_bytes}
-use Rattle.command_answer.specs.Sources.{HasAll}
+use Rattle.session_trial_laws.proofs.Valid.{generated_has_all, generated_is_short}
+use Rattle.session_words.specs.Asked as asked
+use Rattle.session_specs.specs.Answer.{most_bytes}
+use Rattle.session_specs.specs.Sources.{HasAll}
 use Rattle.compile_session.proofs.TrialLemmas.{trial_settles, trial_text}
 use Rattle.compile_session.proofs.trial.trial_answer.Goals as goal
 

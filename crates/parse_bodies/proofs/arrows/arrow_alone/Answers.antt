@@ -2,10 +2,10 @@ use Rattle.std.proofs.Common.{◌∙◌, refl, None}
 use Rattle.script_grammar.specs.Shows.{FuncOf}
 use Rattle.parse_exprs.proofs.ParamParts.{simple_same}
 use Rattle.script_grammar.specs.declared.token.FuncForm.TheVariants as form
-use Rattle.pure_parser.specs.Exprs.{Head, function_case, arrow_body}
+use Rattle.grammar_parser_specs.specs.Exprs.{Head, function_case, arrow_body}
 use Rattle.parse_bodies.proofs.Alone.{arrow_made}
 use Rattle.parse_bodies.proofs.Faults.{refused_behind}
-use Rattle.pure_parser.specs.Stmts.{arrow_alone, strict_body}
+use Rattle.grammar_parser_specs.specs.Stmts.{arrow_alone, strict_body}
 use Rattle.parse_exprs.proofs.Steps.{then, made, handed, refused}
 use Rattle.parse_bodies.proofs.arrows.arrow_alone.Goals as goal
 

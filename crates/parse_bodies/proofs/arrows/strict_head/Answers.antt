@@ -1,10 +1,10 @@
 use Rattle.std.proofs.Common.{◌≡◌, ◌∙◌, sym, ap}
 use Rattle.script_grammar.specs.Kinds.{is_name}
-use Rattle.pure_parser.specs.Exprs.{bare_head}
+use Rattle.grammar_parser_specs.specs.Exprs.{bare_head}
 use Rattle.parse_exprs.specs.Means.{ParamsOf}
 use Rattle.parse_bodies.proofs.Params.{read_is}
 use Rattle.script_grammar.specs.Lexeme.{lexeme_of}
-use Rattle.pure_parser.specs.Stmts.{strict_head}
+use Rattle.grammar_parser_specs.specs.Stmts.{strict_head}
 use Rattle.parse_exprs.proofs.Steps.{just, when_true}
 use Rattle.parse_exprs.proofs.Made.{made_answers}
 use Rattle.parse_exprs.specs.Answers.{records}

@@ -2,8 +2,8 @@ use Rattle.std.proofs.Common.{drop, length}
 use Rattle.script_grammar.specs.Interpretation.{Interpretation}
 use Rattle.script_grammar.specs.Shows.{ShowParam}
 use Rattle.script_grammar.specs.TreeLists.{Param}
-use Rattle.pure_parser.specs.Parser.{led}
-use Rattle.pure_parser.specs.Stmts.{strict_turn}
+use Rattle.grammar_parser_specs.specs.Parser.{led}
+use Rattle.grammar_parser_specs.specs.Stmts.{strict_turn}
 use Rattle.parse_exprs.proofs.Loops.{Looping}
 use Rattle.parse_exprs.specs.Answers.{records}
 use Rattle.parse_exprs.specs.Env.{env_at}

@@ -1,9 +1,9 @@
 use Rattle.std.proofs.Common.{◌≡◌}
-use Rattle.pure_parser.specs.Exprs.{head_case}
+use Rattle.grammar_parser_specs.specs.Exprs.{head_case}
 use Rattle.parse_exprs.specs.Means.{ParamsOf}
 use Rattle.parse_bodies.proofs.Params.{read_is}
 use Rattle.parse_exprs.proofs.ParamParts.{many_read}
-use Rattle.pure_parser.specs.Stmts.{strict_listed}
+use Rattle.grammar_parser_specs.specs.Stmts.{strict_listed}
 use Rattle.parse_exprs.proofs.Steps.{then, made}
 use Rattle.parse_exprs.proofs.Made.{made_answers}
 use Rattle.parse_exprs.specs.Answers.{records}

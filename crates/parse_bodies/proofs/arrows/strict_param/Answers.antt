@@ -1,7 +1,7 @@
 use Rattle.std.proofs.Common.{◌∙◌, sym}
-use Rattle.pure_parser.specs.Parser.{Again}
+use Rattle.grammar_parser_specs.specs.Parser.{Again}
 use Rattle.parse_exprs.proofs.ParamParts.{again_reads, param_read}
-use Rattle.pure_parser.specs.Stmts.{strict_param}
+use Rattle.grammar_parser_specs.specs.Stmts.{strict_param}
 use Rattle.parse_exprs.proofs.Steps.{made, when_true, when_false}
 use Rattle.parse_bodies.proofs.arrows.strict_param.Goals as goal
 

@@ -1,13 +1,13 @@
 use Rattle.std.proofs.Common.{◌∙◌, sym}
-use Rattle.pure_parser.specs.Stmts as pure
+use Rattle.grammar_parser_specs.specs.Stmts as pure
 use Rattle.std.proofs.Common.{[]}
 use Rattle.script_grammar.specs.Shows.{ShowParam}
-use Rattle.pure_parser.specs.Exprs.{params_led}
+use Rattle.grammar_parser_specs.specs.Exprs.{params_led}
 use Rattle.parse_exprs.specs.Env.{env_at}
 use Rattle.parse_exprs.specs.Means.{ItemsOf, ParamsEndOf}
 use Rattle.parse_exprs.proofs.Onward.{items_maps}
 use Rattle.parse_exprs.proofs.ParamParts.{again_read, end_maps, many_reads, stop_read}
-use Rattle.pure_parser.specs.Stmts.{strict_params}
+use Rattle.grammar_parser_specs.specs.Stmts.{strict_params}
 use Rattle.parse_exprs.proofs.Steps.{then, just, when_true, when_false}
 use Rattle.parse_exprs.proofs.Onward.{onward, onward_false}
 use Rattle.parse_bodies.proofs.arrows.strict_params.Goals as goal

@@ -1,4 +1,4 @@
-use Rattle.pure_parser.specs.Stmts.{bind_of}
+use Rattle.grammar_parser_specs.specs.Stmts.{bind_of}
 use Rattle.parse_exprs.proofs.Steps.{then}
 use Rattle.parse_bodies.proofs.Parts.{bind_read, bind_made}
 use Rattle.parse_bodies.proofs.bindings.bind.Goals as goal

@@ -1,6 +1,6 @@
 use Rattle.std.proofs.Common.{◌∙◌, sym}
-use Rattle.pure_parser.specs.Parser.{Again}
-use Rattle.pure_parser.specs.Stmts.{bind_turn}
+use Rattle.grammar_parser_specs.specs.Parser.{Again}
+use Rattle.grammar_parser_specs.specs.Stmts.{bind_turn}
 use Rattle.parse_exprs.proofs.Steps.{made, when_true}
 use Rattle.parse_bodies.proofs.Parts.{bind_read, bind_turn_made}
 use Rattle.parse_bodies.proofs.bindings.bind_turn.Goals as goal

@@ -1,7 +1,7 @@
 use Rattle.std.proofs.Common.{refl}
 use Rattle.script_grammar.specs.Tree as tree
 use Rattle.script_grammar.specs.TreeLists.{binds_of}
-use Rattle.pure_parser.specs.Stmts.{binding_of}
+use Rattle.grammar_parser_specs.specs.Stmts.{binding_of}
 use Rattle.parse_exprs.proofs.Steps.{then, made}
 use Rattle.parse_bodies.proofs.bindings.binding.Goals as goal
 

@@ -1,4 +1,4 @@
-use Rattle.pure_parser.specs.Stmts.{binds_from}
+use Rattle.grammar_parser_specs.specs.Stmts.{binds_from}
 use Rattle.parse_exprs.proofs.Steps.{handed}
 use Rattle.parse_bodies.proofs.Faults.{refused_behind}
 use Rattle.parse_bodies.specs.Means.{BindsOf}

@@ -1,8 +1,8 @@
 use Rattle.std.proofs.Common.{drop, length}
 use Rattle.script_grammar.specs.Interpretation.{Interpretation}
 use Rattle.script_grammar.specs.TreeLists.{Bind}
-use Rattle.pure_parser.specs.Parser.{led}
-use Rattle.pure_parser.specs.Stmts.{bind_turn}
+use Rattle.grammar_parser_specs.specs.Parser.{led}
+use Rattle.grammar_parser_specs.specs.Stmts.{bind_turn}
 use Rattle.parse_exprs.specs.Answers.{records}
 use Rattle.parse_exprs.specs.Env.{env_at}
 use Rattle.parse_exprs.specs.Source.{front}

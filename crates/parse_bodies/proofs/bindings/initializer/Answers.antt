@@ -1,5 +1,5 @@
 use Rattle.std.proofs.Common.{◌∙◌, sym, Some}
-use Rattle.pure_parser.specs.Stmts.{value_of}
+use Rattle.grammar_parser_specs.specs.Stmts.{value_of}
 use Rattle.parse_exprs.proofs.Steps.{made, when_true}
 use Rattle.parse_bodies.proofs.bindings.initializer.Goals as goal
 

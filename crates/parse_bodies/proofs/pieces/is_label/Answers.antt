@@ -1,7 +1,7 @@
 use Rattle.std.proofs.Common.{◌∙◌, ap, sym, ◌&&◌}
 use Rattle.script_grammar.specs.declared.token.mark.TheConstants as mark
 use Rattle.script_grammar.specs.Kinds.{is_mark}
-use Rattle.pure_parser.specs.Parser.{head_of, rest_of}
+use Rattle.grammar_parser_specs.specs.Parser.{head_of, rest_of}
 use Rattle.parse_exprs.specs.Source.{front}
 use Rattle.parse_exprs.proofs.Fronts.{front_next}
 use Rattle.parse_bodies.proofs.pieces.is_label.Goals as goal

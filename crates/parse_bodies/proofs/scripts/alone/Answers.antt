@@ -1,4 +1,4 @@
-use Rattle.pure_parser.specs.Stmts.{alone_of}
+use Rattle.grammar_parser_specs.specs.Stmts.{alone_of}
 use Rattle.script_grammar.specs.Shows.{FuncOf}
 use Rattle.parse_bodies.proofs.Faults.{refused_behind}
 use Rattle.parse_bodies.proofs.Parts.{func_read}

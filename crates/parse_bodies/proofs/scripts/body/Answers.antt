@@ -1,7 +1,7 @@
 use Rattle.script_grammar.specs.TreeLists.{stmts_of}
 use Rattle.parse_bodies.specs.Means.{BodyOf}
 use Rattle.parse_bodies.proofs.Faults.{refused_behind}
-use Rattle.pure_parser.specs.Stmts.{reading}
+use Rattle.grammar_parser_specs.specs.Stmts.{reading}
 use Rattle.parse_exprs.proofs.Steps.{then, handed}
 use Rattle.parse_bodies.proofs.scripts.body.Goals as goal
 

@@ -2,7 +2,7 @@ use Rattle.script_grammar.specs.TreeLists.{stmts_of}
 use Rattle.script_grammar.specs.Shows.{NodeOf}
 use Rattle.parse_bodies.proofs.Faults.{refused_behind}
 use Rattle.parse_bodies.proofs.Alone.{end_read, end_refused}
-use Rattle.pure_parser.specs.Stmts.{script_of}
+use Rattle.grammar_parser_specs.specs.Stmts.{script_of}
 use Rattle.parse_exprs.proofs.Steps.{then, handed}
 use Rattle.parse_bodies.proofs.scripts.script.Goals as goal
 

@@ -1,6 +1,6 @@
 use Rattle.std.proofs.Common.{refl}
 use Rattle.script_grammar.specs.Tree as tree
-use Rattle.pure_parser.specs.Stmts.{declared_of}
+use Rattle.grammar_parser_specs.specs.Stmts.{declared_of}
 use Rattle.parse_exprs.proofs.Steps.{then, made}
 use Rattle.parse_bodies.proofs.Parts.{func_read}
 use Rattle.parse_bodies.proofs.values.declared.Goals as goal

@@ -1,4 +1,4 @@
-use Rattle.pure_parser.specs.Stmts.{parens_of}
+use Rattle.grammar_parser_specs.specs.Stmts.{parens_of}
 use Rattle.parse_exprs.proofs.Steps.{then, made}
 use Rattle.parse_bodies.proofs.values.parens.Goals as goal
 

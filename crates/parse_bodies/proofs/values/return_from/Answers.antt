@@ -1,7 +1,7 @@
 use Rattle.std.proofs.Common.{refl}
 use Rattle.script_grammar.specs.Tree as tree
 use Rattle.script_grammar.specs.TreeLists.{maybe_expr_of}
-use Rattle.pure_parser.specs.Stmts.{return_of}
+use Rattle.grammar_parser_specs.specs.Stmts.{return_of}
 use Rattle.parse_exprs.proofs.Steps.{then, made}
 use Rattle.parse_bodies.proofs.Parts.{returned_read}
 use Rattle.parse_bodies.proofs.values.return_from.Goals as goal

@@ -1,5 +1,5 @@
 use Rattle.std.proofs.Common.{◌∙◌, sym, Some}
-use Rattle.pure_parser.specs.Stmts.{returned_of}
+use Rattle.grammar_parser_specs.specs.Stmts.{returned_of}
 use Rattle.parse_exprs.proofs.Steps.{made, when_false}
 use Rattle.parse_bodies.proofs.values.returned.Goals as goal
 

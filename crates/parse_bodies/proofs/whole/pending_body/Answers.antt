@@ -1,7 +1,7 @@
 use Rattle.parse_exprs.specs.Answers.{Answers}
 use Rattle.parse_bodies.proofs.Later.{none_before}
 use Rattle.std.proofs.Common.{subst}
-use Rattle.pure_parser.specs.Stmts as pure
+use Rattle.grammar_parser_specs.specs.Stmts as pure
 use Rattle.parse_exprs.specs.Source.{front}
 use Rattle.parse_bodies.specs.Blocks.{stmts_at}
 use Rattle.parse_bodies.specs.Means.{BodyOf}

@@ -1,7 +1,7 @@
 use Rattle.std.proofs.Common.{refl}
 use Rattle.script_grammar.specs.Interpretation.{maybe_named}
 use Rattle.script_grammar.specs.Tree as tree
-use Rattle.pure_parser.specs.Stmts.{break_of}
+use Rattle.grammar_parser_specs.specs.Stmts.{break_of}
 use Rattle.parse_exprs.proofs.Steps.{then, made}
 use Rattle.parse_bodies.proofs.words.break_from.Goals as goal
 

@@ -1,6 +1,6 @@
 use Rattle.std.proofs.Common.{refl}
 use Rattle.script_grammar.specs.Tree as tree
-use Rattle.pure_parser.specs.Stmts.{debugger_of}
+use Rattle.grammar_parser_specs.specs.Stmts.{debugger_of}
 use Rattle.parse_exprs.proofs.Steps.{made}
 use Rattle.parse_bodies.proofs.words.debugger.Goals as goal
 

@@ -1,6 +1,6 @@
 use Rattle.std.proofs.Common.{◌∙◌, ap, List}
 use Rattle.script_grammar.specs.Lexeme.{Lexeme}
-use Rattle.pure_parser.specs.Parser.{head_of}
+use Rattle.grammar_parser_specs.specs.Parser.{head_of}
 use Rattle.parse_exprs.proofs.Fronts.{front_next}
 use Rattle.parse_exprs.proofs.heads.kind_behind.Goals as goal
 

@@ -1,10 +1,10 @@
 use Rattle.std.proofs.Common.{◌≡◌, ◌∙◌, sym, ap, subst, true, not, ◌||◌, arith}
 use Rattle.script_grammar.specs.Kinds as test
 use Rattle.script_grammar.specs.declared.token.mark.TheConstants as marks
-use Rattle.pure_parser.specs.Parser.{head_of, rest_of}
-use Rattle.pure_parser.specs.Exprs.{begins_param}
-use Rattle.pure_parser.proofs.Strides.{Striding}
-use Rattle.pure_parser.proofs.Tests.{or_right}
+use Rattle.grammar_parser_specs.specs.Parser.{head_of, rest_of}
+use Rattle.grammar_parser_specs.specs.Exprs.{begins_param}
+use Rattle.grammar_script_laws.proofs.Strides.{Striding}
+use Rattle.grammar_parser_laws.proofs.Tests.{or_right}
 use Rattle.parse_exprs.specs.Source.{front, lexemes}
 use Rattle.parse_exprs.proofs.Partners.{striding_init, striding_stop, striding_next, striding_end}
 use Rattle.parse_exprs.proofs.heads.only_params.Goals as goal

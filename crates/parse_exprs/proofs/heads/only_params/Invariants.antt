@@ -1,6 +1,6 @@
 use Rattle.std.proofs.Common.{◌-◌}
 use Rattle.script_grammar.specs.Interpretation.{Interpretation}
-use Rattle.pure_parser.proofs.Strides.{Striding}
+use Rattle.grammar_script_laws.proofs.Strides.{Striding}
 use Rattle.parse_exprs.specs.Source.{lexemes}
 use Rattle.parse_exprs.proofs.heads.only_params.Given as goal
 

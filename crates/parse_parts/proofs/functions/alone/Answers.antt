@@ -1,5 +1,5 @@
 use Rattle.std.proofs.Common.{◌≡◌, ◌∙◌, sym, subst, Ok, Err, Some}
-use Rattle.pure_parser.specs.Exprs.{is_simple}
+use Rattle.grammar_parser_specs.specs.Exprs.{is_simple}
 use Rattle.parse_exprs.specs.Answers.{records}
 use Rattle.parse_bodies.specs.Whole.{lacks_memory}
 use Rattle.parse_parts.specs.Answers.{IsAlone, IsOutermost}

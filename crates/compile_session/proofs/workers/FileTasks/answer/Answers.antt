@@ -1,5 +1,5 @@
 use Rattle.std.proofs.Common.{arith}
-use Rattle.command_answer.specs.Answer.{most_bytes}
+use Rattle.session_specs.specs.Answer.{most_bytes}
 use Rattle.compile_session.proofs.WorkerLemmas.{read_within, settles_taken}
 use Rattle.compile_session.proofs.workers.FileTasks.answer.Goals as goal
 

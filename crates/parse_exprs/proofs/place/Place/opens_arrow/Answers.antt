@@ -1,7 +1,7 @@
 use Rattle.std.proofs.Common.{◌∙◌, sym, ap, true, ◌&&◌, [], ◌∷◌}
 use Rattle.script_grammar.specs.Pieces.{paren}
-use Rattle.pure_parser.specs.Parser.{head_of, rest_of}
-use Rattle.pure_parser.specs.Exprs.{is_arrow, only_params}
+use Rattle.grammar_parser_specs.specs.Parser.{head_of, rest_of}
+use Rattle.grammar_parser_specs.specs.Exprs.{is_arrow, only_params}
 use Rattle.parse_exprs.specs.Source.{front}
 use Rattle.parse_exprs.proofs.Fronts.{front_next}
 use Rattle.parse_exprs.proofs.Partners.{arrow_some}

@@ -1,6 +1,6 @@
 use Rattle.std.proofs.Common.{◌∙◌, sym, ap}
 use Rattle.script_grammar.specs.Lexeme.{Lexeme}
-use Rattle.pure_parser.specs.Parser.{Bad}
+use Rattle.grammar_parser_specs.specs.Parser.{Bad}
 use Rattle.parse_exprs.specs.Answers.{records}
 use Rattle.parse_exprs.specs.Source.{front}
 use Rattle.parse_exprs.proofs.Steps.{read_at}

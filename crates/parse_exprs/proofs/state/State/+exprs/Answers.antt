@@ -18,10 +18,10 @@ use Rattle.parse_exprs.specs.Env.{env_at}
 use Rattle.parse_exprs.specs.Means.{AtomOf, EndsOf, ItemsOf, Itself, ListOf, OperandsOf, ParamsEndOf, RankedOf, ShowRanked, TurnOf, ending_as}
 use Rattle.parse_exprs.specs.Ranks.{begins, raises}
 use Rattle.parse_exprs.specs.Source.{front}
-use Rattle.pure_parser.proofs.LocalArrows.{arrow_turn_gains}
-use Rattle.pure_parser.proofs.LocalExprs.{args_turn_gains, item_turn_gains, lead_turn_gains, level_local, member_turn_gains, more_turn_gains, op_turn_gains, params_turn_gains, part_turn_gains, power_turn_gains, props_turn_gains, tail_turn_gains}
-use Rattle.pure_parser.specs.Exprs.{ANew, AParam, APrefix, AnAssign, args_next, args_of, args_turn, array_case, array_of, atom_case, begins_assign, chain_case, comma_case, expr_of, is_atom, is_op, items_from, lead_item, lead_items, lead_turn, left_of, level_of, list_case, more_args, new_args, new_or_prim, paren_of, part_end, part_turn, power_of, prim_of, template_of, with_last}
-use Rattle.pure_parser.specs.Parser.{head_of, ret}
+use Rattle.grammar_local_laws.proofs.LocalArrows.{arrow_turn_gains}
+use Rattle.grammar_local_laws.proofs.LocalExprs.{args_turn_gains, item_turn_gains, lead_turn_gains, level_local, member_turn_gains, more_turn_gains, op_turn_gains, params_turn_gains, part_turn_gains, power_turn_gains, props_turn_gains, tail_turn_gains}
+use Rattle.grammar_parser_specs.specs.Exprs.{ANew, AParam, APrefix, AnAssign, args_next, args_of, args_turn, array_case, array_of, atom_case, begins_assign, chain_case, comma_case, expr_of, is_atom, is_op, items_from, lead_item, lead_items, lead_turn, left_of, level_of, list_case, more_args, new_args, new_or_prim, paren_of, part_end, part_turn, power_of, prim_of, template_of, with_last}
+use Rattle.grammar_parser_specs.specs.Parser.{head_of, ret}
 use Rattle.script_grammar.specs.Endings.{last_ending, operands_ending}
 use Rattle.script_grammar.specs.Interpretation.{named, text_of}
 use Rattle.script_grammar.specs.Kinds.{is_mark, is_name, is_word}
@@ -29,7 +29,7 @@ use Rattle.script_grammar.specs.Lexeme.{Lexeme, lexeme_of}
 use Rattle.script_grammar.specs.Shows.{MaybeOf, ParamOf, PartOf, ShowAll, ShowMaybe, ShowOperand, ShowParam, ShowPart, ShowTail}
 use Rattle.script_grammar.specs.TreeLists.{Operand, Part, exprs_of, operands_of, parts_of, props_of}
 use Rattle.std.proofs.Common.{None, [], ap, arith, false, refl, subst, sym, ◌++◌, ◌-◌, ◌∙◌, ◌∷◌, ◌≡◌}
-use Rattle.pure_parser.specs.Exprs as pure
+use Rattle.grammar_parser_specs.specs.Exprs as pure
 use Rattle.script_grammar.specs.Tree as model
 use Rattle.script_grammar.specs.declared.token.mark.TheConstants as mark
 use Rattle.script_grammar.specs.declared.token.word.TheConstants as word

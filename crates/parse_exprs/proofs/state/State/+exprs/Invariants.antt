@@ -4,15 +4,15 @@ use Rattle.parse_exprs.specs.Answers.{records}
 use Rattle.parse_exprs.specs.Env.{env_at}
 use Rattle.parse_exprs.specs.Means.{ending_as}
 use Rattle.parse_exprs.specs.Source.{front}
-use Rattle.pure_parser.specs.Exprs.{AParam, ARest, AnAssign, args_turn, item_turn, lead_turn, level_of, member_turn, more_turn, op_turn, part_turn, power_turn, tail_turn}
-use Rattle.pure_parser.specs.Parser.{led, loop}
+use Rattle.grammar_parser_specs.specs.Exprs.{AParam, ARest, AnAssign, args_turn, item_turn, lead_turn, level_of, member_turn, more_turn, op_turn, part_turn, power_turn, tail_turn}
+use Rattle.grammar_parser_specs.specs.Parser.{led, loop}
 use Rattle.script_grammar.specs.Endings.{last_ending, operands_ending}
 use Rattle.script_grammar.specs.Interpretation.{Interpretation}
 use Rattle.script_grammar.specs.Shows.{ShowMaybe, ShowOperand, ShowParam, ShowPart, ShowTail}
 use Rattle.script_grammar.specs.Tree.{Expr}
 use Rattle.script_grammar.specs.TreeLists.{Param, exprs_of, operands_of}
 use Rattle.std.proofs.Common.{drop, false, length, ◌*◌, ◌+◌, ◌-◌}
-use Rattle.pure_parser.specs.Exprs as pure
+use Rattle.grammar_parser_specs.specs.Exprs as pure
 use Rattle.script_grammar.specs.Tree as model
 use Rattle.parse_exprs.proofs.state.State.+exprs.Given as goal
 

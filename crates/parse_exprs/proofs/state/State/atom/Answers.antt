@@ -1,6 +1,6 @@
 use Rattle.parse_exprs.proofs.TokenTexts.{atom_text}
 use Rattle.parse_exprs.specs.Source.{has_atom}
-use Rattle.pure_parser.specs.Exprs.{atom_case}
+use Rattle.grammar_parser_specs.specs.Exprs.{atom_case}
 use Rattle.script_grammar.specs.Interpretation.{text_of}
 use Rattle.script_grammar.specs.Lexeme.{lexeme_of}
 use Rattle.script_grammar.specs.TreeLists.{parts_of}

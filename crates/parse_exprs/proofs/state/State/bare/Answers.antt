@@ -1,6 +1,6 @@
 use Rattle.parse_exprs.proofs.KeyParts.{name_atom, named_same}
-use Rattle.pure_parser.specs.Exprs.{AnAssign, AParam, ARest}
-use Rattle.pure_parser.specs.Exprs as pure
+use Rattle.grammar_parser_specs.specs.Exprs.{AnAssign, AParam, ARest}
+use Rattle.grammar_parser_specs.specs.Exprs as pure
 use Rattle.script_grammar.specs.Lexeme.{lexeme_of}
 use Rattle.std.proofs.Common.{[], ap, refl, sym, None, ◌∷◌}
 use Rattle.parse_exprs.proofs.state.State.bare.Goals as goal

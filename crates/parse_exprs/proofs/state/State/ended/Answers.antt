@@ -1,6 +1,6 @@
 use Rattle.parse_exprs.proofs.ParamParts.{comma_at, comma_none, no_rest_params, rest_params}
-use Rattle.pure_parser.specs.Exprs.{AnAssign, AParam, ARest}
-use Rattle.pure_parser.specs.Exprs as pure
+use Rattle.grammar_parser_specs.specs.Exprs.{AnAssign, AParam, ARest}
+use Rattle.grammar_parser_specs.specs.Exprs as pure
 use Rattle.script_grammar.specs.Shows.{ShowAll, ShowParam}
 use Rattle.std.proofs.Common.{refl, subst, sym, ◌∙◌, ◌≡◌}
 use Rattle.parse_exprs.proofs.state.State.ended.Goals.{in-Trailing, in_default, in-Rest+in_ok-push, in_default-last}

@@ -1,5 +1,5 @@
 use Rattle.parse_exprs.proofs.Steps.{just, when_true, when_false, read_at}
-use Rattle.pure_parser.specs.Exprs.{lead_end}
+use Rattle.grammar_parser_specs.specs.Exprs.{lead_end}
 use Rattle.std.proofs.Common.{[], ◌∷◌, ◌∙◌, sym}
 use Rattle.parse_exprs.proofs.state.State.lead_end.Goals as goal
 

@@ -1,6 +1,6 @@
 use Rattle.parse_exprs.proofs.ListExits.{some_shown, none_shown, has_shown}
 use Rattle.parse_exprs.proofs.Loops.{all_more}
-use Rattle.pure_parser.specs.Exprs.{array_case}
+use Rattle.grammar_parser_specs.specs.Exprs.{array_case}
 use Rattle.script_grammar.specs.Shows.{ShowMaybe}
 use Rattle.script_grammar.specs.TreeLists.{items_of}
 use Rattle.std.proofs.Common.{[], ◌∷◌, ◌++◌, ◌∙◌, sym, ap, subst, Some, append-nil, not}

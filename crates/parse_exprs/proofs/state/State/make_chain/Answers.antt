@@ -4,7 +4,7 @@ use Rattle.script_grammar.specs.Pieces as pieces
 use Rattle.script_grammar.specs.Tree as model
 use Rattle.script_grammar.specs.TreeLists.{tails_of}
 use Rattle.script_grammar.specs.Shows.{ShowTail}
-use Rattle.pure_parser.specs.Exprs.{chain_case}
+use Rattle.grammar_parser_specs.specs.Exprs.{chain_case}
 use Rattle.parse_exprs.specs.declared.part.Rank.TheVariants as ranks
 use Rattle.parse_exprs.specs.Ranks.{rank_of}
 use Rattle.parse_exprs.proofs.Made.{nonempty}

@@ -3,7 +3,7 @@ use Rattle.script_grammar.specs.Endings.{ending, last_ending}
 use Rattle.script_grammar.specs.Tree as model
 use Rattle.script_grammar.specs.TreeLists.{exprs_of}
 use Rattle.script_grammar.specs.Shows.{ShowAll}
-use Rattle.pure_parser.specs.Exprs.{comma_case}
+use Rattle.grammar_parser_specs.specs.Exprs.{comma_case}
 use Rattle.parse_exprs.specs.declared.part.Rank.TheVariants as ranks
 use Rattle.parse_exprs.specs.Means.{ending_as}
 use Rattle.parse_exprs.specs.Ranks.{rank_of}

@@ -2,7 +2,7 @@ use Rattle.std.proofs.Common.{◌∙◌, sym, ap}
 use Rattle.script_grammar.specs.Interpretation.{text_of}
 use Rattle.script_grammar.specs.Kinds.{is_middle, is_tail}
 use Rattle.script_grammar.specs.Lexeme.{Lexeme}
-use Rattle.pure_parser.specs.Exprs.{part_end}
+use Rattle.grammar_parser_specs.specs.Exprs.{part_end}
 use Rattle.parse_exprs.proofs.Steps.{when_true, when_false, just, read_at}
 use Rattle.parse_exprs.proofs.TokenTexts.{atom_text, middle_atom, tail_atom}
 use Rattle.parse_exprs.proofs.state.State.part_end.Goals as goal

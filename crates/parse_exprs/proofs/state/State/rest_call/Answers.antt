@@ -1,6 +1,6 @@
 use Rattle.std.proofs.Common.{ap, arith, sym, ◌∙◌}
 use Rattle.script_grammar.specs.Kinds.{is_mark}
-use Rattle.pure_parser.specs.Exprs.{ARest}
+use Rattle.grammar_parser_specs.specs.Exprs.{ARest}
 use Rattle.parse_exprs.specs.Answers.{records}
 use Rattle.parse_exprs.specs.Means.{NameOf}
 use Rattle.parse_exprs.specs.Source.{front}

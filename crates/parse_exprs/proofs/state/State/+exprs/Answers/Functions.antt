@@ -10,12 +10,12 @@ use Rattle.parse_exprs.specs.Answers.{Makes, ReadAs, Refuses, records}
 use Rattle.parse_exprs.specs.Env.{body_at, env_at}
 use Rattle.parse_exprs.specs.Means.{ArrowBodyOf, ItemsOf, Itself, ParamsEndOf, ParamsOf, RankedOf}
 use Rattle.parse_exprs.specs.Source.{front}
-use Rattle.pure_parser.specs.Exprs.{AnAssign}
-use Rattle.pure_parser.specs.Parser.{head_of, ret}
+use Rattle.grammar_parser_specs.specs.Exprs.{AnAssign}
+use Rattle.grammar_parser_specs.specs.Parser.{head_of, ret}
 use Rattle.script_grammar.specs.Lexeme.{Lexeme}
 use Rattle.script_grammar.specs.Shows.{FuncOf, ShowParam}
 use Rattle.std.proofs.Common.{Err, None, ap, refl, subst, sym, ◌-◌, ◌∙◌, ◌≡◌}
-use Rattle.pure_parser.specs.Exprs as pure
+use Rattle.grammar_parser_specs.specs.Exprs as pure
 use Rattle.script_grammar.specs.Kinds as test
 use Rattle.script_grammar.specs.Tree as model
 use Rattle.script_grammar.specs.declared.token.FuncForm.TheVariants as form

@@ -15,8 +15,8 @@ use Rattle.parse_exprs.specs.Env.{env_at}
 use Rattle.parse_exprs.specs.Means.{Itself, RankedOf, ShowRanked}
 use Rattle.parse_exprs.specs.Ranks.{assigns, begins, raises}
 use Rattle.parse_exprs.specs.Source.{front}
-use Rattle.pure_parser.specs.Exprs.{APrefix, and_level, assign_of, assign_tail, binary_case, branches_of, chain_case, coalesce_level, cond_of, cond_tail, is_op, is_word_kind, left_of, level_of, mark_of, new_from, new_of, operands_from, or_from, or_level, plain_of, postfix_of, power_of, power_turn, prefix_of, short_circuit, unary_of, update_of, with_last}
-use Rattle.pure_parser.specs.Parser.{bind, head_of, loop}
+use Rattle.grammar_parser_specs.specs.Exprs.{APrefix, and_level, assign_of, assign_tail, binary_case, branches_of, chain_case, coalesce_level, cond_of, cond_tail, is_op, is_word_kind, left_of, level_of, mark_of, new_from, new_of, operands_from, or_from, or_level, plain_of, postfix_of, power_of, power_turn, prefix_of, short_circuit, unary_of, update_of, with_last}
+use Rattle.grammar_parser_specs.specs.Parser.{bind, head_of, loop}
 use Rattle.script_grammar.specs.Endings.{operands_ending}
 use Rattle.script_grammar.specs.Kinds.{is_assign_mark, is_prefix, is_update, is_word}
 use Rattle.script_grammar.specs.Lexeme.{Lexeme}

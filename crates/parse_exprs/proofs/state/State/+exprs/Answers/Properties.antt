@@ -7,13 +7,13 @@ use Rattle.parse_exprs.specs.Answers.{Answers, records}
 use Rattle.parse_exprs.specs.Env.{env_at}
 use Rattle.parse_exprs.specs.Means.{ItemsOf, Itself}
 use Rattle.parse_exprs.specs.Source.{front}
-use Rattle.pure_parser.specs.Exprs.{index_of, member_turn}
-use Rattle.pure_parser.specs.Parser.{Again, head_of, led, rest_of}
+use Rattle.grammar_parser_specs.specs.Exprs.{index_of, member_turn}
+use Rattle.grammar_parser_specs.specs.Parser.{Again, head_of, led, rest_of}
 use Rattle.script_grammar.specs.Interpretation.{named}
 use Rattle.script_grammar.specs.Lexeme.{Lexeme}
 use Rattle.script_grammar.specs.Shows.{NodeOf}
 use Rattle.std.proofs.Common.{ap, refl, subst, sym, true, ◌-◌, ◌∙◌, ◌≡◌}
-use Rattle.pure_parser.specs.Exprs as pure
+use Rattle.grammar_parser_specs.specs.Exprs as pure
 use Rattle.script_grammar.specs.Kinds as test
 use Rattle.script_grammar.specs.Tree as model
 use Rattle.script_grammar.specs.declared.token.mark.TheConstants as mark

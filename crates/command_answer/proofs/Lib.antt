@@ -1,2 +1,0 @@
-mod AnswerRows
-pub mod Counts

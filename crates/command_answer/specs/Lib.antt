@@ -1,4 +1,0 @@
-pub mod Answer
-pub mod Counted
-pub mod Refusals
-pub mod Sources

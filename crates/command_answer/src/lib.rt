@@ -1,7 +1,0 @@
-//! What the program answers to each command: definitions alone.
-//!
-//! They stand above all others: words (command_words), text and tokens (unit_text, script_scanner), the grammar
-//! (script_grammar), early errors (parse_track), whole scripts and what is shown of them (lazy_compile), listings
-//! (script_image) and images (image_answers). `specs/Sources.antt` says what a file of source text is, and
-//! `specs/Answer.antt` what is written for all files of a command, and whether one is refused.
-#![tactic(auto)]

@@ -1,0 +1,8 @@
+use Rattle.compile_eager.proofs.Showing.{Shown}
+use Rattle.compile_eager.proofs.merging.show_around.Given as goal
+
+abbrev pub invariant-loop-left : goal.invariant-loop-left
+invariant-loop-left l = Shown l.initial.flags l.ends l.flags l.least l.left
+
+abbrev pub decreases-loop-left : goal.decreases-loop-left
+decreases-loop-left l = l.left

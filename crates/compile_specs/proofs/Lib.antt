@@ -1,0 +1,3 @@
+pub mod ShownRows
+pub mod Sites
+pub mod Counts

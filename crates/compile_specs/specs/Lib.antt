@@ -1,0 +1,4 @@
+pub mod Alone
+pub mod Eager
+pub mod Shown
+pub mod Counted

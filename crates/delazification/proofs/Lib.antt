@@ -1,6 +1,0 @@
-pub mod Compiled
-pub mod Crowded
-pub mod OwnTexts
-pub mod Reading
-pub mod Records
-pub mod WrittenForms

@@ -1,4 +1,0 @@
-pub mod Alone
-pub mod Delazified
-pub mod Forms
-pub mod OwnTexts

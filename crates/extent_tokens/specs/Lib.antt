@@ -1,2 +1,0 @@
--- What a part of a file is that can be scanned alone.
-pub mod Inside

@@ -1,6 +1,0 @@
-use Rattle.function_reader.specs.Shifted.{shifted}
-use Rattle.function_reader.proofs.Shifting.{one_more}
-use Rattle.function_reader.proofs.points.shift.Goals as goal
-
-pub loop-point-preserved : goal.loop-point-preserved
-loop-point-preserved c = one_more (shifted c.args.by) (record { code = 0; start = 0; end = 0 }) c.loop-point.point-index c.args.points.now c.loop-point.points c.loop-point-test.true c.loop-point.invariant

@@ -1,7 +1,0 @@
-use Rattle.std.proofs.Common.{◌≡◌, ◌++◌, map, take, drop}
-use Rattle.function_reader.specs.Shifted.{shifted}
-use Rattle.function_reader.proofs.points.shift.Given as goal
-
--- the points so far are further behind, and the others as they were
-abbrev pub invariant-loop-point : goal.invariant-loop-point
-invariant-loop-point l = l.points ≡ map (shifted l.by) (take l.point-index l.initial.points) ++ drop l.point-index l.initial.points

@@ -1,7 +1,0 @@
-use Rattle.script_grammar.proofs.StmtEquations.{each_of-Bind}
-use Rattle.scope_analysis.specs.Kept.{under}
-use Rattle.function_scopes.proofs.declared.is_lexical_in_each.Goals as goal
-
-pub returns-in-Bind : goal.returns-in-Bind
-returns-in-Bind c = λ bodies.
-    rw c.in-Bind.is (rw (each_of-Bind (under c.args.wanted.now.texts.now bodies) c.in-Bind.decl c.in-Bind.name) (c.is_lexical_bind.ensures bodies))

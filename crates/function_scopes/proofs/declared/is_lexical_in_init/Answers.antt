@@ -1,8 +1,0 @@
-use Rattle.std.proofs.Common.{sym}
-use Rattle.script_grammar.proofs.StmtEquations.{init_of-Binds}
-use Rattle.scope_analysis.specs.Kept.{under}
-use Rattle.function_scopes.proofs.declared.is_lexical_in_init.Goals as goal
-
-pub returns-in-Binds : goal.returns-in-Binds
-returns-in-Binds c = λ bodies.
-    rw c.in-Binds.is (rw (init_of-Binds (under c.args.wanted.now.texts.now bodies) c.in-Binds.decl c.in-Binds.binds) (rw (sym c.deref.ensures.value) (c.is_lexically_bound.ensures bodies)))

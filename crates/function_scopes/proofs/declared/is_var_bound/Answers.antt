@@ -1,4 +1,0 @@
-use Rattle.function_scopes.proofs.declared.is_var_bound.Goals as goal
-
-pub returns-in-Var : goal.returns-in-Var
-returns-in-Var c = λ bodies. rw c.in-Var.is (c.is_bound.ensures bodies)

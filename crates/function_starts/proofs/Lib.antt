@@ -1,6 +1,0 @@
-pub mod Finding
-pub mod KeepingLaws
-pub mod OwnBodies
-pub mod OwnInside
-pub mod Starting
-pub mod WholeTrees

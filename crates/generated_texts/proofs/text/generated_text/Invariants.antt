@@ -1,7 +1,0 @@
-use Rattle.std.proofs.Common.{◌≡◌, ◌++◌, ◌-◌}
-use Rattle.generated_texts.specs.Generated.{generated, lines_from}
-use Rattle.generated_texts.proofs.text.generated_text.Given as goal
-
--- what stands there and the lines that are to come are the whole text
-abbrev pub invariant-loop-index : goal.invariant-loop-index
-invariant-loop-index l = l.out.items ++ lines_from (l.size - l.index) l.index l.state ≡ generated l.number l.size

@@ -1,0 +1,17 @@
+pub mod AloneLaws
+pub mod ClosedParts
+pub mod CornerRows
+pub mod CutTexts
+pub mod DepthRows
+pub mod Exact
+pub mod FunctionAlone
+pub mod Longest
+pub mod OnePassed
+pub mod PassedAlone
+pub mod PassedBodies
+pub mod PassedFunctions
+pub mod PassedHeads
+pub mod PassedParts
+pub mod PassingComplete
+pub mod Rows
+pub mod TotalParts

@@ -1,0 +1,15 @@
+pub mod Begins
+pub mod Complete
+pub mod Fitting
+pub mod Flat
+pub mod Friendly
+pub mod Local
+pub mod Nested
+pub mod NestedTrees
+pub mod ParamsBegin
+pub mod ProperIn
+pub mod Sound
+pub mod SoundParts
+pub mod Spanned
+pub mod Stands
+pub mod Tests

@@ -1,0 +1,12 @@
+pub mod AgreesAlone
+pub mod Bracketed
+pub mod Closed
+pub mod FirstFaults
+pub mod PartLaws
+pub mod Partnered
+pub mod PassedLaws
+pub mod Refuse
+pub mod ScriptLaws
+pub mod Strides
+pub mod Totals
+pub mod Verdicts

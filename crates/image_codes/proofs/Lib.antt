@@ -1,5 +1,0 @@
-pub mod SameSteps
-pub mod SameVerdict
-pub mod ImageCodes
-pub mod OneListing
-pub mod OneVerdict

@@ -1,5 +1,0 @@
-use Rattle.image_reader.proofs.CodeLoop.{Testing}
-use Rattle.image_reader.proofs.code.is_code_within.Given as goal
-
-abbrev pub invariant-loop : goal.invariant-loop
-invariant-loop l = Testing l.functions l.code l.at l.counter

@@ -1,7 +1,0 @@
-use Rattle.image_reader.specs.Reading.{number, Fits, pair_bytes, FitPair}
-use Rattle.image_reader.specs.Parts.{note_parts}
-use Rattle.image_reader.proofs.Steps.{handed_as}
-use Rattle.image_reader.proofs.data.TryNotePart.read.Goals as goal
-
-pub returns-in_err-start : goal.returns-in_err-start
-returns-in_err-start c = handed_as (pair_bytes (number 8) (pair_bytes (number 8) (number 4))) (FitPair (Fits 8) (FitPair (Fits 8) (Fits 4))) note_parts _ _ _ _ c.from_residual.ensures.1 c.in_err-start.ensures

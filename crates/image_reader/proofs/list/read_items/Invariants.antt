@@ -1,5 +1,0 @@
-use Rattle.image_reader.proofs.Steps.{ReadsItems}
-use Rattle.image_reader.proofs.list.read_items.Given as goal
-
-abbrev pub invariant-loop : goal.invariant-loop
-invariant-loop g l = ReadsItems g.P.Part.bytes g.P.Part.fits l.initial.reader l.reader l.items.items l.counter

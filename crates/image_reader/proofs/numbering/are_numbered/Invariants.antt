@@ -1,6 +1,0 @@
-use Rattle.std.proofs.Common.{◌≡◌, ◌≤◌, drop}
-use Rattle.image_reader.specs.Atoms.{seen_after}
-use Rattle.image_reader.proofs.numbering.are_numbered.Given as goal
-
-abbrev pub invariant-loop-at : goal.invariant-loop-at
-invariant-loop-at l = (seen_after 0 l.atoms ≡ seen_after l.seen (drop l._at l.atoms)) × (l.seen ≤ l._at)

@@ -1,8 +1,0 @@
-use Rattle.image_reader.specs.Reading.{byte, IsByte, number, Fits, pair_bytes, FitPair}
-use Rattle.image_reader.proofs.Steps.{handed_by}
-use Rattle.image_reader.proofs.Halves.{bytes_of, bytes_fit, bytes_same}
-use Rattle.image_reader.proofs.numbers.U16Part.read.Goals as goal
-
-pub returns-in_err-low : goal.returns-in_err-low
-returns-in_err-low c =
-    handed_by (number 2) (Fits 2) (pair_bytes (byte) (byte)) (FitPair (IsByte) (IsByte)) bytes_of _ _ _ _ bytes_fit bytes_same c.from_residual.ensures.1 c.in_err-low.ensures

@@ -1,5 +1,0 @@
-use Rattle.image_writer.proofs.CodeWalk.{HandsCode}
-use Rattle.image_writer.proofs.code.hand_instructions.Given as goal
-
-abbrev pub invariant-loop : goal.invariant-loop
-invariant-loop g l = HandsCode g.S.Sink.takes l.initial.sink l.sink l.code l.at l.counter

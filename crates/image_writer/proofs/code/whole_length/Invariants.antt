@@ -1,7 +1,0 @@
-use Rattle.std.proofs.Common.{◌≡◌, ◌+◌, length}
-use Rattle.bytecode_buf.specs.Layout.{instructions, layout}
-use Rattle.image_reader.proofs.CodeLoop.{left_from}
-use Rattle.image_writer.proofs.code.whole_length.Given as goal
-
-abbrev pub invariant-loop : goal.invariant-loop
-invariant-loop l = l.at + length (layout (left_from l.code l.at l.counter)) ≡ length (layout (instructions l.code))

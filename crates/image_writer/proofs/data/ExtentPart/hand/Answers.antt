@@ -1,5 +1,0 @@
-use Rattle.image_writer.proofs.Handing.{at_last}
-use Rattle.image_writer.proofs.data.ExtentPart.hand.Goals as goal
-
-pub returns-clause-taken : goal.returns-clause-taken
-returns-clause-taken g c = at_last c.number-2.result c.number-2.ensures (λ h. g.met.S.Sink.takes_both _ _ _ _ _ c.in_ok-number.ensures h)

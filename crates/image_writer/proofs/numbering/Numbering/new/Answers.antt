@@ -1,6 +1,0 @@
-use Rattle.std.proofs.Common.{refl}
-use Rattle.image_writer.proofs.Naming.{numbered_none}
-use Rattle.image_writer.proofs.numbering.Numbering.new.Goals as goal
-
-pub returns-clause-none : goal.returns-clause-none
-returns-clause-none c = numbered_none c.args.texts.now _ refl c.in_ok-table.ensures.none c.new.ensures

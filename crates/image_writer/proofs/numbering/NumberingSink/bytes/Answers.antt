@@ -1,5 +1,0 @@
-use Rattle.image_writer.proofs.Naming.{bytes_named}
-use Rattle.image_writer.proofs.numbering.NumberingSink.bytes.Goals as goal
-
-pub returns : goal.returns
-returns c = bytes_named c.args.self.now c.args._bytes.now

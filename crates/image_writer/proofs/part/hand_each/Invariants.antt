@@ -1,5 +1,0 @@
-use Rattle.image_writer.proofs.Handing.{HandsEach}
-use Rattle.image_writer.proofs.part.hand_each.Given as goal
-
-abbrev pub invariant-loop-part : goal.invariant-loop-part
-invariant-loop-part g l = HandsEach g.S.Sink.takes g.P.Part.items g.P.Part.fits l.initial.sink l.sink l.parts l.part-index

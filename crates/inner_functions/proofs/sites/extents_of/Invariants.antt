@@ -1,6 +1,0 @@
-use Rattle.std.proofs.Common.{◌≡◌, ◌++◌, map, drop}
-use Rattle.inner_functions.specs.Sites.{extent_at}
-use Rattle.inner_functions.proofs.sites.extents_of.Given as goal
-
-abbrev pub invariant-loop-site : goal.invariant-loop-site
-invariant-loop-site l = l.extents.items ++ map extent_at (drop l.site-index l.sites) ≡ map extent_at l.sites

@@ -1,0 +1,14 @@
+pub mod Lists
+pub mod ListedParts
+pub mod ListsExprs
+pub mod ListsCalls
+pub mod ListsStmts
+pub mod ListsScripts
+pub mod ListsAlone
+pub mod InOrder
+pub mod Later
+pub mod Rises
+pub mod RisesExprs
+pub mod RisesCalls
+pub mod RisesStmts
+pub mod RisesAll

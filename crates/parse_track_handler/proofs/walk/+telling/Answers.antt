@@ -1,0 +1,110 @@
+use Rattle.std.proofs.Common.{◌≡◌, ◌∙◌, ◌+◌, ap, arith, drop, drop_of_length-le, refl, sym}
+use Rattle.parse_track.specs.Told as told
+use Rattle.parse_track.specs.Log.{label_of, name_of}
+use Rattle.parse_track_handler.specs.Pieces.{Rest, telling, piece_says, pieces_say, says_read}
+use Rattle.parse_track_handler.specs.Weight.{weight}
+use Rattle.parse_track_handler.proofs.Logs.{stays_then}
+use Rattle.parse_track_handler.proofs.PieceEquations.{says-Declared, says-Used, says-This, says-Jumped, says-Inside, says-Many, says-Passed, says-Kept}
+use Rattle.parse_track_handler.proofs.Walking.{label_text, leaf_stays_as, next_of, none_left, popped_lighter, region_stays_as, turn_begin, turn_end, turn_next, walk_as, walk_leaf, walk_none, walk_passed, walk_popped, walk_region, walk_this, weight_push}
+use Rattle.parse_track_handler.proofs.walk.+telling.Goals as goal
+
+pub tell_piece-returns-in_ok-declare-in-Declared-clause-tells : goal.tell_piece-returns-in_ok-declare-in-Declared-clause-tells
+tell_piece-returns-in_ok-declare-in-Declared-clause-tells t c = λ i.
+    walk_as i (λ rest. ap (λ p. piece_says i p rest) c.in-Declared.is ∙ says-Declared i c.in-Declared.how c.in-Declared.name rest)
+    (walk_leaf i _ (told.Declared c.in-Declared.how (name_of c.in-Declared.name)) c.in_ok-declare-in-Declared.ensures)
+
+pub tell_piece-returns-in_ok-declare-in-Declared-clause-stays : goal.tell_piece-returns-in_ok-declare-in-Declared-clause-stays
+tell_piece-returns-in_ok-declare-in-Declared-clause-stays t c = leaf_stays_as (told.Declared c.in-Declared.how (name_of c.in-Declared.name)) c.in_ok-declare-in-Declared.ensures
+
+pub tell_piece-returns-in_ok-used-in-Used-clause-tells : goal.tell_piece-returns-in_ok-used-in-Used-clause-tells
+tell_piece-returns-in_ok-used-in-Used-clause-tells t c = λ i.
+    walk_as i (λ rest. ap (λ p. piece_says i p rest) c.in-Used.is ∙ says-Used i c.in-Used.atom rest)
+    (walk_leaf i _ (told.Used c.in-Used.atom) c.in_ok-used-in-Used.ensures)
+
+pub tell_piece-returns-in_ok-used-in-Used-clause-stays : goal.tell_piece-returns-in_ok-used-in-Used-clause-stays
+tell_piece-returns-in_ok-used-in-Used-clause-stays t c = leaf_stays_as (told.Used c.in-Used.atom) c.in_ok-used-in-Used.ensures
+
+pub tell_piece-returns-in_ok-tell_this-in-This-clause-tells : goal.tell_piece-returns-in_ok-tell_this-in-This-clause-tells
+tell_piece-returns-in_ok-tell_this-in-This-clause-tells t c = λ i.
+    walk_as i (λ rest. ap (λ p. piece_says i p rest) c.in-This.is ∙ says-This i rest) (walk_this i _ c.in_ok-tell_this-in-This.ensures)
+
+pub tell_piece-returns-in_ok-tell_this-in-This-clause-stays : goal.tell_piece-returns-in_ok-tell_this-in-This-clause-stays
+tell_piece-returns-in_ok-tell_this-in-This-clause-stays t c = leaf_stays_as (told.Used c.args.track.now.known.this) c.in_ok-tell_this-in-This.ensures
+
+pub tell_piece-returns-in_ok-jump-in-Jumped-clause-tells : goal.tell_piece-returns-in_ok-jump-in-Jumped-clause-tells
+tell_piece-returns-in_ok-jump-in-Jumped-clause-tells t c = λ i.
+    walk_as i
+    (λ rest.
+    ap (λ p. piece_says i p rest) c.in-Jumped.is
+    ∙ says-Jumped i c.in-Jumped.word c.in-Jumped.at c.in-Jumped.label rest
+    ∙ ap (λ l. telling rest (told.leaf (told.Jumped c.in-Jumped.word c.in-Jumped.at l) rest.told)) (sym (label_text i c.in-Jumped.label)))
+    (walk_leaf i _ (told.Jumped c.in-Jumped.word c.in-Jumped.at (label_of c.in-Jumped.label)) c.in_ok-jump-in-Jumped.ensures)
+
+pub tell_piece-returns-in_ok-jump-in-Jumped-clause-stays : goal.tell_piece-returns-in_ok-jump-in-Jumped-clause-stays
+tell_piece-returns-in_ok-jump-in-Jumped-clause-stays t c = leaf_stays_as (told.Jumped c.in-Jumped.word c.in-Jumped.at (label_of c.in-Jumped.label)) c.in_ok-jump-in-Jumped.ensures
+
+pub tell_piece-returns-in_ok-tell_pieces-in-Inside-clause-tells : goal.tell_piece-returns-in_ok-tell_pieces-in-Inside-clause-tells
+tell_piece-returns-in_ok-tell_pieces-in-Inside-clause-tells t c = λ i.
+    walk_as i (λ rest. ap (λ p. piece_says i p rest) c.in-Inside.is ∙ says-Inside i c.in-Inside.kind c.in-Inside.at c.in-Inside.pieces rest)
+    (walk_region i c.in-Inside.kind c.in-Inside.at c.in_ok-enter-in-Inside.ensures.1 c.in_ok-tell_pieces-in-Inside.ensures.stays
+    (walk_as i (λ rest. ap (λ ps. pieces_say i ps rest) (sym c.deref.ensures.value)) (c.in_ok-tell_pieces-in-Inside.ensures.tells i)) c.leave.ensures)
+
+pub tell_piece-returns-in_ok-tell_pieces-in-Inside-clause-stays : goal.tell_piece-returns-in_ok-tell_pieces-in-Inside-clause-stays
+tell_piece-returns-in_ok-tell_pieces-in-Inside-clause-stays t c = region_stays_as c.in-Inside.kind c.in-Inside.at c.in_ok-enter-in-Inside.ensures.1 c.in_ok-tell_pieces-in-Inside.ensures.stays c.leave.ensures
+
+pub tell_piece-returns-in_ok-tell_pieces-in-Many-clause-tells : goal.tell_piece-returns-in_ok-tell_pieces-in-Many-clause-tells
+tell_piece-returns-in_ok-tell_pieces-in-Many-clause-tells t c = λ i.
+    walk_as i (λ rest. ap (λ p. piece_says i p rest) c.in-Many.is ∙ says-Many i c.in-Many.pieces rest ∙ ap (λ ps. pieces_say i ps rest) (sym c.deref-in-Many.ensures.value))
+    (c.in_ok-tell_pieces-in-Many.ensures.tells i)
+
+pub tell_piece-returns-in_ok-tell_next-in-Passed-clause-tells : goal.tell_piece-returns-in_ok-tell_next-in-Passed-clause-tells
+tell_piece-returns-in_ok-tell_next-in-Passed-clause-tells t c = λ i.
+    walk_as i (λ rest. ap (λ p. piece_says i p rest) c.in-Passed.is ∙ says-Passed i _ rest) (c.in_ok-tell_next-in-Passed.ensures.tells i _)
+
+pub tell_piece-returns-in_ok-tell_kept-in-Kept-clause-tells : goal.tell_piece-returns-in_ok-tell_kept-in-Kept-clause-tells
+tell_piece-returns-in_ok-tell_kept-in-Kept-clause-tells t c = λ i.
+    walk_as i (λ rest. ap (λ p. piece_says i p rest) c.in-Kept.is ∙ says-Kept i c.in-Kept.pieces rest ∙ ap (λ ps. says_read (pieces_say i ps) rest) (sym c.deref-in-Kept.ensures.value))
+    (c.in_ok-tell_kept-in-Kept.ensures.tells i)
+
+pub tell_pieces-loop-piece-init : goal.tell_pieces-loop-piece-init
+tell_pieces-loop-piece-init t c = turn_begin _ _ _
+
+pub tell_pieces-loop-piece-preserved : goal.tell_pieces-loop-piece-preserved
+tell_pieces-loop-piece-preserved t c =
+    turn_next c.piece-item.result (drop (c.loop-piece.piece-index + 1) c.args.pieces.now)
+    (next_of c.args.pieces.now c.loop-piece.piece-index c.piece-item.result c.loop-piece-test.true c.piece-item.is)
+    c.in_ok-tell_piece.ensures.stays c.in_ok-tell_piece.ensures.lighter c.in_ok-tell_piece.ensures.tells c.loop-piece.invariant
+
+pub tell_pieces-returns-clause-tells : goal.tell_pieces-returns-clause-tells
+tell_pieces-returns-clause-tells t c = turn_end (drop_of_length-le c.args.pieces.now c.loop-piece-test.false) c.loop-piece.invariant
+
+pub tell_next-returns-in_ok-tell_piece-in-Some-clause-lighter : goal.tell_next-returns-in_ok-tell_piece-in-Some-clause-lighter
+tell_next-returns-in_ok-tell_piece-in-Some-clause-lighter t c =
+    let e = ap weight c.in-Some.ensures.items ∙ weight_push _ c.in-Some.body in
+    let l = c.in_ok-tell_piece-in-Some.ensures.lighter in
+    omega (arith, e, l)
+
+pub tell_next-returns-in_ok-tell_piece-in-Some-clause-tells : goal.tell_next-returns-in_ok-tell_piece-in-Some-clause-tells
+tell_next-returns-in_ok-tell_piece-in-Some-clause-tells t c = λ i start. walk_passed i c.in-Some.body start c.in-Some.ensures.items (c.in_ok-tell_piece-in-Some.ensures.tells i)
+
+pub tell_next-tell_piece-requires : goal.tell_next-tell_piece-requires
+tell_next-tell_piece-requires t c =
+    let e = ap weight c.in-Some.ensures.items ∙ weight_push _ c.in-Some.body in
+    (omega (arith, e, c.decreases), c.requires)
+
+pub tell_kept-returns-clause-lighter : goal.tell_kept-returns-clause-lighter
+tell_kept-returns-clause-lighter t c =
+    let e = popped_lighter c.pop.result _ _ c.pop.ensures.items in
+    let l = c.in_ok-tell_pieces.ensures.lighter in
+    omega (arith, e, l)
+
+pub tell_kept-returns-clause-tells : goal.tell_kept-returns-clause-tells
+tell_kept-returns-clause-tells t c = λ i. walk_popped i _ _ c.pop.result _ _ _ c.pop.ensures.items c.pop.ensures.rest c.pop.ensures.cases (c.in_ok-tell_pieces.ensures.tells i)
+
+pub tell_kept-tell_pieces-requires : goal.tell_kept-tell_pieces-requires
+tell_kept-tell_pieces-requires t c =
+    let e = popped_lighter c.pop.result _ _ c.pop.ensures.items in
+    (omega (arith, e, c.decreases), c.requires)
+
+pub tell_next-returns-in-None-clause-tells : goal.tell_next-returns-in-None-clause-tells
+tell_next-returns-in-None-clause-tells t c = λ i start. walk_none i start (none_left _ _ _ c.in-None.ensures.items c.in-None.ensures.rest c.in-None.ensures.cases.0)

@@ -1,0 +1,120 @@
+//! The walk: a piece, pieces, and the next body.
+
+ghost use Rattle.std.specs.Prelude.{◌≡◌, ◌≤◌, ℕ, List, None, IsSome, OnOk, reverse, true, []};
+ghost use Rattle.script_grammar.specs.Braced.{in_stmts};
+ghost use Rattle.script_grammar.specs.Interpretation.{Interpretation};
+ghost use Rattle.script_grammar.specs.Shows.{ShowAll};
+ghost use Rattle.script_grammar.specs.Tree as model;
+ghost use Rattle.parse_track.specs.Log.{with_leaf};
+ghost use Rattle.parse_track.specs.Tells.{tells_script};
+ghost use Rattle.parse_track.specs.Told as told;
+ghost use Rattle.track_log_laws.specs.Spelled.{log_text, logged};
+ghost use Rattle.parse_track_handler.specs.Walks.{Stays, KnowsThis, Walks};
+ghost use Rattle.parse_track_handler.specs.Pieces.{piece_says, pieces_say, says_passed, says_read};
+ghost use Rattle.parse_track_handler.specs.Says.{SaysBody};
+ghost use Rattle.parse_track_handler.specs.Weight.{weight};
+
+use crate::piece::Piece;
+use parse_track::region::Region;
+use parse_track::track::Track;
+use std::alloc::AllocError;
+
+// A piece.
+#[cycle(telling)]
+fn tell_piece(piece: &Piece, track: &mut Track, bodies: &mut Vec<Piece>) -> Result<(), AllocError>
+    requires { IsSome track.old.present }
+    ensures stays { OnOk result (Stays track.old track.new) }
+    ensures lighter { OnOk result (weight bodies.new.items ≤ weight bodies.old.items) }
+    ensures tells { OnOk result ((i : Interpretation) → Walks i track.old track.new bodies.old.items bodies.new.items (piece_says i piece.now)) }
+{
+    match piece {
+        Piece::Declared { how, name } => Ok(track.declare(*how, *name)?),
+        Piece::Used { atom } => Ok(track.used(*atom)?),
+        Piece::This => Ok(tell_this(track)?),
+        Piece::Jumped { word, at, label } => Ok(track.jump(*word, *at, *label)?),
+        Piece::Inside { kind, at, pieces } => {
+            track.enter(*kind, *at)?;
+            tell_pieces(pieces, track, bodies)?;
+            track.leave();
+            Ok(())
+        }
+        Piece::Many { pieces } => Ok(tell_pieces(pieces, track, bodies)?),
+        Piece::Passed { .. } => Ok(tell_next(track, bodies)?),
+        Piece::Kept { pieces } => Ok(tell_kept(pieces, track, bodies)?),
+    }
+}
+
+// Pieces, one after the other.
+#[cycle(telling)]
+fn tell_pieces(
+    pieces: &[Piece],
+    track: &mut Track,
+    bodies: &mut Vec<Piece>,
+) -> Result<(), AllocError>
+    requires { IsSome track.old.present }
+    ensures stays { OnOk result (Stays track.old track.new) }
+    ensures lighter { OnOk result (weight bodies.new.items ≤ weight bodies.old.items) }
+    ensures tells { OnOk result ((i : Interpretation) → Walks i track.old track.new bodies.old.items bodies.new.items (pieces_say i pieces.now)) }
+{
+    for piece in pieces {
+        tell_piece(piece, track, bodies)?;
+    }
+    Ok(())
+}
+
+// The next of the bodies at hand; it tells nothing where none is left.
+#[cycle(telling)]
+fn tell_next(track: &mut Track, bodies: &mut Vec<Piece>) -> Result<(), AllocError>
+    requires { IsSome track.old.present }
+    ensures stays { OnOk result (Stays track.old track.new) }
+    ensures lighter { OnOk result (weight bodies.new.items ≤ weight bodies.old.items) }
+    ensures tells { OnOk result ((i : Interpretation) (start : ℕ) → Walks i track.old track.new bodies.old.items bodies.new.items (says_passed i start)) }
+{
+    match bodies.pop() {
+        Some(body) => Ok(tell_piece(&body, track, bodies)?),
+        None => Ok(()),
+    }
+}
+
+// The pieces of a body that was read where it stands; the next of the bodies at hand is the same one, and is passed over.
+#[cycle(telling)]
+fn tell_kept(pieces: &[Piece], track: &mut Track, bodies: &mut Vec<Piece>) -> Result<(), AllocError>
+    requires { IsSome track.old.present }
+    ensures stays { OnOk result (Stays track.old track.new) }
+    ensures lighter { OnOk result (weight bodies.new.items ≤ weight bodies.old.items) }
+    ensures tells { OnOk result ((i : Interpretation) → Walks i track.old track.new bodies.old.items bodies.new.items (says_read (pieces_say i pieces.now))) }
+{
+    bodies.pop();
+    tell_pieces(pieces, track, bodies)?;
+    Ok(())
+}
+
+// A use of `this`.
+fn tell_this(track: &mut Track) -> Result<(), AllocError>
+    requires { IsSome track.old.present }
+    ensures { OnOk result (track.new ≡ with_leaf track.old (told.Used track.old.known.this)) }
+{
+    let this = track.known().this;
+    track.used(this)?;
+    Ok(())
+}
+
+/// Tells a track a script: its piece, as the handler makes it of its statements, with the bodies of its functions in the order
+/// of the source, the next one last; those inside a body stand after it, and of one function those in its parameters before
+/// its own. No region is present again. The error is that memory is out, or that the track has no number for a region more.
+pub fn tell_script(
+    script: &Piece,
+    track: &mut Track,
+    bodies: &mut Vec<Piece>,
+) -> Result<(), AllocError>
+    requires { track.old.present ≡ None }
+    ensures tells { OnOk result ((i : Interpretation) (items : model.Stmts) → KnowsThis i track.old → SaysBody i script.now items → ShowAll (SaysBody i) (reverse bodies.old.items) (in_stmts true items []) → logged (tells_script items) (log_text i track.old) ≡ log_text i track.new) }
+    ensures outside { OnOk result (track.new.present ≡ None) }
+    ensures known { OnOk result (track.new.known ≡ track.old.known) }
+    ensures noted { OnOk result (track.new.noted ≡ track.old.noted) }
+{
+    track.enter(Region::Script, 0)?;
+    tell_piece(script, track, bodies)?;
+    track.leave();
+    Ok(())
+}

@@ -1,9 +1,0 @@
-//! Cases from outside for the reading of a function from its extent: tests alone.
-//!
-//! It stands on function_reader and known_words, and nothing stands on it. What `read_function` asks of a file is that it is a
-//! script; `proofs/Row.antt` proves that of a short one, whose tokens and tree are written out there, and the test reads the
-//! function that is in it. Kept apart from function_reader, the test is proved without proving that crate again.
-#![tactic(auto)]
-
-#[cfg(test)]
-mod read_cases;

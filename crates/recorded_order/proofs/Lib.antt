@@ -1,5 +1,0 @@
-pub mod Rises
-pub mod RisesExprs
-pub mod RisesCalls
-pub mod RisesStmts
-pub mod RisesAll

@@ -1,6 +1,0 @@
-pub mod Asked
-pub mod EveryFunction
-pub mod Inside
-pub mod Limits
-pub mod Names
-pub mod Places

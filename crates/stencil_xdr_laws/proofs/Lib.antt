@@ -1,0 +1,11 @@
+pub mod Pieces
+pub mod CodePieces
+pub mod PartPieces
+pub mod OneImage
+pub mod HeldCode
+pub mod NewTexts
+pub mod NewCode
+pub mod NewParts
+pub mod HasImage
+pub mod WideOperands
+pub mod Standing

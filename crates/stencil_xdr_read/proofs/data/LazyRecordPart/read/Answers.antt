@@ -1,0 +1,6 @@
+use Rattle.stencil_xdr_read.specs.Parts.{FitRecordParts, record_parts, record_parts_bytes}
+use Rattle.stencil_xdr_read.proofs.Steps.{handed_as}
+use Rattle.stencil_xdr_read.proofs.data.LazyRecordPart.read.Goals as goal
+
+pub returns-in_err-head : goal.returns-in_err-head
+returns-in_err-head c = handed_as record_parts_bytes FitRecordParts record_parts _ _ _ _ c.from_residual.ensures.1 c.in_err-head.ensures

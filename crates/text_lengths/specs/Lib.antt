@@ -1,2 +1,0 @@
--- How many bytes points take.
-pub mod Widths

@@ -24,27 +24,136 @@ given i = amount (row_of i.op).pushes i.a
 -- where control goes from an instruction
 pub data Flow : Type 0 where
   -- to the next instruction alone
-  Further : Flow
+  FallThrough : Flow
   -- to its target alone
-  Away : Flow
+  Jump : Flow
   -- to either
-  Either : Flow
+  Branch : Flow
   -- nowhere
-  Ends : Flow
+  Terminates : Flow
 
+-- Each opcode has a line of its own: a new one does not go on to the next instruction by default.
 abbrev pub flow_of : Op → Flow
-flow_of op.Goto = Away
-flow_of op.Default = Away
-flow_of op.JumpIfFalse = Either
-flow_of op.JumpIfTrue = Either
-flow_of op.And = Either
-flow_of op.Or = Either
-flow_of op.Coalesce = Either
-flow_of op.Case = Either
-flow_of op.Return = Ends
-flow_of op.RetRval = Ends
-flow_of op.Throw = Ends
-flow_of _ = Further
+flow_of op.Undefined = FallThrough
+flow_of op.Null = FallThrough
+flow_of op.False = FallThrough
+flow_of op.True = FallThrough
+flow_of op.Zero = FallThrough
+flow_of op.One = FallThrough
+flow_of op.Hole = FallThrough
+flow_of op.Uninitialized = FallThrough
+flow_of op.Callee = FallThrough
+flow_of op.FunctionThis = FallThrough
+flow_of op.GlobalThis = FallThrough
+flow_of op.Arguments = FallThrough
+flow_of op.IsConstructing = FallThrough
+flow_of op.NewInit = FallThrough
+flow_of op.Exception = FallThrough
+flow_of op.Int8 = FallThrough
+flow_of op.Uint16 = FallThrough
+flow_of op.Uint24 = FallThrough
+flow_of op.Int32 = FallThrough
+flow_of op.Double = FallThrough
+flow_of op.String = FallThrough
+flow_of op.Pos = FallThrough
+flow_of op.Neg = FallThrough
+flow_of op.BitNot = FallThrough
+flow_of op.Not = FallThrough
+flow_of op.Typeof = FallThrough
+flow_of op.TypeofExpr = FallThrough
+flow_of op.Void = FallThrough
+flow_of op.Inc = FallThrough
+flow_of op.Dec = FallThrough
+flow_of op.ToNumeric = FallThrough
+flow_of op.ToPropertyKey = FallThrough
+flow_of op.ToString = FallThrough
+flow_of op.Add = FallThrough
+flow_of op.Sub = FallThrough
+flow_of op.Mul = FallThrough
+flow_of op.Div = FallThrough
+flow_of op.Mod = FallThrough
+flow_of op.Pow = FallThrough
+flow_of op.BitOr = FallThrough
+flow_of op.BitXor = FallThrough
+flow_of op.BitAnd = FallThrough
+flow_of op.Lsh = FallThrough
+flow_of op.Rsh = FallThrough
+flow_of op.Ursh = FallThrough
+flow_of op.Eq = FallThrough
+flow_of op.Ne = FallThrough
+flow_of op.StrictEq = FallThrough
+flow_of op.StrictNe = FallThrough
+flow_of op.Lt = FallThrough
+flow_of op.Le = FallThrough
+flow_of op.Gt = FallThrough
+flow_of op.Ge = FallThrough
+flow_of op.In = FallThrough
+flow_of op.Instanceof = FallThrough
+flow_of op.GetElem = FallThrough
+flow_of op.StrictDelElem = FallThrough
+flow_of op.GetGName = FallThrough
+flow_of op.BindGName = FallThrough
+flow_of op.StrictSetGName = FallThrough
+flow_of op.InitGLexical = FallThrough
+flow_of op.ThrowSetConst = FallThrough
+flow_of op.GetArg = FallThrough
+flow_of op.SetArg = FallThrough
+flow_of op.GetLocal = FallThrough
+flow_of op.SetLocal = FallThrough
+flow_of op.InitLexical = FallThrough
+flow_of op.CheckLexical = FallThrough
+flow_of op.GetAliasedVar = FallThrough
+flow_of op.SetAliasedVar = FallThrough
+flow_of op.InitAliasedLexical = FallThrough
+flow_of op.CheckAliasedLexical = FallThrough
+flow_of op.NewArray = FallThrough
+flow_of op.InitElemArray = FallThrough
+flow_of op.InitProp = FallThrough
+flow_of op.InitPropGetter = FallThrough
+flow_of op.InitPropSetter = FallThrough
+flow_of op.InitElem = FallThrough
+flow_of op.InitElemGetter = FallThrough
+flow_of op.InitElemSetter = FallThrough
+flow_of op.MutateProto = FallThrough
+flow_of op.GetProp = FallThrough
+flow_of op.StrictSetProp = FallThrough
+flow_of op.StrictDelProp = FallThrough
+flow_of op.StrictSetElem = FallThrough
+flow_of op.Call = FallThrough
+flow_of op.New = FallThrough
+flow_of op.Lambda = FallThrough
+flow_of op.JumpTarget = FallThrough
+flow_of op.LoopHead = FallThrough
+flow_of op.Goto = Jump
+flow_of op.JumpIfFalse = Branch
+flow_of op.JumpIfTrue = Branch
+flow_of op.And = Branch
+flow_of op.Or = Branch
+flow_of op.Coalesce = Branch
+flow_of op.Case = Branch
+flow_of op.Default = Jump
+flow_of op.Return = Terminates
+flow_of op.SetRval = FallThrough
+flow_of op.RetRval = Terminates
+flow_of op.Throw = Terminates
+flow_of op.Try = FallThrough
+flow_of op.Iter = FallThrough
+flow_of op.MoreIter = FallThrough
+flow_of op.IsNoIter = FallThrough
+flow_of op.EndIter = FallThrough
+flow_of op.Debugger = FallThrough
+flow_of op.PushLexicalEnv = FallThrough
+flow_of op.PopLexicalEnv = FallThrough
+flow_of op.FreshenLexicalEnv = FallThrough
+flow_of op.GlobalOrEvalDeclInstantiation = FallThrough
+flow_of op.Pop = FallThrough
+flow_of op.Dup = FallThrough
+flow_of op.Dup2 = FallThrough
+flow_of op.Swap = FallThrough
+flow_of op.Pick = FallThrough
+flow_of op.Unpick = FallThrough
+flow_of op.Rest = FallThrough
+flow_of op.PushVarEnv = FallThrough
 
 -- the values that an instruction gives where it goes to its target: a Case gives none there
 abbrev pub given_away_by : Op → ℕ → ℕ
@@ -78,10 +187,10 @@ abbrev pub away : Numbered → State → State
 away i s = record { at = (s.at + i.a) % 2 ^ 64; depth = s.depth - taken i + given_away i }
 
 abbrev pub flows : Flow → Numbered → State → List State
-flows Further i s = behind i s ∷ []
-flows Away i s = away i s ∷ []
-flows Either i s = behind i s ∷ away i s ∷ []
-flows Ends i s = []
+flows FallThrough i s = behind i s ∷ []
+flows Jump i s = away i s ∷ []
+flows Branch i s = behind i s ∷ away i s ∷ []
+flows Terminates i s = []
 
 -- the states to which a throw at a state may go: a note's end, where the note is around it and the stack is as deep
 abbrev pub is_caught_by : State → TryNote → Bool

@@ -6,7 +6,7 @@ use Rattle.std.proofs.lemmas.List.Elements.{All-append, All-nil, All-cons}
 use Rattle.stencil_data.specs.declared.stencils.TryNote.{TryNote}
 use Rattle.bytecode_buf.specs.declared.opcode.Op.{Op}
 use Rattle.bytecode_buf.specs.Layout.{Numbered, instructions}
-use Rattle.bytecode_buf.specs.Machine.{State, Flow, Further, Away, Either, Ends, flow_of, taken, given, given_away, given_away_by, behind, away, flows, caught, is_caught_by, steps_by, stuck_by, instruction_in, instruction_at, HasDepthTable}
+use Rattle.bytecode_buf.specs.Machine.{State, Flow, FallThrough, Jump, Branch, Terminates, flow_of, taken, given, given_away, given_away_by, behind, away, flows, caught, is_caught_by, steps_by, stuck_by, instruction_in, instruction_at, HasDepthTable}
 use Rattle.bytecode_buf.specs.Width.{width_of}
 use Rattle.bytecode_flow_laws.specs.Depths.{Leads, Steps}
 
@@ -119,10 +119,10 @@ module _ (code : List ℕ) (notes : List TryNote) (depth_at : ℕ → ℕ) (run 
   runs_there at i found = let e : 0 + at ≡ at = omega arith in subst (λ (k : ℕ). RunsAs ws depth_at k i.op (taken i) (given i) i.a) e (run_at ws depth_at 0 (instructions code) at i run found)
 
   enough : (flow : Flow) (t g a b : ℕ) (N G : ℕ → Type 0) → Steps flow t g a b N G → t ≤ b
-  enough Further t g a b N G h = let e = h.changes.before_is in omega arith
-  enough Away t g a b N G h = let e = h.changes.before_is in omega arith
-  enough Either t g a b N G h = let e = h.0.changes.before_is in omega arith
-  enough Ends t g a b N G h = h
+  enough FallThrough t g a b N G h = let e = h.changes.before_is in omega arith
+  enough Jump t g a b N G h = let e = h.changes.before_is in omega arith
+  enough Branch t g a b N G h = let e = h.0.changes.before_is in omega arith
+  enough Terminates t g a b N G h = h
 
   depth_is : (d e : ℕ) → ◌≡◌ {A = Option ℕ} (Some d) (Some e) → d ≡ e
   depth_is d e p = cc
@@ -143,12 +143,12 @@ module _ (code : List ℕ) (notes : List TryNote) (depth_at : ℕ → ℕ) (run 
       at_table at h.depth h.fit ∙ ap (λ (d : ℕ). Some d) e
 
   flows_have : (flow : Flow) (i : Numbered) (s : State) → Steps flow (taken i) (given i) (given_away i) s.depth (λ depth. At ws depth_at (s.at + width_of i.op) depth) (λ depth. At ws depth_at ((s.at + i.a) % 2 ^ 64) depth) → All Has (flows flow i s)
-  flows_have Further i s h = All-cons Has (behind i s) [] (lead_has (s.at + width_of i.op) (taken i) (given i) s.depth h) (All-nil Has)
-  flows_have Away i s h = All-cons Has (away i s) [] (lead_has ((s.at + i.a) % 2 ^ 64) (taken i) (given_away i) s.depth h) (All-nil Has)
-  flows_have Either i s h =
+  flows_have FallThrough i s h = All-cons Has (behind i s) [] (lead_has (s.at + width_of i.op) (taken i) (given i) s.depth h) (All-nil Has)
+  flows_have Jump i s h = All-cons Has (away i s) [] (lead_has ((s.at + i.a) % 2 ^ 64) (taken i) (given_away i) s.depth h) (All-nil Has)
+  flows_have Branch i s h =
       All-cons Has (behind i s) (away i s ∷ []) (lead_has (s.at + width_of i.op) (taken i) (given i) s.depth h.0)
       (All-cons Has (away i s) [] (lead_has ((s.at + i.a) % 2 ^ 64) (taken i) (given_away i) s.depth h.1) (All-nil Has))
-  flows_have Ends i s h = All-nil Has
+  flows_have Terminates i s h = All-nil Has
 
   one_has : (b : Bool) (n : TryNote) (rest : List State) → At ws depth_at n.end n.depth → All Has rest → All Has (if b then (let t : State = record { at = n.end; depth = n.depth } in t) ∷ rest else rest)
   one_has true n rest h all = All-cons Has (record { at = n.end; depth = n.depth }) rest (at_table n.end n.depth h) all

@@ -2,7 +2,7 @@
 use Rattle.std.proofs.Common.{◌≡◌, ◌∙◌, ℕ, ◌+◌, ◌-◌, ◌≤◌, Bool, nat_le, if◌then◌else◌, List, [], ◌∷◌, ◌++◌, refl, sym, ap, subst, add_assoc, inl, inr, arith, le-leb}
 use Rattle.std.proofs.lemmas.Bool.Decides.{leb_tells}
 use Rattle.bytecode_buf.specs.Command.{Operand, Nothing, Distance, Command}
-use Rattle.bytecode_buf.specs.Machine.{Flow, Further, Away, Either, Ends, flow_of, given_away_by}
+use Rattle.bytecode_buf.specs.Machine.{Flow, FallThrough, Jump, Branch, Terminates, flow_of, given_away_by}
 use Rattle.bytecode_buf.specs.Pieces.{Piece, Whole, Waiting, Trying, Code, size, command_width, width_by}
 use Rattle.bytecode_buf.specs.Width.{width_of}
 use Rattle.bytecode_flow_laws.specs.Depths.{Leads, Steps, takes, gives, IsStart, total, widths, Goes, Lands, OperandLands, Exits, Guards, PieceRuns, PiecesRun, Runs}
@@ -16,10 +16,10 @@ leads_moved : (P Q : ℕ → Type 0) (t g b c : ℕ) → ((d : ℕ) → P d → 
 leads_moved P Q t g b c f e h = record { depth = h.depth; fit = f h.depth h.fit; changes = record { rest = h.changes.rest; before_is = e ∙ h.changes.before_is; after_is = h.changes.after_is } }
 
 pub steps_moved : (flow : Flow) (t g a b c : ℕ) (N N' G G' : ℕ → Type 0) → ((d : ℕ) → N d → N' d) → ((d : ℕ) → G d → G' d) → c ≡ b → Steps flow t g a b N G → Steps flow t g a c N' G'
-steps_moved Further t g a b c N N' G G' n f e h = leads_moved N N' t g b c n e h
-steps_moved Away t g a b c N N' G G' n f e h = leads_moved G G' t a b c f e h
-steps_moved Either t g a b c N N' G G' n f e h = (leads_moved N N' t g b c n e h.0, leads_moved G G' t a b c f e h.1)
-steps_moved Ends t g a b c N N' G G' n f e h = omega arith
+steps_moved FallThrough t g a b c N N' G G' n f e h = leads_moved N N' t g b c n e h
+steps_moved Jump t g a b c N N' G G' n f e h = leads_moved G G' t a b c f e h
+steps_moved Branch t g a b c N N' G G' n f e h = (leads_moved N N' t g b c n e h.0, leads_moved G G' t a b c f e h.1)
+steps_moved Terminates t g a b c N N' G G' n f e h = omega arith
 
 -- ---- among other pieces
 

@@ -7,7 +7,7 @@ use Rattle.bytecode_buf.specs.declared.opcode.Count.{Count}
 use Rattle.bytecode_buf.specs.declared.opcode.Count.TheVariants as count
 use Rattle.bytecode_buf.specs.declared.waits.Aim.{Aim}
 use Rattle.bytecode_buf.specs.Command.{Command, counted}
-use Rattle.bytecode_buf.specs.Machine.{amount, Flow, Further, Away, Either, Ends, flow_of, given_away_by}
+use Rattle.bytecode_buf.specs.Machine.{amount, Flow, FallThrough, Jump, Branch, Terminates, flow_of, given_away_by}
 use Rattle.bytecode_buf.specs.Pieces.{Whole, Waiting}
 use Rattle.bytecode_buf.specs.Table.{row_of}
 use Rattle.bytecode_buf.specs.Width.{width_of}
@@ -72,10 +72,10 @@ count_leads (count.Fixed t) (count.More g) n d e h = absurd (cc)
 count_leads (count.More t) pushes n d e h = absurd (cc)
 
 flow_steps : (flow : Flow) (o : Op) (n d e : ℕ) → flow_after flow o d ≡ Some e → Steps flow (takes o n) (gives o n) (given_away_by o (gives o n)) d (λ depth. e ≡ depth) (λ depth. ⊥)
-flow_steps Further o n d e h = count_leads (row_of o).pops (row_of o).pushes n d e h
-flow_steps Away o n d e h = absurd (cc)
-flow_steps Either o n d e h = absurd (cc)
-flow_steps Ends o n d e h = absurd (cc)
+flow_steps FallThrough o n d e h = count_leads (row_of o).pops (row_of o).pushes n d e h
+flow_steps Jump o n d e h = absurd (cc)
+flow_steps Branch o n d e h = absurd (cc)
+flow_steps Terminates o n d e h = absurd (cc)
 
 pub runs_after : (exits : Exits) (c : Command) (d e : ℕ) → depth_after c.op d ≡ Some e → Runs exits (Whole c ∷ []) d e
 runs_after exits c d e h = runs_command exits c d e (flow_steps (flow_of c.op) c.op (number_in c.operand) d e h)
@@ -95,7 +95,7 @@ runs_whole exits (c ∷ cs) d e h = after_by exits cs (depth_after c.op d) d e c
 
 -- ---- instructions that leave
 
-pub runs_end : (exits : Exits) (c : Command) (d e : ℕ) → flow_of c.op ≡ Ends → takes c.op (number_in c.operand) ≤ d → Runs exits (Whole c ∷ []) d e
+pub runs_end : (exits : Exits) (c : Command) (d e : ℕ) → flow_of c.op ≡ Terminates → takes c.op (number_in c.operand) ≤ d → Runs exits (Whole c ∷ []) d e
 runs_end exits c d e is room = runs_command exits c d e (subst (λ (f : Flow). Steps f (takes c.op (number_in c.operand)) (gives c.op (number_in c.operand)) (given_away_by c.op (gives c.op (number_in c.operand))) d (λ depth. e ≡ depth) (λ depth. ⊥)) (sym is) room)
 
 -- ---- jumps that wait

@@ -7,7 +7,7 @@ use Rattle.bytecode_buf.specs.declared.opcode.Shape.{Shape}
 use Rattle.bytecode_buf.specs.declared.opcode.Shape.TheVariants as shape
 use Rattle.bytecode_buf.specs.Command.{Operand, Nothing, Distance, Target, Command, plain, jump, operand_of, operand_at, ShowsCommands}
 use Rattle.bytecode_buf.specs.Layout.{Numbered, instructions}
-use Rattle.bytecode_buf.specs.Machine.{Flow, Ends, flow_of, taken, given, given_away_by, HasDepthTable}
+use Rattle.bytecode_buf.specs.Machine.{Flow, Terminates, flow_of, taken, given, given_away_by, HasDepthTable}
 use Rattle.bytecode_buf.specs.Pieces.{Piece, Whole, Waiting, Trying, Code, one, size, settled, settled_piece, notes, notes_by, command_width, width_by}
 use Rattle.bytecode_buf.specs.Width.{width_of, shape_of}
 use Rattle.bytecode_flow_laws.specs.Depths.{Steps, takes, gives, IsStart, total, widths, Goes, OperandLands, no_exits, PieceRuns, PiecesRun, Runs}
@@ -130,7 +130,7 @@ leads_mod at distance target (inr back) small here = back_mod (2 ^ 64) at distan
 
 -- ---- code that runs, as instructions
 
-module _ (code : Code) (last : Op) (e : ℕ) (run : Runs no_exits code 0 e) (stops : flow_of last ≡ Ends) (room : takes last 0 ≤ e) (small : total (widths code) < 2 ^ 64) where
+module _ (code : Code) (last : Op) (e : ℕ) (run : Runs no_exits code 0 e) (stops : flow_of last ≡ Terminates) (room : takes last 0 ≤ e) (small : total (widths code) < 2 ^ 64) where
   abbrev ws : List ℕ
   ws = widths code ++ width_of last ∷ []
 
@@ -197,7 +197,7 @@ module _ (code : Code) (last : Op) (e : ℕ) (run : Runs no_exits code 0 e) (sto
 
 -- Code that runs from an empty stack, and ends with an instruction after which nothing runs: bytes that stand for it, or for
 -- commands that run alike, have a depth table.
-pub runs_table : (texts : List (List ℕ)) (bytes : List ℕ) (code : Code) (last : Op) (e : ℕ) (commands : List Command) → Runs no_exits code 0 e → flow_of last ≡ Ends → takes last 0 ≤ e → AllAlike (settled (code ++ one (plain last))) commands → ShowsCommands texts bytes commands → length bytes < 2 ^ 64 → HasDepthTable bytes (notes (code ++ one (plain last)))
+pub runs_table : (texts : List (List ℕ)) (bytes : List ℕ) (code : Code) (last : Op) (e : ℕ) (commands : List Command) → Runs no_exits code 0 e → flow_of last ≡ Terminates → takes last 0 ≤ e → AllAlike (settled (code ++ one (plain last))) commands → ShowsCommands texts bytes commands → length bytes < 2 ^ 64 → HasDepthTable bytes (notes (code ++ one (plain last)))
 runs_table texts bytes code last e commands run stops room alike shows short =
     has_table bytes (notes (code ++ one (plain last))) run.depth_at
     (subst (λ (ws : List ℕ). InstructionsRun ws run.depth_at 0 (instructions bytes)) (sym same) (pieces_instructions code last e run stops room small 0 code (instructions bytes) (omega arith) (λ k s. let z : k ≡ 0 + k = omega arith in subst (IsStart (widths code)) z s) run.pieces work))

@@ -5,7 +5,7 @@ use Rattle.bytecode_buf.specs.declared.opcode.Count.TheVariants as count
 use Rattle.bytecode_buf.specs.declared.opcode.Op.{Op}
 use Rattle.bytecode_buf.specs.declared.waits.Aim.{Aim}
 use Rattle.bytecode_buf.specs.Command.{Operand, Distance, Command}
-use Rattle.bytecode_buf.specs.Machine.{amount, Flow, Further, Away, Either, Ends, flow_of, given_away_by}
+use Rattle.bytecode_buf.specs.Machine.{amount, Flow, FallThrough, Jump, Branch, Terminates, flow_of, given_away_by}
 use Rattle.bytecode_buf.specs.Pieces.{Piece, Whole, Waiting, Trying, Code, command_width, width_by, size, same_aim}
 use Rattle.bytecode_buf.specs.Table.{row_of}
 use Rattle.bytecode_buf.specs.Width.{width_of}
@@ -27,10 +27,10 @@ pub record Leads (Fit : ℕ → Type 0) (taken given before : ℕ) : Type 0 wher
 
 -- the steps that control may take from a depth: to the next instruction, or to the target, where the depth is a fitting one
 abbrev pub Steps : Flow → (taken given gone before : ℕ) → (Next Goes : ℕ → Type 0) → Type 0
-Steps Further taken given gone before Next Goes = Leads Next taken given before
-Steps Away taken given gone before Next Goes = Leads Goes taken gone before
-Steps Either taken given gone before Next Goes = Leads Next taken given before × Leads Goes taken gone before
-Steps Ends taken given gone before Next Goes = taken ≤ before
+Steps FallThrough taken given gone before Next Goes = Leads Next taken given before
+Steps Jump taken given gone before Next Goes = Leads Goes taken gone before
+Steps Branch taken given gone before Next Goes = Leads Next taken given before × Leads Goes taken gone before
+Steps Terminates taken given gone before Next Goes = taken ≤ before
 
 -- what an opcode takes and gives, beside this number as its operand
 abbrev pub takes : Op → ℕ → ℕ
@@ -129,10 +129,10 @@ counted_after (count.Fixed taken) (count.Fixed given) depth = raised_option give
 counted_after _ _ depth = None
 
 abbrev pub flow_after : Flow → Op → ℕ → Option ℕ
-flow_after Further op depth = counted_after (row_of op).pops (row_of op).pushes depth
-flow_after Away op depth = None
-flow_after Either op depth = None
-flow_after Ends op depth = None
+flow_after FallThrough op depth = counted_after (row_of op).pops (row_of op).pushes depth
+flow_after Jump op depth = None
+flow_after Branch op depth = None
+flow_after Terminates op depth = None
 
 -- the depth after an instruction that always goes to the next one, where its counts need no operand
 abbrev pub depth_after : Op → ℕ → Option ℕ

@@ -6,7 +6,7 @@ use Rattle.bytecode_buf.specs.declared.opcode.Count.{Count}
 use Rattle.bytecode_buf.specs.declared.opcode.Count.TheVariants as count
 use Rattle.bytecode_buf.specs.Width.{first_of, is_jump}
 use Rattle.bytecode_buf.specs.Layout.{Numbered}
-use Rattle.bytecode_buf.specs.Machine.{Flow, Further, Away, Either, Ends, State, flow_of, flows, given_away_by, taken}
+use Rattle.bytecode_buf.specs.Machine.{Flow, FallThrough, Jump, Branch, Terminates, State, flow_of, flows, given_away_by, taken}
 use Rattle.code_check.specs.declared.step.Landing.{Landing}
 use Rattle.code_check.specs.declared.step.Step.{Step}
 
@@ -21,10 +21,10 @@ AmountFits (count.More n) operand = operand + n < 2 ^ 64
 
 -- control may go to the next instruction
 abbrev pub goes_further : Flow → Bool
-goes_further Further = true
-goes_further Away = false
-goes_further Either = true
-goes_further Ends = false
+goes_further FallThrough = true
+goes_further Jump = false
+goes_further Branch = true
+goes_further Terminates = false
 
 -- where an instruction that gives so many values may go
 abbrev pub next_landing : Instr → ℕ → Option Landing

@@ -18,7 +18,7 @@ use Rattle.bytecode_buf.specs.declared.opcode.Op.{Op}
 use Rattle.bytecode_buf.specs.declared.opcode.Op.TheVariants as op
 use Rattle.bytecode_buf.specs.declared.waits.Aim.TheVariants as aim
 use Rattle.bytecode_buf.specs.Command.{Command, plain, counted, ShowsCommands}
-use Rattle.bytecode_buf.specs.Machine.{Ends, flow_of, HasDepthTable}
+use Rattle.bytecode_buf.specs.Machine.{Terminates, flow_of, HasDepthTable}
 use Rattle.bytecode_buf.specs.Pieces.{Code, one, settled, notes}
 use Rattle.emit_exprs.specs.Exprs.{Scene, writing}
 use Rattle.emit_stmts.specs.Frames.{Entered, scope_at, has_env, chain_link}
@@ -107,7 +107,7 @@ record Finishes (code : Code) (first : ℕ) : Type 0 where
   depth : ℕ
   is : code ≡ front ++ one (plain last)
   runs : Runs no_exits front first depth
-  stops : flow_of last ≡ Ends
+  stops : flow_of last ≡ Terminates
   room : takes last 0 ≤ depth
 
 finishes_behind : {a b : Code} {d e : ℕ} → Runs no_exits a d e → Finishes b e → Finishes (a ++ b) d

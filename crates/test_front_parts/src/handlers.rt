@@ -1,7 +1,7 @@
 //! Both handlers, called as a parser calls them.
 
-use crate::full::Full;
-use crate::syntax::Syntax;
+use parse_handlers::full::Full;
+use parse_handlers::syntax::Syntax;
 use script_grammar::handler::Handler;
 use script_grammar::node::{NodeFunc, NodeFuncBody, NodeTail};
 use script_grammar::token::FuncForm;

@@ -73,6 +73,7 @@ fn texts_with_equal_digests_are_told_apart(rt: HostRuntime) -> Result<(), Fail> 
         assert!(rt; atoms.len() < 8);
         assert_eq!(rt; atoms.intern(alloc, &TWO)?, 1);
     }
+    assert_eq!(rt; atoms.len(), 2);
     assert_eq!(rt; atoms.text(0).units(), ONE.as_slice());
     assert_eq!(rt; atoms.text(1).units(), TWO.as_slice());
     Ok(())

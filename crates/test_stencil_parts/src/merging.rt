@@ -1,6 +1,5 @@
 //! A script with a function in a function, merged in both orders.
 
-use crate::Merger;
 use bytecode_buf::decode_at;
 use std::alloc::{AllocError, Global};
 use std::test::Fail;
@@ -8,6 +7,7 @@ use stencil_data::{
     BindKind, Binding, ClosedName, Entry, Extent, FuncKind, FunctionStencil, InitialParts,
     LazyRecord, MergedStencil, ScopeData, ScopeKind, Slot, Text,
 };
+use stencil_merge::Merger;
 
 const A: u64 = 0x61;
 

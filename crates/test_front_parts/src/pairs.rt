@@ -1,6 +1,6 @@
 //! Parts over pairs, taken apart.
 
-use crate::split::{Pair, Split};
+use parse_pair_handler::split::{Pair, Split};
 use script_grammar::node::NodeTail;
 use std::test::Fail;
 

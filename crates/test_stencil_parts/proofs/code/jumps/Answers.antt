@@ -3,7 +3,7 @@ use Rattle.bytecode_buf.specs.declared.opcode.Op.TheVariants as op
 use Rattle.bytecode_buf.specs.Layout.{Numbered}
 use Rattle.bytecode_buf.specs.Appends.{AllRoom}
 use Rattle.bytecode_buf.proofs.AppendLemmas.{appends_both, appends_one, appends_room}
-use Rattle.bytecode_buf.proofs.tests.jumps.Goals as goal
+use Rattle.test_stencil_parts.proofs.code.jumps.Goals as goal
 
 abbrev between : Numbered
 between = record { op = op.GetAliasedVar; a = 1; b = 2 }

@@ -1,10 +1,10 @@
 //! Images byte for byte, of stencils that were read and of stencils made by hand.
 
-use crate::write_image;
 use std::alloc::{AllocError, Global};
 use std::test::Fail;
 use stencil_data::{Entry, MergedStencil, Text};
 use stencil_xdr_read::read_image;
+use stencil_xdr_write::write_image;
 
 // The script of the empty file.
 const EMPTY: [u8; 62] = [

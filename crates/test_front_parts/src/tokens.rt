@@ -1,6 +1,6 @@
-use crate::scan;
 use parser_atoms::Atoms;
 use script_grammar::token::{Kind, Token, mark, word};
+use script_scanner::scan;
 use std::test::Fail;
 use unit_text::decode;
 

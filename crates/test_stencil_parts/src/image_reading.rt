@@ -1,8 +1,8 @@
 //! Images from outside, and bytes that are none.
 
-use crate::{ImageFault, read_image};
 use std::process::Abort;
 use std::test::Fail;
+use stencil_xdr_read::{ImageFault, read_image};
 
 // The script of the empty file.
 const EMPTY: [u8; 62] = [

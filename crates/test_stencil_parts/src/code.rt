@@ -1,5 +1,5 @@
 // Cases from outside: bytes of whole codes, and what is read back from them.
-use crate::{Aim, CodeBuf, Op, decode_at, jump_to, renumber, target, turn};
+use bytecode_buf::{Aim, CodeBuf, Op, decode_at, jump_to, renumber, target, turn};
 use std::test::Fail;
 
 // The code of the empty script.

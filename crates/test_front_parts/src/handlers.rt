@@ -1,7 +1,7 @@
 //! Both handlers, called as a parser calls them.
 
-use crate::full::Full;
-use crate::syntax::Syntax;
+use parse_handlers::full::Full;
+use parse_handlers::syntax::Syntax;
 use script_grammar::handler::Handler;
 use script_grammar::node::{NodeFunc, NodeFuncBody, NodeTail};
 use script_grammar::token::FuncForm;
@@ -52,6 +52,7 @@ fn syntax_keeps_the_functions(rt: HostRuntime) -> Result<(), Fail> {
     assert_eq!(rt; node.found[0].extent.start, 10);
     assert_eq!(rt; node.found[0].kind, FuncKind::Expression);
     assert_eq!(rt; node.found[0].name, Some(7));
+    assert!(rt; node.found[0].braced && node.found[0].simple);
     assert_eq!(rt; node.found[0].inner.len(), 0);
     Ok(())
 }

@@ -1,6 +1,6 @@
 // Codes by hand.
-use crate::{Verdict, verify, verify_code};
 use bytecode_buf::{CodeBuf, Op};
+use code_check::{Verdict, verify, verify_code};
 use std::alloc::{AllocError, Global};
 use std::test::Fail;
 use stencil_data::{Entry, Extent, FuncKind, FunctionStencil, MergedStencil, TryNote};

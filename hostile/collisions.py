@@ -1,6 +1,6 @@
-"""Names whose hashes begin at one place of the table of texts.
+"""Names whose hashes begin at one place of a table.
 
-The table is that of the kit's hash maps: the length of a text and then each of its 16-bit units are folded, one after another, by a
+The table is that of the kit's hash maps, as the index of a scope's names has it: the length of a text and then each of its 16-bit units are folded, one after another, by a
 multiplication to 128 bits whose halves are joined; the two halves of the hash are joined once more, and a text's first place is given
 by the low bits. There is no key, so whoever writes a text can choose its names."""
 import itertools

@@ -7,7 +7,7 @@
 //!
 //! The main contract: what `put` and `jump` append is the layout of one instruction, and `decode_at`
 //! answers the definition `decoded` of the bytes at a place, which reads laid out instructions back
-//! (`instructions_layout` of proofs/Layout.antt). `specs/Verdicts.antt` says which code is sound; code_check finds out.
+//! (`layout_is_read_back` of proofs/ReadBack.antt). `specs/Verdicts.antt` says which code is sound; code_check finds out.
 #![tactic(auto)]
 
 mod buffer;

@@ -1,9 +1,9 @@
 //! The verifier of compiled code. It shows that code never takes from an empty stack and never leaves its
 //! instructions, in any number of steps.
 //!
-//! It stands on `bytecode_buf`, whose `specs/Machine.antt` says how code runs as far as offsets and stack depths go, on
-//! `bytecode_buf`, whose `specs/Verdicts.antt` says which code is sound, and on `stencil_data`. Nothing of it knows how
-//! code is made, so it serves code that was compiled here and code that was read from an image.
+//! It stands on `bytecode_buf`, whose `specs/Machine.antt` says how code runs as far as offsets and stack depths go and
+//! whose `specs/Verdicts.antt` says which code is sound, and on `stencil_data`. Nothing of it knows how code is made, so
+//! it serves code that was compiled here and code that was read from an image.
 //!
 //! The main contract: [`verify_code`] answers `Sound` exactly where a depth table exists, with the greatest depth of the
 //! least table, and `Unsound` exactly where none exists. [`verify`] answers the same of a part of a merged stencil.

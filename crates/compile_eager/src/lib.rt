@@ -4,7 +4,7 @@
 //! emit_stmts, emit_functions). `compile_script` compiles a script and then, one after another in the order of the source,
 //! all functions in it, each under the chain of scopes that the one around it hands down; `merged` makes of them the stencil
 //! in which those are shown that are wanted, and names functions by their numbers. What each step needs to know of a script
-//! that was read, and of its functions, are laws of emit_limit_laws, scope_closed_laws and emit_limit_laws.
+//! that was read, and of its functions, are laws of emit_limit_laws and scope_closed_laws.
 //!
 //! The main contract is that of `merged` over `compile_script`: the stencil stands for what is shown of the script's tree, by
 //! the definitions of compile_specs (`specs/Eager.antt`, `specs/Shown.antt`), of every script that was read without an error.

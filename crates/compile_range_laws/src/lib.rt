@@ -1,7 +1,7 @@
 //! The stencil of a script that was compiled is in range: definitions and proofs alone.
 //!
 //! It stands on compile_eager, which says when a stencil stands for what is shown of a script, and on the laws of scripts that
-//! were read (emit_limit_laws, scope_closed_laws, emit_limit_laws). Its laws:
+//! were read (emit_limit_laws, scope_closed_laws). Its laws:
 //! - The code of a part makes the functions directly in it, and no others; its jumps stay within it; and it has a try note for
 //!   each try statement (`proofs/FunctionCodes.antt`), of which there are no more than tokens (`proofs/TryTokens.antt`).
 //! - The parent of each scope is below its own number, and scopes have no more bindings than there are names

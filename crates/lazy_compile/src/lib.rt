@@ -1,5 +1,5 @@
-//! One function of a script, compiled on its own under the chain of scopes around it, as lazy compiling does where the
-//! function's code is first wanted: lazy_compile.
+//! One function of a script, compiled on its own under the chain of scopes around it, where its code is first wanted
+//! (delazification).
 //!
 //! It stands on parse_function, which reads a function of a script again from its extent alone, on compile_function, which
 //! compiles a function, and on track_atoms. What is kept of a function that was not compiled is its record; what it needs to

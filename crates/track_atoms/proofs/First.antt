@@ -1,5 +1,5 @@
 -- The known words, interned in order from no texts on, take the places 0 to 6.
-use Rattle.std.proofs.Common.{◌≡◌, ℕ, zero, suc, Bool, true, false, List, [], ◌∷◌, ◌++◌, length, Some, refl, sym, ◌∙◌, ap, subst, codes, inl, inr, arith}
+use Rattle.std.proofs.Common.{◌≡◌, ℕ, true, false, List, [], ◌∷◌, ◌++◌, length, refl, sym, ◌∙◌, ap, codes, inl, inr, arith}
 use Rattle.parser_atoms.specs.Places.{Interns}
 use Rattle.scope_analysis.specs.DeclaredNames.{has_text}
 use Rattle.parse_track.specs.declared.region.Known.{Known}
@@ -43,6 +43,20 @@ five = codes "eval" ∷ codes "arguments" ∷ codes ".this" ∷ codes "__proto__
 abbrev six : List (List ℕ)
 six = codes "eval" ∷ codes "arguments" ∷ codes ".this" ∷ codes "__proto__" ∷ codes "get" ∷ codes "set" ∷ []
 
+abbrev made : (a b c d e f g : ℕ) → Known
+made a b c d e f g = record { eval = a; arguments = b; this = c; proto = d; get = e; set = f; strict = g }
+
+-- what has these seven numbers
+same : (known : Known) → known.eval ≡ 0 → known.arguments ≡ 1 → known.this ≡ 2 → known.proto ≡ 3 → known.get ≡ 4 → known.set ≡ 5 → known.strict ≡ 6 → known ≡ known_atoms
+same known a b c d e f g =
+    ap (λ (n : ℕ). made n known.arguments known.this known.proto known.get known.set known.strict) a
+    ∙ ap (λ (n : ℕ). made 0 n known.this known.proto known.get known.set known.strict) b
+    ∙ ap (λ (n : ℕ). made 0 1 n known.proto known.get known.set known.strict) c
+    ∙ ap (λ (n : ℕ). made 0 1 2 n known.get known.set known.strict) d
+    ∙ ap (λ (n : ℕ). made 0 1 2 3 n known.set known.strict) e
+    ∙ ap (λ (n : ℕ). made 0 1 2 3 4 n known.strict) f
+    ∙ ap (λ (n : ℕ). made 0 1 2 3 4 5 n) g
+
 pub first_known : (t0 t1 t2 t3 t4 t5 t6 t7 : List (List ℕ)) (known : Known) → length t0 ≡ 0
     → Interns t0 t1 (codes "eval") known.eval → Interns t1 t2 (codes "arguments") known.arguments → Interns t2 t3 (codes ".this") known.this
     → Interns t3 t4 (codes "__proto__") known.proto → Interns t4 t5 (codes "get") known.get → Interns t5 t6 (codes "set") known.set
@@ -56,6 +70,3 @@ first_known t0 t1 t2 t3 t4 t5 t6 t7 known empty eval arguments this proto get se
     let f : PutLast five (codes "set") t6 known.set = put_last t5 t6 five (codes "set") known.set e.list refl set in
     let g : PutLast six (codes "use strict") t7 known.strict = put_last t6 t7 six (codes "use strict") known.strict f.list refl strict in
     same known a.place b.place c.place d.place e.place f.place g.place
-  where
-    same : (known : Known) → known.eval ≡ 0 → known.arguments ≡ 1 → known.this ≡ 2 → known.proto ≡ 3 → known.get ≡ 4 → known.set ≡ 5 → known.strict ≡ 6 → known ≡ known_atoms
-    same known a b c d e f g = cc

@@ -13,7 +13,7 @@ text_same : (x : List ℕ) → bytes_eq x x ≡ true
 text_same [] = refl
 text_same (c ∷ cs) = ap (λ (b : Bool). b && bytes_eq cs cs) (eq-eqb c c refl) ∙ text_same cs
 
-has_at : (texts : List (List ℕ)) (k : ℕ) (text : List ℕ) → slice_get texts k ≡ Some text → has_text texts text ≡ true
+pub has_at : (texts : List (List ℕ)) (k : ℕ) (text : List ℕ) → slice_get texts k ≡ Some text → has_text texts text ≡ true
 has_at [] k text h = absurd (cc)
 has_at (t ∷ ts) zero text h = ap (λ (x : List ℕ). bytes_eq x text || has_text ts text) (let e : t ≡ text = cc in e) ∙ ap (λ (b : Bool). b || has_text ts text) (text_same text)
 has_at (t ∷ ts) (suc k) text h = ap (λ (b : Bool). bytes_eq t text || b) (has_at ts k text h) ∙ or-true (bytes_eq t text)

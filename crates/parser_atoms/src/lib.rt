@@ -4,18 +4,21 @@
 //! not texts; the merger of stencils interns the texts of all its parts. [`Atoms::intern`] answers the place of a
 //! text, which it appends where it was not there.
 //!
-//! A text is looked up by its digest, a number of 64 bits, in a tree ordered by digests, and where another text has
-//! the same digest, in a tree ordered by the texts themselves. Both trees are balanced, so interning n texts takes
-//! at most n log n comparisons of numbers and of texts, whatever the texts are: no text can be chosen that makes it
-//! slower, though the digest is public. A text is stored once, unless its digest is another one's too.
+//! The place that was noted last for the text's digest, a number of 64 bits, is a guess, and mostly right. Where it
+//! is not, the text is looked up in a tree ordered by digests, and where another text has the same digest, in a tree
+//! ordered by the texts themselves. Both trees are balanced, so interning n texts takes at most n log n comparisons of
+//! numbers and of texts, whatever the texts are: no text can be chosen that makes it slower, though the digest is
+//! public. A text is stored once, unless its digest is another one's too.
 #![tactic(auto)]
 
+mod guesses;
 mod trees;
 
 ghost use Rattle.std.specs.Prelude.{◌≡◌, ◌+◌, ◌-◌, ◌^◌, ◌<◌, ◌==◌, [], ◌∷◌, ◌++◌, IfOk, OnOk, IfSome, IfNone, OnErr, length, slice_get, Some};
 ghost use Rattle.parser_atoms.specs.Digest.{digest_of};
 ghost use Rattle.parser_atoms.specs.Places.{AreWithoutEquals, Interns, StandsIn};
 
+use guesses::Guesses;
 use std::alloc::{AllocError, Global};
 use std::marker::Model;
 use stencil_data::Text;
@@ -28,6 +31,7 @@ use trees::Trees;
 pub struct Atoms {
     texts: Vec<Text>,
     trees: Trees,
+    guesses: Guesses,
 }
 
 impl Model for Atoms {
@@ -65,6 +69,7 @@ impl Atoms {
         Atoms {
             texts: Vec::new(alloc),
             trees: Trees::new(alloc),
+            guesses: Guesses::new(alloc),
         }
     }
 
@@ -76,9 +81,28 @@ impl Atoms {
         ensures apart { AreWithoutEquals self.new }
     {
         let digest = digest(units);
-        match self.place(units, digest) {
-            Some(place) => Ok(place),
-            None => self.append(alloc, units, digest),
+        if let Some(place) = self.guess(units, digest) {
+            return Ok(place);
+        }
+        let place = match self.place(units, digest) {
+            Some(place) => place,
+            None => self.append(alloc, units, digest)?,
+        };
+        self.guesses.note(digest, place);
+        Ok(place)
+    }
+
+    // The place of a text, where it is the one that is guessed.
+    fn guess(&self, units: &[u16], digest: u64) -> Option<u32>
+        ensures found { IfSome result (λ place. slice_get self.now place ≡ Some units.now) }
+        ensures apart { AreWithoutEquals self.now }
+    {
+        let place = self.guesses.guess(digest)?;
+        let text = self.texts.get(place as usize)?;
+        if text.units() == units {
+            Some(place)
+        } else {
+            None
         }
     }
 
@@ -101,6 +125,7 @@ impl Atoms {
         ensures ok { OnOk result (self.new ≡ self.old ++ units.now ∷ []) }
         ensures err { OnErr result (self.new ≡ self.old) }
     {
+        self.guesses.make_room(self.texts.len())?;
         let atom = self.texts.len() as u32;
         let text = Text::of(alloc, units)?;
         self.texts.push(text)?;
@@ -140,7 +165,11 @@ impl Atoms {
         ensures list { result.items ≡ self }
         ensures apart { AreWithoutEquals self }
     {
-        let Atoms { texts, trees: _ } = self;
+        let Atoms {
+            texts,
+            trees: _,
+            guesses: _,
+        } = self;
         texts
     }
 }

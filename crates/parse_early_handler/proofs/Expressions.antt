@@ -1,5 +1,5 @@
 -- Parts of expressions.
-use Rattle.std.proofs.Common.{◌≡◌, ◌∙◌, ℕ, zero, suc, ◌-◌, Bool, true, false, Option, Some, None, option_map, List, [], ◌∷◌, ◌++◌, map, length, slice_get, refl, sym, ap, arith}
+use Rattle.std.proofs.Common.{◌≡◌, ◌∙◌, ℕ, zero, suc, ◌-◌, Option, Some, None, option_map, List, [], ◌∷◌, ◌++◌, map, length, slice_get, refl, sym, ap, arith}
 use Rattle.script_grammar.specs.declared.node.NodeArgs.{NodeArgs}
 use Rattle.script_grammar.specs.declared.node.NodeOperand.{NodeOperand}
 use Rattle.script_grammar.specs.declared.node.NodeTemplatePart.{NodeTemplatePart}

@@ -10,16 +10,16 @@ use Rattle.script_grammar.specs.TreeLists as part
 use Rattle.script_grammar.specs.TreeLists.{maybe_expr_of, params_of}
 use Rattle.script_grammar.specs.Shows.{ShowAll, ShowMaybe, FuncBodyOf, ShowParam, ShowFunc}
 use Rattle.parse_track.specs.declared.region.Early.{Early}
-use Rattle.parse_track.specs.EarlyErrors.{error_of, sooner}
-use Rattle.parse_track.specs.Notes.{body_errors, first_note, has_rest, limit, notes_body, notes_function, notes_maybe, notes_params, notes_stmts, params_error, strict_errors}
+use Rattle.parse_track.specs.EarlyErrors.{error_of}
+use Rattle.parse_track.specs.Notes.{body_errors, has_rest, limit, notes_body, notes_function, notes_maybe, notes_params, notes_stmts, params_error, strict_errors}
 use Rattle.parse_track.specs.Tells.{has_initializer}
 use Rattle.parse_early_handler.specs.declared.nodes.ExprErrors.{ExprErrors}
 use Rattle.parse_early_handler.specs.declared.nodes.BodyErrors.{BodyErrors}
-use Rattle.parse_early_handler.specs.Firsts.{are_more, body_first, expr_first, first_of, function_first, is_some_or, many_params, maybe_first, param_first}
+use Rattle.parse_early_handler.specs.Firsts.{are_more, body_first, first_of, function_first, is_some_or, many_params, param_first}
 use Rattle.parse_early_handler.specs.HasErrors.{HasEmptyBodies, HasErrorsBody, HasErrorsExpr}
 use Rattle.parse_early_handler.specs.Known.{KnowsWords, known_atoms}
 use Rattle.parse_early_handler.proofs.Expressions.{expr-first, inside, maybe_expr-first}
-use Rattle.parse_early_handler.proofs.Parting.{IsFirst, none-first, then-first, same-first, first-as, all-first}
+use Rattle.parse_early_handler.proofs.Parting.{IsFirst, none-first, then-first, first-as, all-first}
 
 -- parameters that are more than names
 abbrev more_params : model.Params → Bool

@@ -6,5 +6,6 @@ pub mod Expressions
 pub mod Properties
 pub mod Statements
 pub mod Functions
+pub mod Bodies
 pub mod Made
 pub mod KnownWords

@@ -1,12 +1,10 @@
 -- The nodes that methods make have what the law says.
-use Rattle.std.proofs.Common.{◌≡◌, ◌∙◌, ℕ, Option, None, refl, ap}
+use Rattle.std.proofs.Common.{◌≡◌, ◌∙◌, ℕ, Option, None, ap}
 use Rattle.script_grammar.specs.Interpretation.{Interpretation}
 use Rattle.script_grammar.specs.Tree as model
 use Rattle.parse_track.specs.declared.region.Early.{Early}
 use Rattle.parse_track.specs.Notes.{notes_expr, notes_prop, notes_stmt, proto_of, start_of}
-use Rattle.parse_early_handler.specs.declared.shape.Shape.{Shape}
 use Rattle.parse_early_handler.specs.declared.shape.Shape.TheVariants as shape
-use Rattle.parse_early_handler.specs.declared.directive.Directive.{Directive}
 use Rattle.parse_early_handler.specs.declared.directive.Directive.TheVariants as kind
 use Rattle.parse_early_handler.specs.declared.nodes.ExprErrors.{ExprErrors}
 use Rattle.parse_early_handler.specs.declared.nodes.PropErrors.{PropErrors}

@@ -1,12 +1,11 @@
 -- Properties of object literals.
-use Rattle.std.proofs.Common.{◌≡◌, ◌∙◌, ℕ, Bool, true, false, ◌||◌, Option, Some, None, List, [], ◌∷◌, ◌++◌, map, refl, sym, ap}
+use Rattle.std.proofs.Common.{◌≡◌, ℕ, Bool, ◌||◌, Option, List, [], ◌∷◌, map, refl, sym, ap}
 use Rattle.script_grammar.specs.declared.node.NodeKey.{NodeKey}
 use Rattle.script_grammar.specs.declared.node.NodeKey.TheVariants as keys
 use Rattle.script_grammar.specs.Interpretation.{Interpretation}
 use Rattle.script_grammar.specs.Tree as model
 use Rattle.script_grammar.specs.TreeLists.{props_of}
 use Rattle.script_grammar.specs.Shows.{ShowAll, ShowKey}
-use Rattle.parse_track.specs.declared.region.Early.{Early}
 use Rattle.parse_track.specs.EarlyErrors.{sooner}
 use Rattle.parse_track.specs.Notes as defined
 use Rattle.parse_track.specs.Notes.{first_note, is_proto, later_protos, notes_key, notes_prop, notes_props, proto_error, proto_of}

@@ -15,7 +15,7 @@ use Rattle.script_grammar.specs.TreeLists.{maybe_expr_of, binds_of, clauses_of, 
 use Rattle.script_grammar.specs.Shows.{ShowAll, ShowMaybe, MaybeOf, ShowBind, ShowInit, ShowEach, ShowClause}
 use Rattle.parse_track.specs.declared.region.Early.{Early}
 use Rattle.parse_track.specs.EarlyErrors.{error_of, smaller, sooner}
-use Rattle.parse_track.specs.Notes.{const_errors, ends_in_property, error_if, first_note, notes_binds, notes_clauses, notes_each, notes_expr, notes_init, notes_maybe, notes_maybe_stmt, notes_stmt, notes_stmts, strict_errors}
+use Rattle.parse_track.specs.Notes.{const_errors, ends_in_property, error_if, first_note, notes_binds, notes_clauses, notes_each, notes_init, notes_maybe, notes_maybe_stmt, notes_stmt, notes_stmts, strict_errors}
 use Rattle.parse_early_handler.specs.declared.shape.Shape.TheVariants as shape
 use Rattle.parse_early_handler.specs.declared.directive.Directive.{Directive}
 use Rattle.parse_early_handler.specs.declared.nodes.ExprErrors.{ExprErrors}

@@ -1,5 +1,5 @@
 -- What rules ask of an expression is read off its form.
-use Rattle.std.proofs.Common.{◌≡◌, ◌∙◌, ◌-◌, ℕ, Bool, true, false, ◌&&◌, cond, not, nat_eq, Option, List, [], ◌∷◌, ◌++◌, refl, sym, ap}
+use Rattle.std.proofs.Common.{◌≡◌, ◌∙◌, ℕ, Bool, true, false, ◌&&◌, cond, not, nat_eq, Option, ◌++◌, refl, sym, ap}
 use Rattle.script_grammar.specs.declared.token.word.TheConstants as word
 use Rattle.script_grammar.specs.Tree as tree
 use Rattle.script_grammar.specs.Tree.{Expr}

@@ -1,5 +1,5 @@
 -- A walk over a list, item by item: of what was found and of what the rest has, the first is that of the whole.
-use Rattle.std.proofs.Common.{◌≡◌, ℕ, ◌+◌, ◌<◌, Bool, true, false, cond, ◌||◌, Option, Some, None, List, [], ◌∷◌, map, length, drop, get_or, refl, sym, ap, ◌∙◌, add-one}
+use Rattle.std.proofs.Common.{◌≡◌, ℕ, ◌+◌, ◌<◌, Bool, true, false, cond, ◌||◌, Option, None, List, ◌∷◌, map, length, drop, get_or, refl, sym, ap, ◌∙◌, add-one}
 use Rattle.std.proofs.Math.Seq.{drop-cons}
 use Rattle.script_grammar.specs.declared.node.NodeParam.{NodeParam}
 use Rattle.parse_track.specs.declared.region.Early.{Early}

@@ -11,10 +11,11 @@
 //! bodies are empty and the known words have the atoms `known_atoms`, a node's first early error is that of its tree. So a
 //! node speaks of what stands outside deferred bodies, which have nodes of their own. Whether `use strict` may stand in a
 //! deferred body (rule 14) is a question of the parameters of its function: the body's node keeps where it stands.
+//! `early::first_of_bodies` puts the nodes of a script and of its deferred bodies together.
 #![tactic(auto)]
 
 mod directive;
-mod early;
+pub mod early;
 pub mod handler;
 mod keys;
 mod limits;
@@ -27,3 +28,6 @@ pub use directive::Directive;
 pub use handler::EarlyErrorHandler;
 pub use nodes::{BodyErrors, ExprErrors, PropErrors, StmtErrors};
 pub use shape::Shape;
+
+#[cfg(test)]
+mod tests;

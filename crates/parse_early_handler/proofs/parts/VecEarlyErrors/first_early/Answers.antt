@@ -1,4 +1,4 @@
-use Rattle.std.proofs.Common.{List, map, drop_of_length-le, sym, ap, ◌∙◌}
+use Rattle.std.proofs.Common.{map, drop_of_length-le, sym, ap, ◌∙◌}
 use Rattle.parse_track.specs.EarlyErrors.{sooner}
 use Rattle.parse_early_handler.specs.Firsts.{first_of}
 use Rattle.parse_early_handler.proofs.Sooner.{sooner_none}

@@ -1,0 +1,11 @@
+pub mod Sooner
+pub mod Turns
+pub mod Parting
+pub mod Targets
+pub mod Expressions
+pub mod Properties
+pub mod Statements
+pub mod Functions
+pub mod Bodies
+pub mod Made
+pub mod KnownWords

@@ -1,0 +1,9 @@
+use Rattle.std.proofs.Common.{refl}
+use Rattle.script_grammar.specs.Tree as model
+use Rattle.parse_early_handler.proofs.Functions.{function-first}
+use Rattle.parse_early_handler.proofs.Made.{other-made}
+use Rattle.parse_early_handler.proofs.Parting.{same-first}
+use Rattle.parse_early_handler.proofs.handler.EarlyErrorHandlerHandler.make_func.Goals as goal
+
+pub returns : goal.returns
+returns c = λ i f h. other-made i c.other.result (model.Func c.args.at f) _ _ c.other.ensures refl (λ e k. (same-first c.first_early.ensures (function-first i e k c.args.func f h), refl))

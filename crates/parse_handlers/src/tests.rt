@@ -52,6 +52,7 @@ fn syntax_keeps_the_functions(rt: HostRuntime) -> Result<(), Fail> {
     assert_eq!(rt; node.found[0].extent.start, 10);
     assert_eq!(rt; node.found[0].kind, FuncKind::Expression);
     assert_eq!(rt; node.found[0].name, Some(7));
+    assert!(rt; node.found[0].braced && node.found[0].simple);
     assert_eq!(rt; node.found[0].inner.len(), 0);
     Ok(())
 }

@@ -7,59 +7,53 @@ use Rattle.early_apart_laws.proofs.Sooner.{sooner_none, sooner_assoc, sooner_com
 
 -- The first of the early errors of a part is the first of `kept`, those that it has with its bodies emptied, of those of its bodies, and of
 -- `late`. Those of the bodies are what leads from `behind` to `ahead`, the first of bodies without and with these.
-pub Apart : (notes kept late : List Early) (ahead behind : Option Early) → Type 0
-Apart notes kept late ahead behind = sooner (first_note notes) behind ≡ sooner (first_note kept) (sooner ahead (first_note late))
+pub record Apart (notes kept late : List Early) (ahead behind : Option Early) : Type 0 where
+  pub first : sooner (first_note notes) behind ≡ sooner (first_note kept) (sooner ahead (first_note late))
 
 pub nothing : {x : Option Early} → Apart [] [] [] x x
-unfolding Apart
-nothing {x} = sym (sooner_none x)
+nothing {x} = record { first = sym (sooner_none x) }
 
 -- errors of a node's own, which it keeps
 pub own : {x : Option Early} (notes kept : List Early) → kept ≡ notes → Apart notes kept [] x x
-unfolding Apart
-own {x} notes kept same = ap (λ (es : List Early). sooner (first_note es) x) (sym same) ∙ ap (sooner (first_note kept)) (sym (sooner_none x))
+own {x} notes kept same = record { first = ap (λ (es : List Early). sooner (first_note es) x) (sym same) ∙ ap (sooner (first_note kept)) (sym (sooner_none x)) }
 
 -- errors that come late
 pub moved : {x : Option Early} (notes : List Early) → Apart notes [] notes x x
-unfolding Apart
-moved {x} notes = sooner_comm (first_note notes) x
+moved {x} notes = record { first = sooner_comm (first_note notes) x }
 
 -- one part after another
 pub both : {notes kept late notes2 kept2 late2 : List Early} {ahead mid behind : Option Early} → Apart notes kept late ahead mid → Apart notes2 kept2 late2 mid behind
     → Apart (notes ++ notes2) (kept ++ kept2) (late ++ late2) ahead behind
-unfolding Apart
-both {notes} {kept} {late} {notes2} {kept2} {late2} {ahead} {mid} {behind} h k =
-    ap (λ (o : Option Early). sooner o behind) (first_note-append notes notes2)
-    ∙ (sym (sooner_assoc (first_note notes) (first_note notes2) behind)
-    ∙ (ap (sooner (first_note notes)) k
-    ∙ (sooner_assoc (first_note notes) (first_note kept2) (sooner mid (first_note late2))
-    ∙ (ap (λ (o : Option Early). sooner o (sooner mid (first_note late2))) (sooner_comm (first_note notes) (first_note kept2))
-    ∙ (sym (sooner_assoc (first_note kept2) (first_note notes) (sooner mid (first_note late2)))
-    ∙ (ap (sooner (first_note kept2)) (sooner_assoc (first_note notes) mid (first_note late2) ∙ ap (λ (o : Option Early). sooner o (first_note late2)) h)
-    ∙ (ap (sooner (first_note kept2)) (sym (sooner_assoc (first_note kept) (sooner ahead (first_note late)) (first_note late2)))
-    ∙ (sooner_assoc (first_note kept2) (first_note kept) (sooner (sooner ahead (first_note late)) (first_note late2))
-    ∙ (ap (λ (o : Option Early). sooner o (sooner (sooner ahead (first_note late)) (first_note late2))) (sooner_comm (first_note kept2) (first_note kept) ∙ sym (first_note-append kept kept2))
-    ∙ ap (sooner (first_note (kept ++ kept2))) (sym (sooner_assoc ahead (first_note late) (first_note late2)) ∙ ap (sooner ahead) (sym (first_note-append late late2))))))))))))
+both {notes} {kept} {late} {notes2} {kept2} {late2} {ahead} {mid} {behind} h k = record {
+  first = ap (λ (o : Option Early). sooner o behind) (first_note-append notes notes2)
+      ∙ (sym (sooner_assoc (first_note notes) (first_note notes2) behind)
+      ∙ (ap (sooner (first_note notes)) k.first
+      ∙ (sooner_assoc (first_note notes) (first_note kept2) (sooner mid (first_note late2))
+      ∙ (ap (λ (o : Option Early). sooner o (sooner mid (first_note late2))) (sooner_comm (first_note notes) (first_note kept2))
+      ∙ (sym (sooner_assoc (first_note kept2) (first_note notes) (sooner mid (first_note late2)))
+      ∙ (ap (sooner (first_note kept2)) (sooner_assoc (first_note notes) mid (first_note late2) ∙ ap (λ (o : Option Early). sooner o (first_note late2)) h.first)
+      ∙ (ap (sooner (first_note kept2)) (sym (sooner_assoc (first_note kept) (sooner ahead (first_note late)) (first_note late2)))
+      ∙ (sooner_assoc (first_note kept2) (first_note kept) (sooner (sooner ahead (first_note late)) (first_note late2))
+      ∙ (ap (λ (o : Option Early). sooner o (sooner (sooner ahead (first_note late)) (first_note late2))) (sooner_comm (first_note kept2) (first_note kept) ∙ sym (first_note-append kept kept2))
+      ∙ ap (sooner (first_note (kept ++ kept2))) (sym (sooner_assoc ahead (first_note late) (first_note late2)) ∙ ap (sooner ahead) (sym (first_note-append late late2))))))))))));
+}
 
 -- the statements of a body in braces, whose errors with its own bodies emptied are `kept`
 pub braced : {notes late : List Early} {ahead behind : Option Early} (kept : List Early) → Apart notes kept late ahead behind → Apart notes [] late (sooner (first_note kept) ahead) behind
-unfolding Apart
-braced {notes} {late} {ahead} {behind} kept h = h ∙ sooner_assoc (first_note kept) ahead (first_note late)
+braced {notes} {late} {ahead} {behind} kept h = record { first = h.first ∙ sooner_assoc (first_note kept) ahead (first_note late) }
 
 -- the same late errors in another order
 pub late_swapped : {notes kept : List Early} {ahead behind : Option Early} (xs ys zs : List Early) → Apart notes kept (xs ++ (ys ++ zs)) ahead behind → Apart notes kept (ys ++ (xs ++ zs)) ahead behind
-unfolding Apart
-late_swapped {notes} {kept} {ahead} {behind} xs ys zs h = h ∙ ap (λ (o : Option Early). sooner (first_note kept) (sooner ahead o)) (swapped xs ys zs)
+late_swapped {notes} {kept} {ahead} {behind} xs ys zs h = record { first = h.first ∙ ap (λ (o : Option Early). sooner (first_note kept) (sooner ahead o)) (swapped xs ys zs) }
   where
-    one : (xs1 ys1 zs1 : List Early) → first_note (xs1 ++ (ys1 ++ zs1)) ≡ sooner (sooner (first_note xs1) (first_note ys1)) (first_note zs1)
-    one xs1 ys1 zs1 = first_note-append xs1 (ys1 ++ zs1) ∙ (ap (sooner (first_note xs1)) (first_note-append ys1 zs1) ∙ sooner_assoc (first_note xs1) (first_note ys1) (first_note zs1))
+    one : (ps qs rs : List Early) → first_note (ps ++ (qs ++ rs)) ≡ sooner (sooner (first_note ps) (first_note qs)) (first_note rs)
+    one ps qs rs = first_note-append ps (qs ++ rs) ∙ (ap (sooner (first_note ps)) (first_note-append qs rs) ∙ sooner_assoc (first_note ps) (first_note qs) (first_note rs))
 
-    swapped : (xs1 ys1 zs1 : List Early) → first_note (xs1 ++ (ys1 ++ zs1)) ≡ first_note (ys1 ++ (xs1 ++ zs1))
-    swapped xs1 ys1 zs1 = one xs1 ys1 zs1 ∙ (ap (λ (o : Option Early). sooner o (first_note zs1)) (sooner_comm (first_note xs1) (first_note ys1)) ∙ sym (one ys1 xs1 zs1))
+    swapped : (ps qs rs : List Early) → first_note (ps ++ (qs ++ rs)) ≡ first_note (qs ++ (ps ++ rs))
+    swapped ps qs rs = one ps qs rs ∙ (ap (λ (o : Option Early). sooner o (first_note rs)) (sooner_comm (first_note ps) (first_note qs)) ∙ sym (one qs ps rs))
 
 -- what a whole part says
 pub of_whole : {notes kept late : List Early} (bodies : List Early) → Apart notes kept late (first_note bodies) None → first_note notes ≡ first_note (kept ++ (bodies ++ late))
-unfolding Apart
 of_whole {notes} {kept} {late} bodies h =
-    sym (sooner_none (first_note notes)) ∙ (h
+    sym (sooner_none (first_note notes)) ∙ (h.first
     ∙ (ap (sooner (first_note kept)) (sym (first_note-append bodies late)) ∙ sym (first_note-append kept (bodies ++ late))))

@@ -67,8 +67,11 @@ sooner_assoc (Some x) (Some y) (Some z) =
     (before_not x.offset y.offset z.offset x.rule y.rule z.rule)
     ∙ sym (inner z (is_sooner y x) x y))
 
+abbrev early : (offset rule : ℕ) → Early
+early offset rule = record { offset = offset; rule = rule }
+
 one_early : (x y : Early) → x.offset ≡ y.offset → x.rule ≡ y.rule → Some x ≡ Some y
-one_early x y e h = cc
+one_early x y e h = ap (λ (n : ℕ). Some (early n x.rule)) e ∙ ap (λ (n : ℕ). Some (early y.offset n)) h
 
 pub sooner_comm : (x y : Option Early) → sooner x y ≡ sooner y x
 sooner_comm None y = sym (sooner_none y)

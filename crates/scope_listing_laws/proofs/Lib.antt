@@ -1,0 +1,3 @@
+mod Joining
+mod Parts
+pub mod Laws

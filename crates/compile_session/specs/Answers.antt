@@ -7,6 +7,8 @@ use Rattle.script_scanner.specs.Lexemes.{lexemes}
 use Rattle.session_outside.specs.Loops.{IsWholeBehind}
 use Rattle.parse_bodies.specs.declared.whole.Script.{Script}
 use Rattle.parse_bodies.specs.Whole.{IsText}
+use Rattle.parse_script.specs.declared.file_tokens.FileTokens.{FileTokens}
+use Rattle.parse_script.specs.Tokens.{tokens_in}
 use Rattle.early_errors.specs.Kept.{AreKept}
 use Rattle.session_words.specs.declared.options.Command.{Command}
 use Rattle.session_words.specs.Asked.{Wanted, Job}
@@ -19,10 +21,8 @@ use Rattle.compile_session.specs.declared.answer.FileAnswer.{FileAnswer}
 use Rattle.compile_session.specs.declared.source.SourceScript.{SourceScript}
 use Rattle.compile_session.specs.declared.source.SourceText.{SourceText}
 use Rattle.compile_session.specs.declared.source.SourceText.TheVariants as source
-use Rattle.compile_session.specs.declared.file_tokens.FileTokens.{FileTokens}
 use Rattle.compile_session.specs.declared.refusal.Refusal.{Refusal}
 use Rattle.compile_session.specs.declared.refusal.Refusal.TheVariants as refusal
-use Rattle.compile_session.specs.Tokens.{tokens_in}
 
 -- the refusal that the code's stands for
 abbrev pub refusal_of : Refusal → line.Refusal

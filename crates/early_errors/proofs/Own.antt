@@ -9,15 +9,11 @@ use Rattle.script_grammar.specs.Tree.{Stmts}
 use Rattle.script_grammar.specs.TreeLists.{stmts_of}
 use Rattle.script_grammar.specs.TreeOf.{stmt_of}
 use Rattle.grammar_parser_specs.specs.Filling.{fill_stmts}
-use Rattle.grammar_start_laws.specs.Started.{started_stmts}
-use Rattle.grammar_start_laws.specs.Own.{AllOf, IsFilled, stmts_at}
+use Rattle.grammar_start_laws.specs.Own.{AllOf, IsFilled}
 use Rattle.grammar_start_laws.proofs.WholeTrees.{script_is_own, bodies_are_own}
 use Rattle.parse_track.specs.declared.region.Known.{Known}
-use Rattle.early_errors.specs.Kept.{given, statements, AreKept, IsOf}
-
--- the interpretation that gives each function of the script its own body
-abbrev pub own : List (List ℕ) → Stmts → Interpretation
-own texts items = record { texts = texts; bodies = λ n. stmts_at (started_stmts items) n }
+use Rattle.early_script_errors.specs.Told.{own, IsOf}
+use Rattle.early_errors.specs.Kept.{given, statements, AreKept}
 
 filled_all : (i : Interpretation) (bs : List Stmts) → AllOf (IsFilled (given i)) bs → map (fill_stmts (given i)) bs ≡ bs
 filled_all i [] h = refl

@@ -6,8 +6,8 @@ use Rattle.grammar_start_laws.proofs.Rising.{lexemes_rise}
 use Rattle.scan_laws.proofs.FullNames.{names_are_full}
 use Rattle.track_atoms.specs.Known.{HasWords}
 use Rattle.track_atoms.proofs.Interning.{words_kept}
-use Rattle.compile_session.proofs.TokenLemmas.{KnowsWords, file_tokens, file_scanned}
-use Rattle.compile_session.proofs.file_tokens.tokens_of.Goals as goal
+use Rattle.parse_script.proofs.TokenLemmas.{KnowsWords, file_tokens, file_scanned}
+use Rattle.parse_script.proofs.file_tokens.tokens_of.Goals as goal
 
 pub returns-clause-tokens : goal.returns-clause-tokens
 returns-clause-tokens c =

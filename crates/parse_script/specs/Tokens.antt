@@ -7,7 +7,7 @@ use Rattle.grammar_start_laws.specs.Own.{TokensRise}
 use Rattle.script_grammar.specs.NameTokens.{NamesAreFull}
 use Rattle.parse_exprs.specs.Source.{IsScanned}
 use Rattle.track_atoms.specs.Known.{HasWords}
-use Rattle.compile_session.specs.declared.file_tokens.FileTokens.{FileTokens}
+use Rattle.parse_script.specs.declared.file_tokens.FileTokens.{FileTokens}
 
 abbrev pub tokens_in : FileTokens → List Lexeme
 tokens_in file = map (lexeme_of file.known.get file.known.set file.texts.items) file.tokens.items

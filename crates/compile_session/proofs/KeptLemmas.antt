@@ -13,7 +13,7 @@ use Rattle.script_grammar.specs.TreeOf.{stmt_of}
 use Rattle.parse_bodies.specs.declared.whole.Script.{Script}
 use Rattle.parse_bodies.specs.Whole.{IsText}
 use Rattle.parse_script.specs.declared.file_tokens.FileTokens.{FileTokens}
-use Rattle.parse_script.specs.Tokens.{tokens_in, IsSound}
+use Rattle.parse_script.specs.Tokens.{tokens_in, AreTokensOf, IsSound}
 use Rattle.parse_track.specs.declared.region.ClosedAt.{ClosedAt}
 use Rattle.parse_track.specs.declared.region.Early.{Early}
 use Rattle.parse_track.specs.Counted.{function_count}
@@ -44,7 +44,7 @@ use Rattle.session_specs.specs.Sources.{IsValid, HasAll, missing}
 use Rattle.session_specs.specs.Sources as source
 use Rattle.compile_session.specs.Built.{is_source}
 use Rattle.compile_session.specs.Listed.{is_listed}
-use Rattle.compile_session.specs.Answers.{AreTokensOf, IsKeptScript, IsMissing}
+use Rattle.compile_session.specs.Answers.{IsKeptScript, IsMissing}
 use Rattle.compile_session.proofs.OutcomeLemmas.{of_file, knows_names, names_of_text, script_read}
 
 -- ---- what was found in the script

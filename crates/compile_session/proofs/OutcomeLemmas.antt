@@ -17,7 +17,7 @@ use Rattle.parse_bodies.specs.Whole.{IsText}
 use Rattle.parse_handlers.specs.Kept.{IsBody}
 use Rattle.parse_script.specs.declared.file_tokens.FileTokens.{FileTokens}
 use Rattle.parse_script.specs.Reading.{under, IsShown}
-use Rattle.parse_script.specs.Tokens.{tokens_in, IsSound}
+use Rattle.parse_script.specs.Tokens.{tokens_in, AreTokensOf, IsSound}
 use Rattle.parse_script.proofs.ReadLemmas.{ShowsParts, shows_parts}
 use Rattle.script_grammar.specs.NameTokens.{NamesAreFull}
 use Rattle.scope_analysis.specs.FunctionTree.{KnowsNames}
@@ -27,7 +27,7 @@ use Rattle.early_errors.specs.Kept as kept
 use Rattle.early_script_errors.specs.Told as told
 use Rattle.session_specs.specs.Sources.{IsRead}
 use Rattle.session_specs.specs.Sources as source
-use Rattle.compile_session.specs.Answers.{AreTokensOf, IsKeptScript}
+use Rattle.compile_session.specs.Answers.{IsKeptScript}
 use Rattle.compile_session.proofs.SourceLemmas.{read_of}
 use Rattle.compile_session.proofs.InternLemmas.{knows_of}
 

@@ -1,9 +1,8 @@
 -- What the calls for one file answer.
-use Rattle.std.specs.Prelude.{◌≡◌, ℕ, ◌≤◌, Bool, List, [], length, Option, Some, None, Vec, IsUtf8}
+use Rattle.std.specs.Prelude.{◌≡◌, ℕ, Bool, List, [], length, Option, Some, None, Vec}
 use Rattle.std.specs.declared.alloc.Global.{Global}
 use Rattle.script_grammar.specs.declared.tree.Stmt.{Stmt}
 use Rattle.script_grammar.specs.Tree.{Stmts}
-use Rattle.script_scanner.specs.Lexemes.{lexemes}
 use Rattle.session_outside.specs.Loops.{IsWholeBehind}
 use Rattle.parse_bodies.specs.declared.whole.Script.{Script}
 use Rattle.parse_bodies.specs.Whole.{IsText}
@@ -55,13 +54,6 @@ IsSourceText want file (source.Refused why) = IsSource want file (IsRefused (ref
 pub record IsKeptScript (file : FileTokens) (script : Script (Vec Stmt Global)) (items : Stmts) : Type 0 where
   pub text : IsText (tokens_in file) items
   pub kept : AreKept file.texts.items script.top.items script.bodies.items items
-
--- these bytes are UTF-8, and these are their tokens
-pub record AreTokensOf (file : FileTokens) (size : ℕ) (bytes : List ℕ) : Type 0 where
-  pub utf8 : IsUtf8 bytes
-  pub tokens : tokens_in file ≡ lexemes bytes
-  pub long : size ≡ length bytes
-  pub short : length bytes ≤ most_bytes
 
 -- what is written for a file that is within the limit, and whether it is refused: this, and nothing else
 pub record IsAnswerFor (command : Command) (want : Wanted) (name file : List ℕ) (given : FileAnswer) : Type 0 where

@@ -6,8 +6,8 @@ ghost use Rattle.script_grammar.specs.Tree.{Stmts};
 ghost use Rattle.session_specs.specs.Answer.{most_bytes};
 ghost use Rattle.session_specs.specs.Sources as source;
 ghost use Rattle.session_words.specs.Asked as asked;
-ghost use Rattle.compile_session.specs.Answers.{AreTokensOf, IsKeptScript, IsSourceText};
-ghost use Rattle.parse_script.specs.Tokens.{IsSound};
+ghost use Rattle.compile_session.specs.Answers.{IsKeptScript, IsSourceText};
+ghost use Rattle.parse_script.specs.Tokens.{AreTokensOf, IsSound};
 
 use crate::listing::missing_of;
 use crate::refusal::Refusal;

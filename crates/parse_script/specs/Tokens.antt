@@ -1,7 +1,8 @@
 -- The tokens of a file as the grammar of scripts sees them.
-use Rattle.std.specs.Prelude.{List, map, length, ◌<◌, ◌^◌}
+use Rattle.std.specs.Prelude.{ℕ, ◌≡◌, ◌≤◌, List, map, length, ◌<◌, ◌^◌, IsUtf8}
 use Rattle.script_grammar.specs.Lexeme.{Lexeme, lexeme_of}
 use Rattle.parser_atoms.specs.Places.{AreWithoutEquals}
+use Rattle.script_scanner.specs.Lexemes.{lexemes}
 use Rattle.script_scanner.specs.Stands.{HasOneLast}
 use Rattle.grammar_start_laws.specs.Own.{TokensRise}
 use Rattle.script_grammar.specs.NameTokens.{NamesAreFull}
@@ -22,3 +23,10 @@ pub record IsSound (file : FileTokens) : Type 0 where
   pub apart : AreWithoutEquals file.texts.items
   pub few : length file.texts.items < 2 ^ 32
   pub words : HasWords file.texts.items file.known
+
+-- The bytes are UTF-8 and as many as this, which is within the limit of a file, and these are their tokens.
+pub record AreTokensOf (file : FileTokens) (size : ℕ) (bytes : List ℕ) : Type 0 where
+  pub utf8 : IsUtf8 bytes
+  pub tokens : tokens_in file ≡ lexemes bytes
+  pub long : size ≡ length bytes
+  pub short : length bytes ≤ 16777215

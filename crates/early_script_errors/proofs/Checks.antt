@@ -22,7 +22,7 @@ use Rattle.track_log_laws.proofs.Scripts.{script-tells, script-functions}
 use Rattle.parse_track_handler.specs.declared.piece.Piece.{Piece}
 use Rattle.parse_track_handler.specs.Says.{SaysBody}
 use Rattle.parse_track_handler.specs.Walks.{KnowsThis}
-use Rattle.early_script_errors.specs.Told.{own, untold, IsOf, IsTold, IsTrackOf}
+use Rattle.early_script_errors.specs.Told.{own, IsOf, IsTold, IsTrackOf}
 use Rattle.early_script_errors.proofs.Words.{knows_this, knows_names}
 
 -- a track with these known words that was told nothing

@@ -20,6 +20,3 @@ pub use buffer::CodeBuf;
 pub use instruction::{Instr, decode_at, renumber};
 pub use opcode::{Count, OPS, Op, Row, Shape};
 pub use waits::{Aim, Wait, jump_to, land, target, turn};
-
-#[cfg(test)]
-mod tests;

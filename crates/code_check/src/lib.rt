@@ -28,6 +28,3 @@ mod verifier;
 
 pub use verdict::Verdict;
 pub use verifier::{verify, verify_code};
-
-#[cfg(test)]
-mod tests;

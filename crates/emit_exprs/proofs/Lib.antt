@@ -4,6 +4,7 @@ pub mod Counting
 pub mod Keys
 pub mod LastTail
 pub mod Lists
+mod OperatorRows
 pub mod Plain
 pub mod Rising
 pub mod Rows

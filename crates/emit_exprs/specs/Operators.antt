@@ -2,7 +2,6 @@
 -- this project's own choice.
 use Rattle.std.specs.Prelude.{◌≡◌, ℕ, Bool, true, false, nat_eq, nat_le, if◌then◌else◌, ◌<◌, ◌^◌, List, [], ◌∷◌, find, Option, Some, None}
 use Rattle.emit_exprs.specs.declared.operators.Meaning.{Meaning}
-use Rattle.emit_exprs.specs.declared.operators.TheConstants.{WORD_OPS, BINARY_OPS, ASSIGN_OPS, PREFIX_OPS}
 use Rattle.emit_exprs.specs.declared.operators.Short.{Short}
 use Rattle.emit_exprs.specs.declared.operators.Short.TheVariants as short
 use Rattle.emit_exprs.specs.declared.operators.Joining.{Joining}
@@ -10,6 +9,7 @@ use Rattle.emit_exprs.specs.declared.operators.Joining.TheVariants.{FromLeft, Fr
 use Rattle.emit_exprs.specs.declared.operators.NumberForm.{NumberForm}
 use Rattle.emit_exprs.specs.declared.operators.NumberForm.TheVariants as form
 use Rattle.script_grammar.specs.declared.token.mark.TheConstants as mark
+use Rattle.script_grammar.specs.declared.token.word.TheConstants as word
 use Rattle.bytecode_buf.specs.declared.opcode.Shape.TheVariants as shape
 use Rattle.bytecode_buf.specs.Width.{shape_of}
 use Rattle.bytecode_buf.specs.declared.opcode.Op.{Op}
@@ -28,19 +28,71 @@ abbrev pub AllPlain : List Meaning → Op → Type 0
 AllPlain [] other = shape_of other ≡ shape.Nothing
 AllPlain (m ∷ ms) other = (shape_of m.op ≡ shape.Nothing) × AllPlain ms other
 
+-- a row of a table: a mark or a word, by its number, and the opcode that it is
+abbrev pub row : ℕ → Op → Meaning
+row sign code = record { sign = sign; op = code }
+
+-- the binary operators that are words (clause 13.10), but for `instanceof`
+abbrev pub word_rows : List Meaning
+word_rows = row word.IN op.In ∷ []
+
+-- the binary operators that are marks (clauses 13.7 to 13.12), but for `**`; those that jump have `short_op`
+abbrev pub binary_rows : List Meaning
+binary_rows =
+    row mark.LESS op.Lt
+    ∷ row mark.GREATER op.Gt
+    ∷ row mark.LESS_EQUAL op.Le
+    ∷ row mark.GREATER_EQUAL op.Ge
+    ∷ row mark.EQUAL op.Eq
+    ∷ row mark.NOT_EQUAL op.Ne
+    ∷ row mark.STRICT_EQUAL op.StrictEq
+    ∷ row mark.STRICT_NOT_EQUAL op.StrictNe
+    ∷ row mark.PLUS op.Add
+    ∷ row mark.MINUS op.Sub
+    ∷ row mark.TIMES op.Mul
+    ∷ row mark.DIVIDE op.Div
+    ∷ row mark.REMAINDER op.Mod
+    ∷ row mark.LEFT_SHIFT op.Lsh
+    ∷ row mark.RIGHT_SHIFT op.Rsh
+    ∷ row mark.UNSIGNED_RIGHT_SHIFT op.Ursh
+    ∷ row mark.BIT_AND op.BitAnd
+    ∷ row mark.BIT_OR op.BitOr
+    ∷ row mark.BIT_XOR op.BitXor
+    ∷ []
+
+-- the assignments with an operator (clause 13.15), but for `**=`
+abbrev pub assign_rows : List Meaning
+assign_rows =
+    row mark.PLUS_ASSIGN op.Add
+    ∷ row mark.MINUS_ASSIGN op.Sub
+    ∷ row mark.TIMES_ASSIGN op.Mul
+    ∷ row mark.DIVIDE_ASSIGN op.Div
+    ∷ row mark.REMAINDER_ASSIGN op.Mod
+    ∷ row mark.LEFT_SHIFT_ASSIGN op.Lsh
+    ∷ row mark.RIGHT_SHIFT_ASSIGN op.Rsh
+    ∷ row mark.UNSIGNED_RIGHT_SHIFT_ASSIGN op.Ursh
+    ∷ row mark.BIT_AND_ASSIGN op.BitAnd
+    ∷ row mark.BIT_OR_ASSIGN op.BitOr
+    ∷ row mark.BIT_XOR_ASSIGN op.BitXor
+    ∷ []
+
+-- the prefix operators that are marks (clauses 13.5.4 to 13.5.7), but for `~`
+abbrev pub prefix_rows : List Meaning
+prefix_rows = row mark.PLUS op.Pos ∷ row mark.MINUS op.Neg ∷ row mark.NOT op.Not ∷ []
+
 -- the words `in` and `instanceof`, and the marks; `**` is the one that is left
 abbrev pub binary_op : Bool → ℕ → Op
-binary_op true sign = op_of WORD_OPS op.Instanceof sign
-binary_op false sign = op_of BINARY_OPS op.Pow sign
+binary_op true sign = op_of word_rows op.Instanceof sign
+binary_op false sign = op_of binary_rows op.Pow sign
 
 -- the marks of assignments with an operator; `**=` is the one that is left
 abbrev pub assign_op : ℕ → Op
-assign_op sign = op_of ASSIGN_OPS op.Pow sign
+assign_op sign = op_of assign_rows op.Pow sign
 
 -- the prefix operators on a value: `void` is the word, and `~` the mark, that is left
 abbrev pub prefix_op : Bool → ℕ → Op
 prefix_op true sign = op.Void
-prefix_op false sign = op_of PREFIX_OPS op.BitNot sign
+prefix_op false sign = op_of prefix_rows op.BitNot sign
 
 abbrev pub update_op : ℕ → Op
 update_op sign = if nat_eq sign mark.INCREMENT then op.Inc else op.Dec

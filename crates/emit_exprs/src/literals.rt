@@ -15,11 +15,9 @@ use crate::site::Site;
 use crate::steps::{counted, plain};
 use bytecode_buf::{CodeBuf, Op};
 use scope_analysis::resolve;
+use scope_analysis::special_names::THIS;
 use std::alloc::AllocError;
 use stencil_data::{Extent, Place, Text};
-
-// `.this`, the name under which a function finds `this`.
-const THIS: [u16; 5] = [46, 116, 104, 105, 115];
 
 fn wide(out: &mut CodeBuf, number: u64) -> Result<(), AllocError>
     ensures { OnOk result ((texts : List (List ℕ)) → Emits texts out.old out.new (one (command.counted Op.Double number))) }

@@ -1,5 +1,5 @@
 //! The var names of a body that are named as parameters: each begins with the parameter's value.
-ghost use Rattle.std.specs.Prelude.{◌≡◌, ℕ, List, ◌≤◌, bytes_eq, OnOk, length};
+ghost use Rattle.std.specs.Prelude.{◌≡◌, ℕ, List, ◌≤◌, OnOk, length};
 ghost use Rattle.script_grammar.specs.Tree.{Stmts};
 ghost use Rattle.stencil_data.specs.Fits.{LinksFit};
 ghost use Rattle.stencil_data.specs.LinkView.{LinkView};
@@ -12,24 +12,10 @@ use bytecode_buf::{CodeBuf, Op};
 use emit_exprs::Site;
 use emit_exprs::scenes::{reading, writing};
 use emit_exprs::steps::plain;
+use scope_analysis::{same_units, units_of};
 use script_grammar::tree::Param;
 use std::alloc::AllocError;
 use stencil_data::{Binding, Chain, Text};
-
-fn units_of<'a>(texts: &'a [Text], atom: u32) -> &'a [u16]
-    ensures { result.now ≡ text_at texts.now atom }
-{
-    match texts.get(atom as usize) {
-        Some(text) => text.units(),
-        None => &[],
-    }
-}
-
-fn same_units(one: &[u16], two: &[u16]) -> bool
-    ensures { result ≡ bytes_eq one.now two.now }
-{
-    one == two
-}
 
 // Whether a parameter has the name with this atom.
 fn is_param(params: &[Param], texts: &[Text], atom: u32) -> bool

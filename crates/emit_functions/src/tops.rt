@@ -1,8 +1,8 @@
 //! What stands at the top of a function's body: the scope of its lexical names, its functions, and its statements.
 ghost use Rattle.std.specs.Prelude.{◌≡◌, map, option_copied, OnOk};
 ghost use Rattle.script_grammar.specs.Interpretation.{Interpretation};
-ghost use Rattle.script_grammar.specs.TreeLists.{binds_of, stmts_of};
-ghost use Rattle.script_grammar.specs.TreeOf.{bind_of, stmt_of};
+ghost use Rattle.script_grammar.specs.TreeLists.{stmts_of};
+ghost use Rattle.script_grammar.specs.TreeOf.{stmt_of};
 ghost use Rattle.scope_analysis.specs.DeclaredNames as names;
 ghost use Rattle.emit_exprs.specs.Exprs.{Scene};
 ghost use Rattle.emit_stmts.specs.Declares as defined;
@@ -12,25 +12,14 @@ ghost use Rattle.emit_functions.specs.TopCode.{TopFunctionEmits, TopFunctionsEmi
 
 use bytecode_buf::{CodeBuf, Wait};
 use emit_exprs::Site;
+use emit_stmts::declares::binds_declare;
 use emit_stmts::functions::assigning_function;
 use emit_stmts::inside::{enter_next, may_enter, within_scope};
 use emit_stmts::scoping::leave_scope;
 use emit_stmts::stmts::emit_stmts;
 use emit_stmts::{Draft, StmtSite};
-use script_grammar::token::Decl;
-use script_grammar::tree::{Bind, Func, Stmt};
+use script_grammar::tree::{Func, Stmt};
 use std::alloc::AllocError;
-
-// Whether there are names, declared by `let` or `const`.
-fn binds_declare(decl: Decl, binds: &[Bind]) -> bool
-    ensures { (i : Interpretation) → result ≡ defined.declares (names.lexical_binds decl (binds_of (map (bind_of i) binds.now))) }
-{
-    match decl {
-        Decl::Var => false,
-        Decl::Let => !binds.is_empty(),
-        Decl::Const => !binds.is_empty(),
-    }
-}
 
 // Whether a statement at the top of a body declares a name in its lexical scope.
 fn stmt_declares(stmt: &Stmt) -> bool

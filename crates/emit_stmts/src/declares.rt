@@ -11,8 +11,8 @@ ghost use Rattle.emit_stmts.specs.Declares as defined;
 use script_grammar::token::Decl;
 use script_grammar::tree::{Bind, Clause, Each, Init, Stmt};
 
-// Whether there are names, declared by `let` or `const`.
-fn binds_declare(decl: Decl, binds: &[Bind]) -> bool
+/// Whether there are names, declared by `let` or `const`.
+pub fn binds_declare(decl: Decl, binds: &[Bind]) -> bool
     ensures { (i : Interpretation) → result ≡ defined.declares (names.lexical_binds decl (binds_of (map (bind_of i) binds.now))) }
 {
     match decl {

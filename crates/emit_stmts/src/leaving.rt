@@ -11,6 +11,7 @@ use crate::scoping::leave_scope;
 use crate::stmt_site::StmtSite;
 use bytecode_buf::{Aim, CodeBuf, Op, Wait, jump_to};
 use emit_exprs::steps::plain;
+use scope_analysis::{same_units, units_of};
 use script_grammar::tree::Ident;
 use std::alloc::AllocError;
 use stencil_data::Text;
@@ -44,21 +45,6 @@ pub fn exits(out: &mut CodeBuf, site: &StmtSite, frames: &[Frame]) -> Result<(),
         exit(out, site, *frame)?;
     }
     Ok(())
-}
-
-fn units_of<'a>(texts: &'a [Text], atom: u32) -> &'a [u16]
-    ensures { result.now ≡ text_at texts.now atom }
-{
-    match texts.get(atom as usize) {
-        Some(text) => text.units(),
-        None => &[],
-    }
-}
-
-fn same_units(one: &[u16], two: &[u16]) -> bool
-    ensures { result ≡ bytes_eq one.now two.now }
-{
-    one == two
 }
 
 fn same_text(texts: &[Text], one: u32, two: u32) -> bool

@@ -1,6 +1,6 @@
 -- What lists of functions that were gathered stand for.
-use Rattle.std.proofs.Common.{◌≡◌, ◌∙◌, ℕ, List, [], ◌∷◌, ◌++◌, Bool, Option, Some, None, Result, Ok, Err, IfOk, option_map, refl, ap, sym}
-use Rattle.std.specs.List.{flat_map}
+use Rattle.std.proofs.Common.{◌≡◌, ◌∙◌, ℕ, List, [], ◌∷◌, ◌++◌, Bool, not, ◌&&◌, Option, Some, None, is_none, Result, Ok, Err, IfOk, option_map, refl, ap, sym}
+use Rattle.std.specs.List.{flat_map, list_all}
 use Rattle.script_grammar.specs.declared.node.NodeArgs.{NodeArgs}
 use Rattle.script_grammar.specs.declared.node.NodeOperand.{NodeOperand}
 use Rattle.script_grammar.specs.declared.node.NodeTemplatePart.{NodeTemplatePart}
@@ -27,9 +27,9 @@ use Rattle.script_grammar.specs.Shows.{ShowAll, ShowMaybe, MaybeOf, ShowArgs, Sh
 use Rattle.parse_handlers.specs.declared.found.Found.{Found}
 use Rattle.parse_handlers.specs.declared.found.SyntaxNode.{SyntaxNode}
 use Rattle.parse_handlers.specs.declared.found.SyntaxBody.{SyntaxBody}
-use Rattle.parse_handlers.specs.Inner.{Inner, no_inner, more_inner, kind_of, text_of_name, in_function, in_expr, in_exprs, in_maybe_expr, in_maybe_args, in_parts, in_items, in_operands, in_tail, in_tails, in_key, in_prop, in_props, in_params, in_body, in_binds, in_init, in_each, in_clauses, in_stmt, in_stmts, in_maybe_stmt}
+use Rattle.parse_handlers.specs.Inner.{Inner, no_inner, more_inner, kind_of, text_of_name, is_braced, has_no_value, is_simple, in_function, in_expr, in_exprs, in_maybe_expr, in_maybe_args, in_parts, in_items, in_operands, in_tail, in_tails, in_key, in_prop, in_props, in_params, in_body, in_binds, in_init, in_each, in_clauses, in_stmt, in_stmts, in_maybe_stmt}
 use Rattle.parse_handlers.specs.FoundOf.{FoundAs, before, found_of, founds_before, HoldsExpr, HoldsStmt, HoldsProp, HoldsBody}
-use Rattle.parse_handlers.specs.Held.{held, held_maybe, held_args, held_operand, held_part, held_tail, held_key, held_body, held_param, held_bind, held_init, held_each, held_clause}
+use Rattle.parse_handlers.specs.Held.{held, held_maybe, held_args, held_operand, held_part, held_tail, held_key, held_body, has_braces, is_plain, held_param, held_bind, held_init, held_each, held_clause}
 
 -- Functions that put the functions of a part before these.
 abbrev pub Puts : Interpretation → List Found → (Inner → Inner) → Type 0
@@ -166,31 +166,47 @@ pub if_puts : {E : Type 0} (i : Interpretation) (result : Result SyntaxNode E) (
 if_puts i (Ok n) xs f e p = puts-same i n.found.items xs f e p
 if_puts i (Err e) xs f h p = tt
 
+-- a parameter with this name and this rest mark, by what stands for its initializer
+plain-inside : (i : Interpretation) (name : model.Named) (rest : Bool) (p : part.Param) (n : Option SyntaxNode)
+    → MaybeOf (HoldsExpr i) n (λ v. p ≡ record { name = name; value = v; rest = rest }) → is_none n && not rest ≡ has_no_value (maybe_expr_of p.value) && not p.rest
+plain-inside i name rest p None h = ap (λ x. has_no_value (maybe_expr_of x.value) && not x.rest) (sym h)
+plain-inside i name rest p (Some n) h = ap (λ x. has_no_value (maybe_expr_of x.value) && not x.rest) (sym h.2)
+
+simple-params : (i : Interpretation) (ns : List (NodeParam SyntaxNode)) (ps : List part.Param) → ShowAll (ShowParam i (HoldsExpr i)) ns ps → list_all is_plain ns ≡ is_simple (params_of ps)
+simple-params i [] [] h = refl
+simple-params i [] (p ∷ ps) h = absurd h
+simple-params i (n ∷ ns) [] h = absurd h
+simple-params i (n ∷ ns) (p ∷ ps) h =
+    ap (λ b. b && list_all is_plain ns) (plain-inside i (named i n.name) n.rest p n.value h.0)
+    ∙ ap (λ b. (has_no_value (maybe_expr_of p.value) && not p.rest) && b) (simple-params i ns ps h.1)
+
 body-inside : (i : Interpretation) (start : ℕ) (F : model.Body → model.Function) (f : model.Function) (n : NodeFuncBody SyntaxNode SyntaxBody)
-    → FuncBodyOf i (HoldsExpr i) (HoldsBody i) start n (λ b. f ≡ F b) → (b : model.Body) × ((f ≡ F b) × Puts i (held_body n) (in_body b))
-body-inside i start F f (bodies.Braced b) h = (model.BracedBody h.0, (h.2, λ r. refl))
-body-inside i start F f (bodies.Short e) h = (model.ShortBody h.0, (h.2, h.1))
-body-inside i start F f (bodies.Passed) h = (model.BracedBody (i.bodies start), (h, λ r. refl))
+    → FuncBodyOf i (HoldsExpr i) (HoldsBody i) start n (λ b. f ≡ F b) → (b : model.Body) × ((f ≡ F b) × (has_braces n ≡ is_braced b) × Puts i (held_body n) (in_body b))
+body-inside i start F f (bodies.Braced b) h = (model.BracedBody h.0, (h.2, refl, λ r. refl))
+body-inside i start F f (bodies.Short e) h = (model.ShortBody h.0, (h.2, refl, h.1))
+body-inside i start F f (bodies.Passed) h = (model.BracedBody (i.bodies start), (h, refl, λ r. refl))
 
 -- a function, by its fields
 pub puts-function : (i : Interpretation) (declared : Bool) (n : NodeFunc SyntaxNode SyntaxBody) (f : model.Function) (x : FoundAs) (inner : List Found)
     → ShowFunc i (HoldsExpr i) (HoldsBody i) n f
     → inner ≡ flat_map held_param n.params.items ++ held_body n.body
-    → x ≡ record { start = n.start; end = n.end; kind = kind_of declared n.form; name = option_map text_of_name (maybe_named i n.name); inner = founds_before i inner no_inner }
+    → x ≡ record { start = n.start; end = n.end; kind = kind_of declared n.form; name = option_map text_of_name (maybe_named i n.name); braced = has_braces n.body; simple = list_all is_plain n.params.items; inner = founds_before i inner no_inner }
     → (r : Inner) → before (x ∷ []) r ≡ in_function declared f r
 puts-function i declared n f x inner h e found r =
     let F : model.Body → model.Function = λ b. model.function n.form n.start n.end (maybe_named i n.name) (params_of h.0) n.comma n.bare b in
     let body = body-inside i n.start F f n.body h.2 in
     let inside = puts-same i inner (flat_map held_param n.params.items ++ held_body n.body) (then_put (in_params (params_of h.0)) (in_body body.0)) e
-    (puts-append i (flat_map held_param n.params.items) (held_body n.body) (in_params (params_of h.0)) (in_body body.0) (puts-params i n.params.items h.0 h.1) body.1.1) no_inner in
+    (puts-append i (flat_map held_param n.params.items) (held_body n.body) (in_params (params_of h.0)) (in_body body.0) (puts-params i n.params.items h.0 h.1) body.1.2) no_inner in
     ap (λ y. before (y ∷ []) r) found
-    ∙ ap (λ q. more_inner n.start n.end (kind_of declared n.form) (option_map text_of_name (maybe_named i n.name)) q r) inside
+    ∙ ap (λ b. more_inner n.start n.end (kind_of declared n.form) (option_map text_of_name (maybe_named i n.name)) b (list_all is_plain n.params.items) (founds_before i inner no_inner) r) body.1.1
+    ∙ ap (λ b. more_inner n.start n.end (kind_of declared n.form) (option_map text_of_name (maybe_named i n.name)) (is_braced body.0) b (founds_before i inner no_inner) r) (simple-params i n.params.items h.0 h.1)
+    ∙ ap (λ q. more_inner n.start n.end (kind_of declared n.form) (option_map text_of_name (maybe_named i n.name)) (is_braced body.0) (is_simple (params_of h.0)) q r) inside
     ∙ ap (λ g. in_function declared g r) (sym body.1.0)
 
--- a function that was found, by what its kind and its name are
-pub function-found : (i : Interpretation) (x : FoundAs) (start end : ℕ) (kind kind' : FuncKind) (name name' : Option (List ℕ)) (inner : Inner)
-    → x ≡ record { start = start; end = end; kind = kind; name = name; inner = inner } → kind ≡ kind' → name ≡ name'
-    → x ≡ record { start = start; end = end; kind = kind'; name = name'; inner = inner }
-function-found i x start end kind kind' name name' inner e k n =
-    let made : FuncKind → Option (List ℕ) → FoundAs = λ a b. record { start = start; end = end; kind = a; name = b; inner = inner } in
-    e ∙ ap (λ a. made a name) k ∙ ap (made kind') n
+-- a function that was found, by what its kind, its name and its two answers are
+pub function-found : (i : Interpretation) (x : FoundAs) (start end : ℕ) (kind kind' : FuncKind) (name name' : Option (List ℕ)) (braced braced' simple simple' : Bool) (inner : Inner)
+    → x ≡ record { start = start; end = end; kind = kind; name = name; braced = braced; simple = simple; inner = inner } → kind ≡ kind' → name ≡ name' → braced ≡ braced' → simple ≡ simple'
+    → x ≡ record { start = start; end = end; kind = kind'; name = name'; braced = braced'; simple = simple'; inner = inner }
+function-found i x start end kind kind' name name' braced braced' simple simple' inner e k n b s =
+    let made : FuncKind → Option (List ℕ) → Bool → Bool → FoundAs = λ a m c d. record { start = start; end = end; kind = a; name = m; braced = c; simple = d; inner = inner } in
+    e ∙ ap (λ a. made a name braced simple) k ∙ ap (λ m. made kind' m braced simple) n ∙ ap (λ c. made kind' name' c simple) b ∙ ap (made kind' name' braced') s

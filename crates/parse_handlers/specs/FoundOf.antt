@@ -16,12 +16,14 @@ pub record FoundAs : Type 0 where
   pub end : ℕ
   pub kind : FuncKind
   pub name : Option (List ℕ)
+  pub braced : Bool
+  pub simple : Bool
   pub inner : Inner
 
 -- these functions, and then those
 abbrev pub before : List FoundAs → Inner → Inner
 before [] r = r
-before (f ∷ fs) r = more_inner f.start f.end f.kind f.name f.inner (before fs r)
+before (f ∷ fs) r = more_inner f.start f.end f.kind f.name f.braced f.simple f.inner (before fs r)
 
 abbrev pub found_step : Interpretation → Found-F FoundAs → FoundAs
 found_step i row = record {
@@ -29,6 +31,8 @@ found_step i row = record {
   end = row.extent.end;
   kind = row.kind;
   name = option_map (text_of i) row.name;
+  braced = row.braced;
+  simple = row.simple;
   inner = before row.inner.items no_inner;
 }
 

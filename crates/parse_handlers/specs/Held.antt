@@ -1,5 +1,5 @@
 -- The functions that parts over syntax nodes hold, in the order of their fields.
-use Rattle.std.specs.Prelude.{List, [], ◌++◌, Option, None, Some}
+use Rattle.std.specs.Prelude.{List, [], ◌++◌, Bool, true, false, not, ◌&&◌, Option, None, Some, is_none}
 use Rattle.std.specs.List.{flat_map}
 use Rattle.script_grammar.specs.declared.node.NodeArgs.{NodeArgs}
 use Rattle.script_grammar.specs.declared.node.NodeOperand.{NodeOperand}
@@ -52,6 +52,16 @@ abbrev pub held_body : NodeFuncBody SyntaxNode SyntaxBody → List Found
 held_body (bodies.Braced b) = []
 held_body (bodies.Short e) = e.found.items
 held_body (bodies.Passed) = []
+
+-- whether a body stands in braces, read or passed over
+abbrev pub has_braces : NodeFuncBody SyntaxNode SyntaxBody → Bool
+has_braces (bodies.Braced b) = true
+has_braces (bodies.Short e) = false
+has_braces (bodies.Passed) = true
+
+-- whether a parameter has neither an initializer nor a rest mark
+abbrev pub is_plain : NodeParam SyntaxNode → Bool
+is_plain n = is_none n.value && not n.rest
 
 abbrev pub held_param : NodeParam SyntaxNode → List Found
 held_param n = held_maybe held n.value

@@ -2,7 +2,7 @@
 -- choice. A function is directly in a part where no other function of the part stands around it. What stands in a
 -- parameter's initializer, or in the body of an arrow that is an expression, is directly in the function that these
 -- belong to; what stands in a braced body is left out.
-use Rattle.std.specs.Prelude.{ℕ, List, Bool, true, false, Option, option_map}
+use Rattle.std.specs.Prelude.{ℕ, List, Bool, true, false, not, ◌&&◌, Option, option_map}
 use Rattle.script_grammar.specs.declared.token.FuncForm.{FuncForm}
 use Rattle.script_grammar.specs.declared.token.FuncForm.TheVariants as form
 use Rattle.stencil_data.specs.declared.functions.FuncKind.{FuncKind}
@@ -10,10 +10,11 @@ use Rattle.stencil_data.specs.declared.functions.FuncKind.TheVariants as kind
 use Rattle.script_grammar.specs.Tree as tree
 use Rattle.script_grammar.specs.Tree.{Named, Expr, Exprs, no_exprs, more_exprs, MaybeExpr, no_expr, some_expr, MaybeArgs, no_args, some_args, Parts, no_parts, more_parts, Items, no_items, more_items, Operands, no_operands, more_operands, Tail, Tails, no_tails, more_tails, Key, Prop, Props, no_props, more_props, Function, function, Params, no_params, more_params, Body, Binds, no_binds, more_binds, Init, Each, Clauses, no_clauses, more_clauses, Stmt, Stmts, no_stmts, more_stmts, MaybeStmt, no_stmt, some_stmt}
 
--- functions, each with its extent, its kind, its name and the functions directly in it
+-- functions, each with its extent, its kind, its name, whether its body stands in braces, whether its parameters are
+-- simple, and the functions directly in it
 pub data Inner : Type 0 where
   no_inner : Inner
-  more_inner : (start end : ℕ) → FuncKind → (name : Option (List ℕ)) → (inner : Inner) → Inner → Inner
+  more_inner : (start end : ℕ) → FuncKind → (name : Option (List ℕ)) → (braced simple : Bool) → (inner : Inner) → Inner → Inner
 
 -- the kind of a function of this form; with the word `function` it is declared or stands in an expression
 abbrev pub kind_of : (declared : Bool) → FuncForm → FuncKind
@@ -27,6 +28,19 @@ kind_of declared form.Setter = kind.Setter
 
 abbrev pub text_of_name : Named → List ℕ
 text_of_name name = name.text
+
+abbrev pub is_braced : Body → Bool
+is_braced (tree.BracedBody ss) = true
+is_braced (tree.ShortBody e) = false
+
+abbrev pub has_no_value : MaybeExpr → Bool
+has_no_value no_expr = true
+has_no_value (some_expr e) = false
+
+-- No parameter has an initializer, and none is a rest parameter. ECMA-262, 15.1.3: IsSimpleParameterList.
+abbrev pub is_simple : Params → Bool
+is_simple no_params = true
+is_simple (more_params name value rest ps) = (has_no_value value && not rest) && is_simple ps
 
 -- the functions directly in a part, and then these
 abbrev mutual
@@ -104,7 +118,7 @@ abbrev mutual
 
   pub in_function : (declared : Bool) → Function → Inner → Inner
   in_function declared (function form start end name ps comma bare body) r =
-      more_inner start end (kind_of declared form) (option_map text_of_name name) (in_params ps (in_body body no_inner)) r
+      more_inner start end (kind_of declared form) (option_map text_of_name name) (is_braced body) (is_simple ps) (in_params ps (in_body body no_inner)) r
 
   pub in_params : Params → Inner → Inner
   in_params no_params r = r

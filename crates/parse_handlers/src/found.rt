@@ -9,6 +9,11 @@ pub struct Found {
     pub extent: Extent,
     pub kind: FuncKind,
     pub name: Option<u32>,
+    /// Its body stands in braces, whether it was read or passed over.
+    pub braced: bool,
+    /// None of its parameters has an initializer, and none is a rest parameter (ECMA-262, 15.1.3:
+    /// IsSimpleParameterList).
+    pub simple: bool,
     pub inner: Vec<Found>,
 }
 

@@ -15,6 +15,3 @@ pub mod syntax;
 pub use found::{Found, SyntaxBody, SyntaxNode};
 pub use full::Full;
 pub use syntax::Syntax;
-
-#[cfg(test)]
-mod tests;

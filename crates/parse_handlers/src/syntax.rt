@@ -1,11 +1,13 @@
 //! The handler that keeps of what is read only the functions in it.
 
 ghost use Rattle.std.specs.Prelude.{◌≡◌, ◌∷◌, [], List, Option, IfOk, option_map};
+ghost use Rattle.std.specs.List.{list_all};
 ghost use Rattle.script_grammar.specs.Interpretation.{Interpretation, text_of, named, maybe_named};
 ghost use Rattle.script_grammar.specs.Shows.{ShowAll, ShowMaybe, ShowArgs, ShowOperand, ShowPart, ShowTail, ShowKey, ShowFunc, ShowBind, ShowInit, ShowEach, ShowClause};
 ghost use Rattle.script_grammar.specs.Tree as model;
 ghost use Rattle.script_grammar.specs.TreeLists as part;
 ghost use Rattle.script_grammar.specs.TreeLists.{exprs_of, maybe_expr_of, items_of, maybe_args_of, operands_of, parts_of, tails_of, props_of, binds_of, clauses_of, stmts_of, maybe_stmt_of};
+ghost use Rattle.parse_handlers.specs.Held.{has_braces, is_plain};
 ghost use Rattle.parse_handlers.specs.Inner.{Inner, no_inner, kind_of, in_function};
 ghost use Rattle.parse_handlers.specs.FoundOf.{FoundAs, found_of, founds_before, HoldsExpr, HoldsStmt, HoldsProp, HoldsBody, HoldsFunction};
 
@@ -13,8 +15,8 @@ use crate::found::{Found, SyntaxBody, SyntaxNode};
 use crate::gather::{Gather, with};
 use script_grammar::handler::Handler;
 use script_grammar::node::{
-    NodeArgs, NodeBind, NodeClause, NodeEach, NodeFunc, NodeInit, NodeKey, NodeOperand, NodeTail,
-    NodeTemplatePart,
+    NodeArgs, NodeBind, NodeClause, NodeEach, NodeFunc, NodeFuncBody, NodeInit, NodeKey,
+    NodeOperand, NodeParam, NodeTail, NodeTemplatePart,
 };
 use script_grammar::token::{Decl, FuncForm};
 use script_grammar::tree::Ident;
@@ -56,13 +58,47 @@ fn atom_of(name: Option<Ident>) -> Option<u32>
     }
 }
 
-fn found(extent: Extent, kind: FuncKind, name: Option<u32>, inner: Vec<Found>) -> Found
-    ensures { (i : Interpretation) → found_of i result ≡ record { start = extent.start; end = extent.end; kind = kind; name = option_map (text_of i) name; inner = founds_before i inner.items no_inner } }
+/// Whether a body stands in braces.
+fn is_braced(body: &NodeFuncBody<SyntaxNode, SyntaxBody>) -> bool
+    ensures { result ≡ has_braces body.now }
+{
+    match body {
+        NodeFuncBody::Braced(_) => true,
+        NodeFuncBody::Short(_) => false,
+        NodeFuncBody::Passed => true,
+    }
+}
+
+/// Whether a parameter has neither an initializer nor a rest mark.
+fn is_plain(param: &NodeParam<SyntaxNode>) -> bool
+    ensures { result ≡ is_plain param.now }
+{
+    param.value.is_none() && !param.rest
+}
+
+/// Whether no parameter has an initializer or a rest mark.
+fn is_simple(params: &[NodeParam<SyntaxNode>]) -> bool
+    ensures { result ≡ list_all is_plain params.now }
+{
+    params.iter().all(|param| is_plain(param))
+}
+
+fn found(
+    extent: Extent,
+    kind: FuncKind,
+    name: Option<u32>,
+    braced: bool,
+    simple: bool,
+    inner: Vec<Found>,
+) -> Found
+    ensures { (i : Interpretation) → found_of i result ≡ record { start = extent.start; end = extent.end; kind = kind; name = option_map (text_of i) name; braced = braced; simple = simple; inner = founds_before i inner.items no_inner } }
 {
     Found {
         extent,
         kind,
         name,
+        braced,
+        simple,
         inner,
     }
 }
@@ -98,6 +134,8 @@ impl Syntax {
             bare: _,
             body,
         } = func;
+        let braced = is_braced(&body);
+        let simple = is_simple(&params);
         let inside = with(self.nothing(), params)?;
         let inside = with(inside, body)?;
         let mut node = self.nothing();
@@ -105,6 +143,8 @@ impl Syntax {
             Extent { start, end },
             kind_of(form, declared),
             atom_of(name),
+            braced,
+            simple,
             inside.found,
         ))?;
         Ok(node)

@@ -11,6 +11,3 @@ pub mod split;
 
 pub use both::Both;
 pub use split::{Pair, Split};
-
-#[cfg(test)]
-mod tests;

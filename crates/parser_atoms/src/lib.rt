@@ -2,16 +2,24 @@
 //!
 //! The scanner interns every name, word, string and template part here, so that the parsers compare numbers and
 //! not texts; the merger of stencils interns the texts of all its parts. [`Atoms::intern`] answers the place of a
-//! text, which it appends where it was not there, and looks it up by its hash.
+//! text, which it appends where it was not there.
+//!
+//! A text is looked up by its digest, a number of 64 bits, in a tree ordered by digests, and where another text has
+//! the same digest, in a tree ordered by the texts themselves. Both trees are balanced, so interning n texts takes
+//! at most n log n comparisons of numbers and of texts, whatever the texts are: no text can be chosen that makes it
+//! slower, though the digest is public. A text is stored once, unless its digest is another one's too.
 #![tactic(auto)]
 
+mod trees;
+
 ghost use Rattle.std.specs.Prelude.{◌≡◌, ◌+◌, ◌-◌, ◌^◌, ◌<◌, ◌==◌, [], ◌∷◌, ◌++◌, IfOk, OnOk, IfSome, IfNone, OnErr, length, slice_get, Some};
+ghost use Rattle.parser_atoms.specs.Digest.{digest_of};
 ghost use Rattle.parser_atoms.specs.Places.{AreWithoutEquals, Interns, StandsIn};
 
 use std::alloc::{AllocError, Global};
-use std::collections::HashMap;
 use std::marker::Model;
 use stencil_data::Text;
+use trees::Trees;
 
 /// Texts without equals, each named by its place in their list: its atom.
 ///
@@ -19,7 +27,7 @@ use stencil_data::Text;
 #[derive(Drop)]
 pub struct Atoms {
     texts: Vec<Text>,
-    places: HashMap<Vec<u16>, u32>,
+    trees: Trees,
 }
 
 impl Model for Atoms {
@@ -30,7 +38,23 @@ impl Model for Atoms {
 
     ghost view = { λ atoms. atoms.texts.items };
 
-    ghost invariant = { λ atoms. IsIndexed atoms.texts.items atoms.places };
+    ghost invariant = { λ atoms. IsIndexed atoms.texts.items atoms.trees.firsts atoms.trees.others };
+}
+
+// Fowler, Noll and Vo's offset basis and prime for 64 bits.
+const OFFSET_BASIS: u64 = 14695981039346656037;
+
+const PRIME: u64 = 1099511628211;
+
+// The digest of a text.
+fn digest(units: &[u16]) -> u64
+    ensures { result ≡ digest_of units.now }
+{
+    let mut digest = OFFSET_BASIS;
+    for unit in units {
+        digest = (digest ^ *unit as u64).wrapping_mul(PRIME);
+    }
+    digest
 }
 
 impl Atoms {
@@ -40,7 +64,7 @@ impl Atoms {
     {
         Atoms {
             texts: Vec::new(alloc),
-            places: HashMap::new(alloc),
+            trees: Trees::new(alloc),
         }
     }
 
@@ -51,38 +75,40 @@ impl Atoms {
         ensures err { OnErr result (self.new ≡ self.old) }
         ensures apart { AreWithoutEquals self.new }
     {
-        match self.place(units) {
+        let digest = digest(units);
+        match self.place(units, digest) {
             Some(place) => Ok(place),
-            None => self.append(alloc, units),
+            None => self.append(alloc, units, digest),
         }
     }
 
     // The place of a text.
-    fn place(&self, units: &[u16]) -> Option<u32>
+    fn place(&self, units: &[u16], digest: u64) -> Option<u32>
+        requires digest { digest ≡ digest_of units.now }
         ensures found { IfSome result (λ place. slice_get self.now place ≡ Some units.now) }
         ensures absent { IfNone result (¬ (StandsIn self.now units.now)) }
         ensures apart { AreWithoutEquals self.now }
     {
-        self.places.get(units).copied()
+        self.trees.place(&self.texts, units, digest)
     }
 
     // Appends a text that is not there.
-    fn append(&mut self, alloc: Global, units: &[u16]) -> Result<u32, AllocError>
+    fn append(&mut self, alloc: Global, units: &[u16], digest: u64) -> Result<u32, AllocError>
         requires few { length self.old < 2 ^ 32 - 1 }
         requires absent { ¬ (StandsIn self.old units.now) }
+        requires digest { digest ≡ digest_of units.now }
         ensures place { IfOk result (λ atom. atom ≡ length self.old) }
         ensures ok { OnOk result (self.new ≡ self.old ++ units.now ∷ []) }
         ensures err { OnErr result (self.new ≡ self.old) }
     {
         let atom = self.texts.len() as u32;
         let text = Text::of(alloc, units)?;
-        let key = Vec::from_slice(alloc, units)?;
         self.texts.push(text)?;
-        match self.places.insert(key, atom) {
-            Ok(_) => Ok(atom),
-            Err(_) => {
+        match self.trees.put(alloc, units, digest, atom) {
+            Ok(()) => Ok(atom),
+            Err(error) => {
                 self.texts.truncate(atom as usize);
-                Err(AllocError)
+                Err(error)
             }
         }
     }
@@ -114,7 +140,7 @@ impl Atoms {
         ensures list { result.items ≡ self }
         ensures apart { AreWithoutEquals self }
     {
-        let Atoms { texts, places: _ } = self;
+        let Atoms { texts, trees: _ } = self;
         texts
     }
 }

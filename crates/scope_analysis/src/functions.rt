@@ -23,17 +23,13 @@ ghost use Rattle.scope_analysis.specs.Walked.{within, Adds, OpensAny, AreScopes}
 use crate::names::{DeclaredName, push_top_lexical_names};
 use crate::place::{Known, narrow, same_units, units_of};
 use crate::scoping::{Around, Scoping, add_stmts, open_scope, push_scope};
+use crate::special_names::{ARGUMENTS, THIS};
 use crate::texts::without;
 use crate::toplevel::{push_all, top_vars};
 use script_grammar::token::FuncForm;
 use script_grammar::tree::{Func, FuncBody, Param, Stmt};
 use std::alloc::{AllocError, Global};
 use stencil_data::{BindKind, ClosedName, FuncKind, ScopeData, ScopeKind, Text};
-
-// `arguments`, and `.this`, the name under which a function finds `this`.
-const ARGUMENTS: [u16; 9] = [97, 114, 103, 117, 109, 101, 110, 116, 115];
-
-const THIS: [u16; 5] = [46, 116, 104, 105, 115];
 
 /// Whether a function uses `arguments` and `this` itself, functions inside it left out.
 #[derive(Clone, Copy, Debug)]
@@ -60,7 +56,8 @@ fn has_value(param: &Param) -> bool
     }
 }
 
-fn has_initializer(params: &[Param]) -> bool
+/// Whether some parameter has an initializer.
+pub fn has_initializer(params: &[Param]) -> bool
     ensures { (i : Interpretation) → result ≡ defined.has_initializer (params_of (map (param_of i) params.now)) }
 {
     for param in params {

@@ -15,9 +15,11 @@ mod names;
 mod place;
 mod resolving;
 mod scoping;
+pub mod special_names;
 mod texts;
 mod toplevel;
 
-pub use functions::{OwnUses, scopes_using};
+pub use functions::{OwnUses, has_initializer, scopes_using};
+pub use place::{same_units, units_of};
 pub use resolving::resolve;
 pub use toplevel::top_scopes;

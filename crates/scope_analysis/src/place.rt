@@ -52,7 +52,7 @@ pub fn narrow(number: usize) -> u32
     }
 }
 
-/// The units of an atom's text.
+/// The units of an atom's text. An atom without a text stands for the empty text.
 pub fn units_of<'a>(texts: &'a [Text], atom: u32) -> &'a [u16]
     ensures { result.now ≡ stands.text_at texts.now atom }
 {

@@ -18,32 +18,12 @@ ghost use Rattle.scope_functions.specs.OwnUse.{uses_itself};
 use crate::declared::{is_top_lexical, is_top_var};
 use crate::expressions::{uses_expr, uses_params};
 use crate::statements::uses_stmts;
-use crate::wanted::{ARGUMENTS, THIS, Wanted};
-use scope_analysis::{OwnUses, scopes_using};
-use script_grammar::tree::{Func, FuncBody, Param, Stmt};
+use crate::wanted::Wanted;
+use scope_analysis::special_names::{ARGUMENTS, THIS};
+use scope_analysis::{OwnUses, has_initializer, scopes_using};
+use script_grammar::tree::{Func, FuncBody, Stmt};
 use std::alloc::{AllocError, Global};
 use stencil_data::{ClosedName, FuncKind, ScopeData, Text};
-
-fn has_value(param: &Param) -> bool
-    ensures { (i : Interpretation) → result ≡ defined.has_initializer (params_of (param_of i param.now ∷ [])) }
-{
-    match param.value {
-        Some(_) => true,
-        None => false,
-    }
-}
-
-// Whether some parameter has an initializer.
-fn has_initializer(params: &[Param]) -> bool
-    ensures { (i : Interpretation) → result ≡ defined.has_initializer (params_of (map (param_of i) params.now)) }
-{
-    for param in params {
-        if has_value(param) {
-            return true;
-        }
-    }
-    false
-}
 
 // Whether a braced body binds the name around its statements. Its var names are its own where a parameter has an
 // initializer.

@@ -19,6 +19,3 @@ mod scanning;
 mod words;
 
 pub use scanning::scan;
-
-#[cfg(test)]
-mod tests;

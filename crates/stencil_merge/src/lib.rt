@@ -21,6 +21,3 @@ mod whole;
 
 pub use merger::Merger;
 pub use whole::{CompiledAlone, merge};
-
-#[cfg(test)]
-mod tests;

@@ -17,8 +17,6 @@ mod numbering;
 mod numbers;
 mod part;
 mod range;
-#[cfg(test)]
-mod tests;
 mod whole;
 
 ghost use Rattle.std.specs.Prelude.{◌≡◌, IfOk, Err};

@@ -20,8 +20,6 @@ mod numbering;
 mod part;
 mod sink;
 mod stencil;
-#[cfg(test)]
-mod tests;
 mod writer;
 
 pub use image::write_image;

@@ -1,2 +1,3 @@
+mod First
 pub mod Found
 pub mod Interning

@@ -1,6 +1,11 @@
 use Rattle.std.proofs.Common.{arith}
 use Rattle.track_atoms.proofs.Interning.{interned, still_interned, interned_small, none_small}
+use Rattle.track_atoms.proofs.First.{first_known}
 use Rattle.track_atoms.proofs.known_words.Goals as goal
+
+pub returns-clause-fixed : goal.returns-clause-fixed
+returns-clause-fixed c = first_known c.args.atoms.now c.intern.new.self c.intern-2.new.self c.intern-3.new.self c.intern-4.new.self c.intern-5.new.self c.intern-6.new.self c.intern-7.new.self _ c.requires
+    c.in_ok-eval.ensures.ok c.in_ok-arguments.ensures.ok c.in_ok-this.ensures.ok c.in_ok-proto.ensures.ok c.in_ok-get.ensures.ok c.in_ok-set.ensures.ok c.in_ok-strict.ensures.ok
 
 pub returns-clause-words : goal.returns-clause-words
 returns-clause-words c = record {

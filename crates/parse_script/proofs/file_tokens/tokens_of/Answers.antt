@@ -24,4 +24,5 @@ returns-clause-sound c = record {
   apart = subst AreWithoutEquals (sym c.into_texts-texts.ensures.list) c.into_texts-texts.ensures.apart;
   few = subst (λ (ts : List (List ℕ)). length ts < 2 ^ 32) (sym c.into_texts-texts.ensures.list) (subst (λ (ts : List (List ℕ)). length ts < 2 ^ 32) c.atoms-2.view_is c.atoms-2.invariant.few);
   words = subst (λ (ts : List (List ℕ)). HasWords ts c.in_ok-known.known) (sym c.into_texts-texts.ensures.list) (words_kept c.known_words.new.atoms c.scan.new.atoms c.in_ok-known.known c.in_ok-tokens.ensures.keeps c.in_ok-known.ensures.words);
+  fixed = c.in_ok-known.ensures.fixed;
 }

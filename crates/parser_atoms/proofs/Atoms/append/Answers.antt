@@ -1,6 +1,8 @@
-use Rattle.std.proofs.Common.{◌≡◌, ◌++◌, ◌∷◌, [], ◌<◌, ◌-◌, ◌^◌, length, List, ℕ, subst, sym, arith}
+use Rattle.std.proofs.Common.{◌≡◌, ◌∙◌, ◌++◌, ◌∷◌, [], ◌<◌, ◌-◌, ◌^◌, length, List, ℕ, subst, sym, ap, arith, take}
+use Rattle.std.proofs.Math.Seq.{take-append_seam}
 use Rattle.parser_atoms.specs.Places.{StandsIn}
-use Rattle.parser_atoms.proofs.Interning.{indexed_pushed}
+use Rattle.parser_atoms.specs.Indexed.{IsIndexed}
+use Rattle.parser_atoms.proofs.Interning.{indexed_same}
 use Rattle.parser_atoms.proofs.Atoms.append.Goals as goal
 
 pub invariant_of-self-in-Ok : goal.invariant_of-self-in-Ok
@@ -10,5 +12,15 @@ invariant_of-self-in-Ok c =
     let few : length c.self.inside.texts.items < 2 ^ 32 - 1 = subst (λ (ts : List (List ℕ)). length ts < 2 ^ 32 - 1) (sym same) c.requires.few in
     let pushed : c.push.new.self.items ≡ c.self.inside.texts.items ++ c.in_ok-text.text ∷ [] = c.in_ok-push.ensures.items in
     let at : c.len-atom.result ≡ length c.self.inside.texts.items = omega (arith, c.self.inside.texts.ok.0, c.len-atom.ensures) in
-    indexed_pushed c.self.inside.texts.items c.push.new.self.items c.self.inside.places c.insert.new.self c.in_ok-key.key c.args.units.now c.in_ok-text.text _
-    c.self.invariant absent at c.in_ok-key.ensures.items pushed c.in_ok-text.ensures few c.in-Ok.ensures.updates
+    subst (λ (ts : List (List ℕ)). IsIndexed ts c.put.new.self.firsts c.put.new.self.others) (sym (pushed ∙ ap (λ (t : List ℕ). c.self.inside.texts.items ++ t ∷ []) c.in_ok-text.ensures))
+    (c.in-Ok.ensures.ok c.self.inside.texts.items c.self.invariant absent at few)
+
+pub invariant_of-self-in-Err : goal.invariant_of-self-in-Err
+invariant_of-self-in-Err c =
+    let pushed : c.push.new.self.items ≡ c.self.inside.texts.items ++ c.in_ok-text.text ∷ [] = c.in_ok-push.ensures.items in
+    let at : c.len-atom.result ≡ length c.self.inside.texts.items = omega (arith, c.self.inside.texts.ok.0, c.len-atom.ensures) in
+    let back : c.truncate.new.self.items ≡ c.self.inside.texts.items =
+    c.truncate.ensures.items ∙ ap (λ (n : ℕ). take n c.push.new.self.items) at ∙ ap (λ (ts : List (List ℕ)). take (length c.self.inside.texts.items) ts) pushed
+    ∙ take-append_seam c.self.inside.texts.items (c.in_ok-text.text ∷ []) in
+    indexed_same c.self.inside.texts.items c.truncate.new.self.items c.self.inside.trees.firsts c.put.new.self.firsts c.self.inside.trees.others c.put.new.self.others
+    c.self.invariant c.in-Err.ensures.firsts c.in-Err.ensures.others back

@@ -1,0 +1,6 @@
+use Rattle.std.proofs.Common.{◌≡◌, take}
+use Rattle.parser_atoms.specs.Digest.{digest_of}
+use Rattle.parser_atoms.proofs.digest.Given as goal
+
+abbrev pub invariant-loop-unit : goal.invariant-loop-unit
+invariant-loop-unit l = l.digest ≡ digest_of (take l.unit-index l.units)

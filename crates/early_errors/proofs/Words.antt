@@ -1,23 +1,16 @@
 -- The known words, where no two texts are equal: an atom that reads as one of them is its atom.
-use Rattle.std.proofs.Common.{◌≡◌, ◌≢◌, ℕ, List, [], sym, ap, ◌∙◌}
+use Rattle.std.proofs.Common.{◌≡◌, ◌≢◌, ℕ, List, []}
 use Rattle.std.specs.Prelude.{slice_get, Some}
-use Rattle.script_grammar.specs.Interpretation.{Interpretation, text_of}
+use Rattle.script_grammar.specs.Interpretation.{Interpretation}
 use Rattle.parse_track.specs.declared.region.Known.{Known}
 use Rattle.track_renaming_laws.specs.Texts.{AreWithoutEquals}
-use Rattle.track_renaming_laws.proofs.Standing.{stands_nonempty}
 use Rattle.early_context_free.specs.Known.{KnowsWord, KnowsWords}
 use Rattle.early_script_errors.specs.Told.{Knows}
-use Rattle.early_script_errors.proofs.Words.{reads}
+use Rattle.early_script_errors.proofs.Words.{reads, only_atom}
 
 module _ (i : Interpretation) (once : AreWithoutEquals i.texts) where
   knows_word : (atom : ℕ) (text : List ℕ) → text ≢ [] → slice_get i.texts atom ≡ Some text → KnowsWord i atom text
-  knows_word atom text some h = record {
-    has = reads i atom text h;
-    only = λ other is. once text other atom (sym_stands other is) h;
-  }
-    where
-      sym_stands : (other : ℕ) → text_of i other ≡ text → slice_get i.texts other ≡ Some text
-      sym_stands other is = stands_nonempty i.texts other (λ e. some (sym is ∙ e)) ∙ ap Some is
+  knows_word atom text some h = record { has = reads i atom text h; only = only_atom i atom text once some h }
 
   pub knows_words : (known : Known) → Knows i.texts known → KnowsWords i known
   knows_words known h = record {

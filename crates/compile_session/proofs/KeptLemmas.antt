@@ -12,6 +12,8 @@ use Rattle.script_grammar.specs.TreeLists.{stmts_of}
 use Rattle.script_grammar.specs.TreeOf.{stmt_of}
 use Rattle.parse_bodies.specs.declared.whole.Script.{Script}
 use Rattle.parse_bodies.specs.Whole.{IsText}
+use Rattle.parse_script.specs.declared.file_tokens.FileTokens.{FileTokens}
+use Rattle.parse_script.specs.Tokens.{tokens_in, AreTokensOf, IsSound}
 use Rattle.parse_track.specs.declared.region.ClosedAt.{ClosedAt}
 use Rattle.parse_track.specs.declared.region.Early.{Early}
 use Rattle.parse_track.specs.Counted.{function_count}
@@ -27,9 +29,10 @@ use Rattle.emit_limit_laws.proofs.TellingFunctions.{told_count}
 use Rattle.script_scanner.specs.Lexemes.{lexemes}
 use Rattle.parse_attach_bodies.specs.Seats.{Seats, at_hand, giving, statements}
 use Rattle.early_errors.specs.Kept.{AreKept}
-use Rattle.early_errors.specs.Kept as kept
-use Rattle.early_errors.specs.declared.checking.Checked.{Checked}
-use Rattle.early_errors.proofs.Own.{own, top_own, bodies_own}
+use Rattle.early_script_errors.specs.declared.checking.Checked.{Checked}
+use Rattle.early_script_errors.specs.Told.{own}
+use Rattle.early_script_errors.specs.Told as told
+use Rattle.early_errors.proofs.Own.{top_own, bodies_own}
 use Rattle.compile_eager.specs.Compiles.{AreSeated}
 use Rattle.compile_eager.specs.Compiles as eager
 use Rattle.session_words.specs.declared.options.Command.{Command}
@@ -39,11 +42,9 @@ use Rattle.session_specs.specs.Answer.{IsWritten}
 use Rattle.compile_specs.specs.Counted.{HasFunctions}
 use Rattle.session_specs.specs.Sources.{IsValid, HasAll, missing}
 use Rattle.session_specs.specs.Sources as source
-use Rattle.compile_session.specs.declared.file_tokens.FileTokens.{FileTokens}
 use Rattle.compile_session.specs.Built.{is_source}
 use Rattle.compile_session.specs.Listed.{is_listed}
-use Rattle.compile_session.specs.Tokens.{tokens_in, IsSound}
-use Rattle.compile_session.specs.Answers.{AreTokensOf, IsKeptScript, IsMissing}
+use Rattle.compile_session.specs.Answers.{IsKeptScript, IsMissing}
 use Rattle.compile_session.proofs.OutcomeLemmas.{of_file, knows_names, names_of_text, script_read}
 
 -- ---- what was found in the script
@@ -55,9 +56,9 @@ pub record IsFound (file : FileTokens) (items : Stmts) (checked : Checked) : Typ
   pub closed : map (renamed_bound (text_at file.texts.items)) (bounds_of checked.closed.items) ≡ closed_names items
 
 pub found_of : (file : FileTokens) (script : Script (Vec Stmt Global)) (items : Stmts) (checked : Checked) (top : List Stmt) (bodies : List (Vec Stmt Global)) → IsSound file → IsKeptScript file script items → top ≡ script.top.items → bodies ≡ script.bodies.items
-    → ((texts : List (List ℕ)) (items : Stmts) → kept.IsOf texts file.known items → AreKept texts top bodies items → checked.early ≡ early_error items)
-    → ((texts : List (List ℕ)) (items : Stmts) → kept.IsOf texts file.known items → AreKept texts top bodies items → checked.functions ≡ function_count (tells_script items))
-    → ((texts : List (List ℕ)) (items : Stmts) → kept.IsOf texts file.known items → AreKept texts top bodies items → map (renamed_bound (text_at texts)) (bounds_of checked.closed.items) ≡ closed_names items)
+    → ((texts : List (List ℕ)) (items : Stmts) → told.IsOf texts file.known items → AreKept texts top bodies items → checked.early ≡ early_error items)
+    → ((texts : List (List ℕ)) (items : Stmts) → told.IsOf texts file.known items → AreKept texts top bodies items → checked.functions ≡ function_count (tells_script items))
+    → ((texts : List (List ℕ)) (items : Stmts) → told.IsOf texts file.known items → AreKept texts top bodies items → map (renamed_bound (text_at texts)) (bounds_of checked.closed.items) ≡ closed_names items)
     → IsFound file items checked
 found_of file script items checked top bodies sound k top_is bodies_are early functions closed =
     let texts = file.texts.items in

@@ -1,3 +1,4 @@
+pub mod FaultLemmas
 pub mod FileLemmas
 pub mod FilesLemmas
 pub mod ImageLemmas
@@ -6,11 +7,8 @@ pub mod KeptLemmas
 pub mod ListingLemmas
 pub mod OrderLemmas
 pub mod OutcomeLemmas
-pub mod ReadLemmas
 pub mod RunLemmas
 pub mod SourceLemmas
-pub mod TextLemmas
-pub mod TokenLemmas
 pub mod TrialLemmas
 pub mod WordLaws
 pub mod WorkLemmas

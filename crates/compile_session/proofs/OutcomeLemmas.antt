@@ -3,27 +3,33 @@ use Rattle.std.proofs.Common.{◌≡◌, ℕ, zero, suc, ◌≤◌, ◌<◌, Lis
 use Rattle.std.specs.declared.alloc.Global.{Global}
 use Rattle.script_grammar.specs.declared.token.Token.{Token}
 use Rattle.script_grammar.specs.declared.tree.Stmt.{Stmt}
+use Rattle.script_grammar.specs.Braced.{braced_all}
 use Rattle.script_grammar.specs.Fault.{Refusal as Fault, FirstFault, ScriptPart}
+use Rattle.script_grammar.specs.Interpretation.{Interpretation}
 use Rattle.script_grammar.specs.Lexeme.{Lexeme, lexeme_of}
 use Rattle.script_grammar.specs.Pieces.{whole}
+use Rattle.script_grammar.specs.Shows.{ShowAll}
 use Rattle.script_grammar.specs.Tree.{Stmts, no_stmts}
+use Rattle.grammar_parser_specs.specs.Filling.{fill_stmts}
 use Rattle.grammar_start_laws.specs.Own.{TokensRise}
 use Rattle.parse_bodies.specs.declared.whole.Script.{Script}
 use Rattle.parse_bodies.specs.Whole.{IsText}
+use Rattle.parse_handlers.specs.Kept.{IsBody}
+use Rattle.parse_script.specs.declared.file_tokens.FileTokens.{FileTokens}
+use Rattle.parse_script.specs.Reading.{under, IsShown}
+use Rattle.parse_script.specs.Tokens.{tokens_in, AreTokensOf, IsSound}
+use Rattle.parse_script.proofs.ReadLemmas.{ShowsParts, shows_parts}
 use Rattle.script_grammar.specs.NameTokens.{NamesAreFull}
 use Rattle.scope_analysis.specs.FunctionTree.{KnowsNames}
 use Rattle.track_atoms.proofs.Found.{knows_names as names_known}
 use Rattle.early_errors.specs.Kept.{IsKept, AreKept}
 use Rattle.early_errors.specs.Kept as kept
+use Rattle.early_script_errors.specs.Told as told
 use Rattle.session_specs.specs.Sources.{IsRead}
 use Rattle.session_specs.specs.Sources as source
-use Rattle.compile_session.specs.declared.file_tokens.FileTokens.{FileTokens}
-use Rattle.compile_session.specs.Reading.{IsScriptKept}
-use Rattle.compile_session.specs.Tokens.{tokens_in, IsSound}
-use Rattle.compile_session.specs.Answers.{AreTokensOf, IsKeptScript}
+use Rattle.compile_session.specs.Answers.{IsKeptScript}
 use Rattle.compile_session.proofs.SourceLemmas.{read_of}
 use Rattle.compile_session.proofs.InternLemmas.{knows_of}
-use Rattle.compile_session.proofs.TextLemmas.{one_text}
 
 -- ---- the offset of a token
 
@@ -69,7 +75,7 @@ pub names_of_text : (file : FileTokens) (items : Stmts) → IsSound file → (te
 names_of_text file items sound text = names_front text.inner (text.end ∷ []) (subst NamesAreFull text.split sound.names)
 
 -- the tree is that of a script of the file
-pub of_file : (file : FileTokens) (items : Stmts) → IsSound file → IsText (tokens_in file) items → kept.IsOf file.texts.items file.known items
+pub of_file : (file : FileTokens) (items : Stmts) → IsSound file → IsText (tokens_in file) items → told.IsOf file.texts.items file.known items
 of_file file items sound text = record {
   tokens = text.inner;
   end = text.end;
@@ -81,15 +87,25 @@ of_file file items sound text = record {
 }
 
 -- what the trees that were kept stand for
-pub kept_script : (file : FileTokens) (script : Script (Vec Stmt Global)) → ((given : ℕ → Stmts) → IsScriptKept (record { texts = file.texts.items; bodies = given }) (tokens_in file) script.top.items script.bodies.items) → (items : Stmts) × IsKeptScript file script items
+
+shown_bodies : (i : Interpretation) (bs : List (Vec Stmt Global)) (ts : List Stmts) → ShowAll (IsBody i) bs ts → map (kept.statements i) bs ≡ ts
+shown_bodies i [] [] h = refl
+shown_bodies i [] (t ∷ ts) h = absurd h
+shown_bodies i (b ∷ bs) [] h = absurd h
+shown_bodies i (b ∷ bs) (t ∷ ts) h = ap (λ (x : Stmts). x ∷ map (kept.statements i) bs) h.0 ∙ ap (λ (xs : List Stmts). t ∷ xs) (shown_bodies i bs ts h.1)
+
+kept_of : (i : Interpretation) (script : Script (Vec Stmt Global)) (items : Stmts) → ShowsParts IsBody i script items → IsKept i script.top.items script.bodies.items items
+kept_of i script items h = record { script = h.top; braced = shown_bodies i script.bodies.items (map (fill_stmts (kept.given i)) (braced_all items)) h.bodies }
+
+pub kept_script : (file : FileTokens) (script : Script (Vec Stmt Global)) → ((given : ℕ → Stmts) → IsShown IsBody (under file.texts.items given) (tokens_in file) script) → (items : Stmts) × IsKeptScript file script items
 kept_script file script h =
     let first = h (λ n. no_stmts) in (
       first.items,
       record {
         text = first.is;
         kept = λ given.
-            subst (λ (x : Stmts). IsKept (record { texts = file.texts.items; bodies = given }) script.top.items script.bodies.items x)
-            (one_text (tokens_in file) (h given).items first.items (h given).is first.is) (h given).kept;
+            let i : Interpretation = under file.texts.items given in
+            kept_of i script first.items (shows_parts IsBody i (tokens_in file) script first.items first.is (h given));
       },
     )
 

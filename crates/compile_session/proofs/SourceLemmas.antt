@@ -28,7 +28,8 @@ use Rattle.compile_session.specs.declared.answer.FileAnswer.{FileAnswer}
 use Rattle.compile_session.specs.Built.{is_source}
 use Rattle.compile_session.specs.Answers.{IsAnswerFor, Settles}
 use Rattle.compile_session.specs.Faulty.{IsFaulty}
-use Rattle.compile_session.proofs.TextLemmas.{one_text, text_no_fault, one_offset, one_kind}
+use Rattle.parse_script.proofs.TextLemmas.{one_text}
+use Rattle.compile_session.proofs.FaultLemmas.{text_no_fault, one_offset, one_kind}
 
 -- ---- one tree
 

@@ -1,12 +1,13 @@
 -- What the calls for one file answer.
-use Rattle.std.specs.Prelude.{◌≡◌, ℕ, ◌≤◌, Bool, List, [], length, Option, Some, None, Vec, IsUtf8}
+use Rattle.std.specs.Prelude.{◌≡◌, ℕ, Bool, List, [], length, Option, Some, None, Vec}
 use Rattle.std.specs.declared.alloc.Global.{Global}
 use Rattle.script_grammar.specs.declared.tree.Stmt.{Stmt}
 use Rattle.script_grammar.specs.Tree.{Stmts}
-use Rattle.script_scanner.specs.Lexemes.{lexemes}
 use Rattle.session_outside.specs.Loops.{IsWholeBehind}
 use Rattle.parse_bodies.specs.declared.whole.Script.{Script}
 use Rattle.parse_bodies.specs.Whole.{IsText}
+use Rattle.parse_script.specs.declared.file_tokens.FileTokens.{FileTokens}
+use Rattle.parse_script.specs.Tokens.{tokens_in}
 use Rattle.early_errors.specs.Kept.{AreKept}
 use Rattle.session_words.specs.declared.options.Command.{Command}
 use Rattle.session_words.specs.Asked.{Wanted, Job}
@@ -19,10 +20,8 @@ use Rattle.compile_session.specs.declared.answer.FileAnswer.{FileAnswer}
 use Rattle.compile_session.specs.declared.source.SourceScript.{SourceScript}
 use Rattle.compile_session.specs.declared.source.SourceText.{SourceText}
 use Rattle.compile_session.specs.declared.source.SourceText.TheVariants as source
-use Rattle.compile_session.specs.declared.file_tokens.FileTokens.{FileTokens}
 use Rattle.compile_session.specs.declared.refusal.Refusal.{Refusal}
 use Rattle.compile_session.specs.declared.refusal.Refusal.TheVariants as refusal
-use Rattle.compile_session.specs.Tokens.{tokens_in}
 
 -- the refusal that the code's stands for
 abbrev pub refusal_of : Refusal → line.Refusal
@@ -55,13 +54,6 @@ IsSourceText want file (source.Refused why) = IsSource want file (IsRefused (ref
 pub record IsKeptScript (file : FileTokens) (script : Script (Vec Stmt Global)) (items : Stmts) : Type 0 where
   pub text : IsText (tokens_in file) items
   pub kept : AreKept file.texts.items script.top.items script.bodies.items items
-
--- these bytes are UTF-8, and these are their tokens
-pub record AreTokensOf (file : FileTokens) (size : ℕ) (bytes : List ℕ) : Type 0 where
-  pub utf8 : IsUtf8 bytes
-  pub tokens : tokens_in file ≡ lexemes bytes
-  pub long : size ≡ length bytes
-  pub short : length bytes ≤ most_bytes
 
 -- what is written for a file that is within the limit, and whether it is refused: this, and nothing else
 pub record IsAnswerFor (command : Command) (want : Wanted) (name file : List ℕ) (given : FileAnswer) : Type 0 where

@@ -3,6 +3,4 @@ pub mod Built
 pub mod Faulty
 pub mod Files
 pub mod Listed
-pub mod Reading
-pub mod Tokens
 pub mod Workers

@@ -1,16 +1,15 @@
 //! One command of the program, from its words to the bytes that the sink takes.
 //!
 //! It stands on `session_words`, which reads the words of every command, on `session_outside`, which reads files and writes output, on
-//! `helper_tasks`, by whose workers files are worked on side by side, on the text and the tokens of `unit_text` and
-//! `script_scanner`, on the parser of `parse_bodies`, by the handler of `parse_handlers` that keeps trees, on `early_errors`,
-//! which finds the early errors of kept trees, on `parse_attach_bodies`, which puts bodies into their places, on `compile_eager`,
-//! which compiles a script with all its functions, and on `script_image`, which prints it; for images on `session_images`, and
-//! for generated texts on `session_trial`. Its answer is that of the definitions of `session_specs`. Only the program stands
-//! on it.
+//! `helper_tasks`, by whose workers files are worked on side by side, on `parse_script`, which reads the tokens and the script of
+//! a file, here by the handler of `parse_handlers` that keeps trees, on `early_errors`, which finds the early errors of kept
+//! trees, on `parse_attach_bodies`, which puts bodies into their places, on `compile_eager`, which compiles a script with all its
+//! functions, and on `script_image`, which prints it; for images on `session_images`, and for generated texts on
+//! `session_trial`. Its answer is that of the definitions of `session_specs`. Only the program stands on it.
 //!
-//! `work` says what words ask for. `file_tokens`, `reading`, `source`, `listing` and `printing` are the steps of the way of one
-//! file of source text, `image` is that of an image, `file_order`, `workers` and `files` those of all files of a command, and
-//! `trial` that of a generated text, each with the definition that it meets in specs/.
+//! `work` says what words ask for. `source`, `listing` and `printing` are the steps of the way of one file of source text,
+//! `image` is that of an image, `file_order`, `workers` and `files` those of all files of a command, and `trial` that of a
+//! generated text, each with the definition that it meets in specs/.
 //!
 //! The main contract is that of `run`: where all was done, the sink has taken the bytes of the definition's answer to the words
 //! and the files, and no others, whatever the number of workers and their schedule; each status comes exactly with its cause.
@@ -20,13 +19,11 @@ mod answer;
 mod command;
 mod file;
 mod file_order;
-mod file_tokens;
 mod files;
 mod image;
 mod lines;
 mod listing;
 mod printing;
-mod reading;
 mod refusal;
 mod source;
 mod status;

@@ -6,17 +6,17 @@ ghost use Rattle.script_grammar.specs.Tree.{Stmts};
 ghost use Rattle.session_specs.specs.Answer.{most_bytes};
 ghost use Rattle.session_specs.specs.Sources as source;
 ghost use Rattle.session_words.specs.Asked as asked;
-ghost use Rattle.compile_session.specs.Answers.{AreTokensOf, IsKeptScript, IsSourceText};
-ghost use Rattle.compile_session.specs.Tokens.{IsSound};
+ghost use Rattle.compile_session.specs.Answers.{IsKeptScript, IsSourceText};
+ghost use Rattle.parse_script.specs.Tokens.{AreTokensOf, IsSound};
 
-use crate::file_tokens::{FileTokens, tokens_of};
 use crate::listing::missing_of;
-use crate::reading::script_of;
 use crate::refusal::Refusal;
 use early_errors::check_script;
 use parse_attach_bodies::seat::seat_script;
 use parse_bodies::whole::Script;
 use parse_exprs::place::ParseFault;
+use parse_handlers::Full;
+use parse_script::{FileTokens, read_script, tokens_of};
 use parse_track::region::ClosedAt;
 use script_grammar::token::Token;
 use script_grammar::tree::Stmt;
@@ -106,7 +106,7 @@ fn script_source(
     requires tokens { (bytes : List ℕ) × AreTokensOf file size bytes }
     ensures { IfOk result (λ text. (bytes : List ℕ) → AreTokensOf file size bytes → IsSourceText (asked.wanted want.now) bytes text) }
 {
-    match script_of(alloc, &file) {
+    match read_script(alloc, &file, Full::new(alloc)) {
         Ok(script) => Ok(kept_source(alloc, want, size, script, file)?),
         Err(ParseFault::Unexpected { token }) => {
             let offset = start_of(&file.tokens, token);

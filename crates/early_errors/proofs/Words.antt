@@ -1,29 +1,16 @@
 -- The known words, where no two texts are equal: an atom that reads as one of them is its atom.
-use Rattle.std.proofs.Common.{◌≡◌, ◌≢◌, ℕ, List, [], sym, ap, ◌∙◌}
-use Rattle.std.specs.Prelude.{codes, slice_get, Some}
-use Rattle.std.proofs.lemmas.Option.{get_or_from_slice_get}
-use Rattle.script_grammar.specs.Interpretation.{Interpretation, text_of}
+use Rattle.std.proofs.Common.{◌≡◌, ◌≢◌, ℕ, List, []}
+use Rattle.std.specs.Prelude.{slice_get, Some}
+use Rattle.script_grammar.specs.Interpretation.{Interpretation}
 use Rattle.parse_track.specs.declared.region.Known.{Known}
-use Rattle.parse_track.specs.Tells.{known_texts}
-use Rattle.parse_track.specs.Log.{known_names}
-use Rattle.track_renaming_laws.specs.Renaming.{renamed_known}
-use Rattle.track_renaming_laws.specs.Texts.{AreWithoutEquals, text_at}
-use Rattle.track_renaming_laws.proofs.Standing.{stands_nonempty}
+use Rattle.track_renaming_laws.specs.Texts.{AreWithoutEquals}
 use Rattle.early_context_free.specs.Known.{KnowsWord, KnowsWords}
-use Rattle.early_errors.specs.Kept.{Knows}
+use Rattle.early_script_errors.specs.Told.{Knows}
+use Rattle.early_script_errors.proofs.Words.{reads, only_atom}
 
 module _ (i : Interpretation) (once : AreWithoutEquals i.texts) where
-  reads : (atom : ℕ) (text : List ℕ) → slice_get i.texts atom ≡ Some text → text_of i atom ≡ text
-  reads atom text h = get_or_from_slice_get i.texts atom text [] h
-
   knows_word : (atom : ℕ) (text : List ℕ) → text ≢ [] → slice_get i.texts atom ≡ Some text → KnowsWord i atom text
-  knows_word atom text some h = record {
-    has = reads atom text h;
-    only = λ other is. once text other atom (sym_stands other is) h;
-  }
-    where
-      sym_stands : (other : ℕ) → text_of i other ≡ text → slice_get i.texts other ≡ Some text
-      sym_stands other is = stands_nonempty i.texts other (λ e. some (sym is ∙ e)) ∙ ap Some is
+  knows_word atom text some h = record { has = reads i atom text h; only = only_atom i atom text once some h }
 
   pub knows_words : (known : Known) → Knows i.texts known → KnowsWords i known
   knows_words known h = record {
@@ -32,12 +19,3 @@ module _ (i : Interpretation) (once : AreWithoutEquals i.texts) where
     proto = knows_word known.proto _ (λ e. absurd (cc)) h.proto;
     strict = knows_word known.strict _ (λ e. absurd (cc)) h.strict;
   }
-
-  pub knows_this : (known : Known) → Knows i.texts known → text_of i known.this ≡ codes ".this"
-  knows_this known h = reads known.this _ h.this
-
-  pub knows_names : (known : Known) → Knows i.texts known → renamed_known (text_at i.texts) (known_names known) ≡ known_texts
-  knows_names known h =
-      ap (λ (t : List ℕ). record { eval = t; arguments = text_at i.texts known.arguments; this = text_at i.texts known.this }) (reads known.eval _ h.eval)
-      ∙ ap (λ (t : List ℕ). record { eval = codes "eval"; arguments = t; this = text_at i.texts known.this }) (reads known.arguments _ h.arguments)
-      ∙ ap (λ (t : List ℕ). record { eval = codes "eval"; arguments = codes "arguments"; this = t }) (reads known.this _ h.this)

@@ -1,20 +1,14 @@
 -- A script whose trees are kept: its own, with the bodies of functions passed over, and one for each of these bodies.
-use Rattle.std.specs.Prelude.{ℕ, ◌≡◌, List, map, codes, slice_get, Some}
+use Rattle.std.specs.Prelude.{ℕ, ◌≡◌, List, map}
 use Rattle.std.specs.declared.vec.Vec.{Vec}
 use Rattle.std.specs.declared.alloc.Global.{Global}
 use Rattle.script_grammar.specs.declared.tree.Stmt.{Stmt}
 use Rattle.script_grammar.specs.Braced.{braced_all}
 use Rattle.script_grammar.specs.Interpretation.{Interpretation}
-use Rattle.script_grammar.specs.Lexeme.{Lexeme}
-use Rattle.script_grammar.specs.Script.{IsScript}
 use Rattle.script_grammar.specs.Tree.{Body, BracedBody, Stmts}
 use Rattle.script_grammar.specs.TreeLists.{stmts_of}
 use Rattle.script_grammar.specs.TreeOf.{stmt_of}
 use Rattle.grammar_parser_specs.specs.Filling.{fill_stmts}
-use Rattle.grammar_start_laws.specs.Own.{TokensRise}
-use Rattle.parse_track.specs.declared.region.Known.{Known}
-use Rattle.track_renaming_laws.specs.Texts.{AreWithoutEquals}
-use Rattle.script_grammar.specs.NameTokens.{NamesAreFull}
 
 -- the body that an interpretation gives to the function that starts there
 abbrev pub given : Interpretation → ℕ → Body
@@ -33,22 +27,3 @@ pub record IsKept (i : Interpretation) (top : List Stmt) (bodies : List (Vec Stm
 -- so whatever bodies are given
 abbrev pub AreKept : List (List ℕ) → List Stmt → List (Vec Stmt Global) → Stmts → Type 0
 AreKept texts top bodies items = (bodies_given : ℕ → Stmts) → IsKept (record { texts = texts; bodies = bodies_given }) top bodies items
-
--- the known words, by their atoms
-pub record Knows (texts : List (List ℕ)) (known : Known) : Type 0 where
-  pub eval : slice_get texts known.eval ≡ Some (codes "eval")
-  pub arguments : slice_get texts known.arguments ≡ Some (codes "arguments")
-  pub this : slice_get texts known.this ≡ Some (codes ".this")
-  pub proto : slice_get texts known.proto ≡ Some (codes "__proto__")
-  pub strict : slice_get texts known.strict ≡ Some (codes "use strict")
-
--- This is the tree of a script, whose tokens start at rising offsets and have no empty names, and the texts that its atoms
--- index have no equals.
-pub record IsOf (texts : List (List ℕ)) (known : Known) (items : Stmts) : Type 0 where
-  pub tokens : List Lexeme
-  pub end : Lexeme
-  pub script : IsScript tokens end items
-  pub rise : TokensRise 0 tokens
-  pub names : NamesAreFull tokens
-  pub once : AreWithoutEquals texts
-  pub knows : Knows texts known

@@ -1,6 +1,6 @@
 //! A script, checked.
 
-ghost use Rattle.std.specs.Prelude.{◌≡◌, ℕ, List, map, None, IfOk};
+ghost use Rattle.std.specs.Prelude.{◌≡◌, ℕ, List, map, IfOk};
 ghost use Rattle.script_grammar.specs.Tree.{Stmts};
 ghost use Rattle.parse_track.specs.Counted.{function_count};
 ghost use Rattle.parse_track.specs.Notes.{early_error, closed_names};
@@ -8,25 +8,16 @@ ghost use Rattle.parse_track.specs.Scopes.{bounds_of};
 ghost use Rattle.parse_track.specs.Tells.{tells_script};
 ghost use Rattle.track_renaming_laws.specs.Renaming.{renamed_bound};
 ghost use Rattle.track_renaming_laws.specs.Texts.{text_at};
-ghost use Rattle.early_errors.specs.Kept.{AreKept, IsOf};
+ghost use Rattle.early_script_errors.specs.Told.{IsOf};
+ghost use Rattle.early_errors.specs.Kept.{AreKept};
 
 use early_context_free::first::first_note;
+use early_script_errors::{Checked, check_track};
 use early_track::walk::tell_script;
-use parse_track::region::{ClosedAt, Early, Known};
+use parse_track::region::Known;
 use parse_track::track::Track;
 use script_grammar::tree::Stmt;
 use std::alloc::{AllocError, Global};
-
-/// What is found in a script.
-#[derive(Drop)]
-pub struct Checked {
-    /// Its first early error, the one of smallest offset and then of smallest rule.
-    pub early: Option<Early>,
-    /// How many functions it has, at all depths.
-    pub functions: usize,
-    /// The names that inner functions close over, in the order of functions, scopes and bindings.
-    pub closed: Vec<ClosedAt>,
-}
 
 /// Checks the script that has these statements, with the bodies of its functions, in the order of the source, those inside a
 /// body after it. `known` has the atoms of the known words.
@@ -43,22 +34,6 @@ pub fn check_script(
     let first = first_note(top, bodies, &known);
     let mut track = Track::new(alloc, known);
     tell_script(top, &mut track, bodies)?;
-    note_first(&mut track, first);
-    let functions = track.functions();
-    let tracked = track.finish()?;
-    Ok(Checked {
-        early: tracked.early,
-        functions,
-        closed: tracked.closed,
-    })
-}
-
-/// Notes the first early error that looks at no region, where there is one.
-fn note_first(track: &mut Track, first: Option<Early>)
-    requires { track.old.noted ≡ None }
-    ensures { track.new ≡ record track.old { noted = first } }
-{
-    if let Some(early) = first {
-        track.note(early.offset, early.rule);
-    }
+    let checked = check_track(track, first)?;
+    Ok(checked)
 }

@@ -12,4 +12,5 @@
 
 mod checking;
 
-pub use checking::{Checked, check_script};
+pub use checking::check_script;
+pub use early_script_errors::Checked;

@@ -6,8 +6,8 @@ use Rattle.grammar_start_laws.proofs.Rising.{lexemes_rise}
 use Rattle.scan_laws.proofs.FullNames.{names_are_full}
 use Rattle.track_atoms.specs.Known.{HasWords}
 use Rattle.track_atoms.proofs.Interning.{words_kept}
-use Rattle.compile_session.proofs.TokenLemmas.{KnowsWords, file_tokens, file_scanned}
-use Rattle.compile_session.proofs.file_tokens.tokens_of.Goals as goal
+use Rattle.parse_script.proofs.TokenLemmas.{KnowsWords, file_tokens, file_scanned}
+use Rattle.parse_script.proofs.file_tokens.tokens_of.Goals as goal
 
 pub returns-clause-tokens : goal.returns-clause-tokens
 returns-clause-tokens c =
@@ -24,4 +24,5 @@ returns-clause-sound c = record {
   apart = subst AreWithoutEquals (sym c.into_texts-texts.ensures.list) c.into_texts-texts.ensures.apart;
   few = subst (λ (ts : List (List ℕ)). length ts < 2 ^ 32) (sym c.into_texts-texts.ensures.list) (subst (λ (ts : List (List ℕ)). length ts < 2 ^ 32) c.atoms-2.view_is c.atoms-2.invariant.few);
   words = subst (λ (ts : List (List ℕ)). HasWords ts c.in_ok-known.known) (sym c.into_texts-texts.ensures.list) (words_kept c.known_words.new.atoms c.scan.new.atoms c.in_ok-known.known c.in_ok-tokens.ensures.keeps c.in_ok-known.ensures.words);
+  fixed = c.in_ok-known.ensures.fixed;
 }

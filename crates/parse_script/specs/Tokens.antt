@@ -1,19 +1,20 @@
 -- The tokens of a file as the grammar of scripts sees them.
-use Rattle.std.specs.Prelude.{List, map, length, ◌<◌, ◌^◌}
+use Rattle.std.specs.Prelude.{ℕ, ◌≡◌, ◌≤◌, List, map, length, ◌<◌, ◌^◌, IsUtf8}
 use Rattle.script_grammar.specs.Lexeme.{Lexeme, lexeme_of}
 use Rattle.parser_atoms.specs.Places.{AreWithoutEquals}
+use Rattle.script_scanner.specs.Lexemes.{lexemes}
 use Rattle.script_scanner.specs.Stands.{HasOneLast}
 use Rattle.grammar_start_laws.specs.Own.{TokensRise}
 use Rattle.script_grammar.specs.NameTokens.{NamesAreFull}
 use Rattle.parse_exprs.specs.Source.{IsScanned}
-use Rattle.track_atoms.specs.Known.{HasWords}
-use Rattle.compile_session.specs.declared.file_tokens.FileTokens.{FileTokens}
+use Rattle.track_atoms.specs.Known.{HasWords, known_atoms}
+use Rattle.parse_script.specs.declared.file_tokens.FileTokens.{FileTokens}
 
 abbrev pub tokens_in : FileTokens → List Lexeme
 tokens_in file = map (lexeme_of file.known.get file.known.set file.texts.items) file.tokens.items
 
 -- What is known of the tokens of a file: as many as a parser takes, the last of them End or Bad and no other, from rising
--- offsets on, without empty names; the texts are fewer than 2^32 and have no equals, and the known words are among them.
+-- offsets on, without empty names; the texts are fewer than 2^32 and have no equals, and the known words are the first of them.
 pub record IsSound (file : FileTokens) : Type 0 where
   pub scanned : IsScanned file.tokens.items
   pub last : HasOneLast file.tokens.items
@@ -22,3 +23,11 @@ pub record IsSound (file : FileTokens) : Type 0 where
   pub apart : AreWithoutEquals file.texts.items
   pub few : length file.texts.items < 2 ^ 32
   pub words : HasWords file.texts.items file.known
+  pub fixed : file.known ≡ known_atoms
+
+-- The bytes are UTF-8 and as many as this, which is within the limit of a file, and these are their tokens.
+pub record AreTokensOf (file : FileTokens) (size : ℕ) (bytes : List ℕ) : Type 0 where
+  pub utf8 : IsUtf8 bytes
+  pub tokens : tokens_in file ≡ lexemes bytes
+  pub long : size ≡ length bytes
+  pub short : length bytes ≤ 16777215

@@ -12,15 +12,12 @@ use Rattle.grammar_parser_specs.specs.Parser.{Reply, Read}
 use Rattle.grammar_script_laws.proofs.Bracketed.{IsInner, AllInner}
 use Rattle.grammar_script_laws.proofs.Closed.{Closed, not_both}
 use Rattle.grammar_deferred_laws.proofs.ClosedParts.{script_matches}
-use Rattle.grammar_script_laws.proofs.FirstFaults.{fault_place, fault_kind}
 use Rattle.grammar_parser_laws.proofs.NestedTrees.{nested_stmts}
 use Rattle.grammar_script_laws.proofs.PartLaws.{nested_inner}
 use Rattle.grammar_script_laws.proofs.Partnered.{inner-or_not}
 use Rattle.grammar_script_laws.proofs.ScriptLaws.{ScriptOf, script_decides, script_read, last_only, inner_no_end, read_has_no_fault}
 use Rattle.grammar_parser_laws.proofs.Stands.{Marked, lexemes, marks}
 use Rattle.parse_bodies.specs.Whole.{IsText}
-use Rattle.session_specs.specs.Sources.{start_of}
-use Rattle.compile_session.specs.Faulty.{IsFaulty}
 
 abbrev as_script : (ts : List Lexeme) (items : Stmts) → IsText ts items → ScriptOf ts items
 as_script ts items t = record { inner = t.inner; last = t.end; split = t.split; ends = t.ends; is = t.script; shallow = t.shallow }
@@ -88,14 +85,7 @@ fault_within ts inner last k why split all closed f = elim (below k (length ts))
     never TooDeep beyond r = never_deep ts inner last k split all closed beyond (subst (λ (x : List Lexeme). BeginsDeep (ScriptPart whole 0) x k) (all_of (suc k) (omega (arith, beyond))) r)
 
 -- A script has no fault.
-pub text_no_fault : (ts : List Lexeme) (items : Stmts) (why : Refusal) (offset : ℕ) → IsText ts items → IsFaulty ts why offset → ⊥
-text_no_fault ts items why offset t f =
-    read_has_no_fault ts items f.token why (as_script ts items t)
-    (fault_within ts t.inner t.end f.token why t.split (inside t.inner items t.end t.script) (λ is. absurd (inner_no_end t.end.kind t.ends is)) f.first) f.first
-
--- Two first faults are one.
-pub one_offset : (ts : List Lexeme) (a b : Refusal) (one two : ℕ) → IsFaulty ts a one → IsFaulty ts b two → one ≡ two
-one_offset ts a b one two f g = f.place ∙ ap (start_of ts) (fault_place (ScriptPart whole 0) ts f.token g.token a b f.first g.first) ∙ sym g.place
-
-pub one_kind : (ts : List Lexeme) (a b : Refusal) (one two : ℕ) → IsFaulty ts a one → IsFaulty ts b two → a ≡ b
-one_kind ts a b one two f g = fault_kind (ScriptPart whole 0) ts f.token g.token a b f.first g.first
+pub script_no_fault : (ts : List Lexeme) (items : Stmts) (token : ℕ) (why : Refusal) → IsText ts items → FirstFault (ScriptPart whole 0) ts token why → ⊥
+script_no_fault ts items token why t f =
+    read_has_no_fault ts items token why (as_script ts items t)
+    (fault_within ts t.inner t.end token why t.split (inside t.inner items t.end t.script) (λ is. absurd (inner_no_end t.end.kind t.ends is)) f) f

@@ -4,7 +4,7 @@ ghost use Rattle.std.specs.Prelude.{◌≡◌, ◌≤◌, length, IfOk, IfErr, O
 ghost use Rattle.std.specs.Str.{IsUtf8};
 ghost use Rattle.unit_text.specs.Faults.{IsFaultOf};
 ghost use Rattle.script_scanner.specs.Lexemes.{lexemes};
-ghost use Rattle.compile_session.specs.Tokens.{tokens_in, IsSound};
+ghost use Rattle.parse_script.specs.Tokens.{tokens_in, IsSound};
 
 use parse_track::region::Known;
 use parser_atoms::Atoms;
@@ -23,8 +23,8 @@ pub struct FileTokens {
     pub known: Known,
 }
 
-/// The tokens of a file, the last of them End or Bad.
-pub(crate) fn tokens_of(alloc: Global, bytes: &[u8]) -> Result<FileTokens, DecodeFault>
+/// The tokens of a file, the last of them End or Bad. Takes time and memory in proportion to the bytes.
+pub fn tokens_of(alloc: Global, bytes: &[u8]) -> Result<FileTokens, DecodeFault>
     requires { length bytes.now ≤ 16777215 }
     ensures utf8 { OnOk result (IsUtf8 bytes.now) }
     ensures tokens { IfOk result (λ file. tokens_in file ≡ lexemes bytes.now) }

@@ -1,37 +1,34 @@
 -- What is read of the tokens up to the stop of their brackets is what all of them are.
 use Rattle.std.proofs.Common.{◌≡◌, ℕ, suc, ◌≤◌, ◌<◌, List, [], ◌∷◌, map, length, take, true, false, Result, Ok, Err, refl, sym, ap, ◌∙◌, subst, arith, length-append}
 use Rattle.std.proofs.lemmas.List.{take-map, map-append, length-take}
-use Rattle.std.specs.Prelude.{Vec, IsErrAnd}
+use Rattle.std.specs.Prelude.{IsErrAnd}
 use Rattle.std.proofs.lemmas.Result.{err_from_is_err_and}
-use Rattle.std.specs.declared.alloc.Global.{Global}
 use Rattle.script_grammar.specs.declared.token.Kind.{Kind}
 use Rattle.script_grammar.specs.declared.token.Kind.TheVariants as kind
 use Rattle.script_grammar.specs.declared.token.Token.{Token}
-use Rattle.script_grammar.specs.declared.tree.Stmt.{Stmt}
+use Rattle.script_grammar.specs.Braced.{braced_all}
 use Rattle.script_grammar.specs.Interpretation.{Interpretation}
 use Rattle.script_grammar.specs.Lexeme.{Lexeme, lexeme_of}
 use Rattle.script_grammar.specs.Matching.{Matching}
 use Rattle.script_grammar.specs.Pieces.{whole}
+use Rattle.script_grammar.specs.Shows.{ShowAll}
 use Rattle.script_grammar.specs.Tree.{Stmts}
 use Rattle.script_grammar.specs.Fault.{ScriptPart, Refusal, Unexpected, TooDeep, FirstFault}
 use Rattle.script_scanner.specs.Stands.{is_last, AreNoLast, HasOneLast}
+use Rattle.grammar_parser_specs.specs.Filling.{fill_stmts}
 use Rattle.grammar_script_laws.proofs.Bracketed.{IsInner, AllInner}
 use Rattle.grammar_deferred_laws.proofs.CutTexts.{first_fault_of_cut, cut_is_all}
 use Rattle.grammar_script_laws.proofs.ScriptLaws.{Text, inner_no_end}
 use Rattle.parse_exprs.specs.declared.source.Source.{Source}
 use Rattle.parse_exprs.specs.declared.place.ParseFault.{ParseFault}
 use Rattle.parse_exprs.specs.declared.place.ParseFault.TheVariants as faults
+use Rattle.parse_exprs.specs.Env.{body_at}
 use Rattle.parse_exprs.specs.Source.{IsSource, lexemes}
 use Rattle.parse_exprs.proofs.Closing.{ended}
 use Rattle.parse_bodies.specs.Whole.{IsText, IsWhole}
 use Rattle.parse_bodies.specs.declared.whole.Script.{Script}
-use Rattle.parse_handlers.specs.Kept.{IsBody}
-use Rattle.script_grammar.specs.Braced.{braced_all}
-use Rattle.script_grammar.specs.Shows.{ShowAll}
-use Rattle.grammar_parser_specs.specs.Filling.{fill_stmts}
-use Rattle.early_errors.specs.Kept.{given, statements}
-use Rattle.compile_session.specs.Reading.{IsScriptKept, IsReading}
-use Rattle.compile_session.proofs.TextLemmas.{fault_within}
+use Rattle.parse_script.specs.Reading.{IsShown, IsReadingBy}
+use Rattle.parse_script.proofs.TextLemmas.{one_text, fault_within}
 
 -- The tokens are a text: the last of them, and no other, ends it.
 
@@ -96,33 +93,39 @@ module _ (i : Interpretation) (ts : List Token) (m : Matching) (s : Source) (get
       let size : length (lexemes s i) ≤ suc m.stop = (let z = ap length front_is in let w = length-take (suc m.stop) all in omega (arith, z, w)) in
       first_fault_of_cut (ScriptPart whole 0) (suc m.stop) all token why (omega (arith, within, size)) (subst (λ (x : List Lexeme). FirstFault (ScriptPart whole 0) x token why) front_is f)
 
-  shown_bodies : (bs : List (Vec Stmt Global)) (ts : List Stmts) → ShowAll (IsBody i) bs ts → map (statements i) bs ≡ ts
-  shown_bodies [] [] h = refl
-  shown_bodies [] (t ∷ ts) h = absurd h
-  shown_bodies (b ∷ bs) [] h = absurd h
-  shown_bodies (b ∷ bs) (t ∷ ts) h = ap (λ (x : Stmts). x ∷ map (statements i) bs) h.0 ∙ ap (λ (xs : List Stmts). t ∷ xs) (shown_bodies bs ts h.1)
+  module _ {B : Type 0} (shows : Interpretation → B → Stmts → Type 0) where
+    -- the nodes that were made
+    pub read_shown : (script : Script B) → IsWhole i (shows i) s (Ok script) → IsShown shows i all script
+    read_shown script w = record { items = w.items; is = text_is_all w.items w.is; top = w.top; bodies = w.bodies }
 
-  -- the trees that were read
-  pub read_kept : (script : Script (Vec Stmt Global)) → IsWhole i (IsBody i) s (Ok script) → IsScriptKept i all script.top.items script.bodies.items
-  read_kept script w = record {
-    items = w.items;
-    is = text_is_all w.items w.is;
-    kept = record { script = w.top; braced = shown_bodies script.bodies.items (map (fill_stmts (given i)) (braced_all w.items)) w.bodies };
-  }
+    -- the fault that was found
+    pub read_fault : (e : ParseFault) → IsWhole {B = B} i (shows i) s (Err e) → IsReadingBy shows i all (Err e)
+    read_fault (faults.Unexpected token) w = fault_is_all token Unexpected w
+    read_fault (faults.TooDeep token) w = fault_is_all token TooDeep w
+    read_fault faults.NoMemory w = tt
 
-  -- the fault that was found
-  pub read_fault : (e : ParseFault) → IsWhole {B = Vec Stmt Global} i (IsBody i) s (Err e) → IsReading i all (Err e)
-  read_fault (faults.Unexpected token) w = fault_is_all token Unexpected w
-  read_fault (faults.TooDeep token) w = fault_is_all token TooDeep w
-  read_fault faults.NoMemory w = tt
+module _ {B : Type 0} (shows : Interpretation → B → Stmts → Type 0) (i : Interpretation) (tokens : List Lexeme) where
+  -- an error is handed on
+  pub read_on : (e : ParseFault) (r : Result (Script B) ParseFault) → IsErrAnd r (λ y. y ≡ e) → IsReadingBy shows i tokens (Err e) → IsReadingBy shows i tokens r
+  read_on e r h k = let x = err_from_is_err_and r h in subst (IsReadingBy shows i tokens) (ap Err (sym x.2) ∙ sym x.1) k
 
--- an error is handed on
-pub read_on : (i : Interpretation) (tokens : List Lexeme) (e : ParseFault) (r : Result (Script (Vec Stmt Global)) ParseFault) → IsErrAnd r (λ y. y ≡ e) → IsReading i tokens (Err e) → IsReading i tokens r
-read_on i tokens e r h k = let x = err_from_is_err_and r h in subst (IsReading i tokens) (ap Err (sym x.2) ∙ sym x.1) k
+  -- the kind of a fault
+  pub read_unexpected : (e : ParseFault) (token : ℕ) → e ≡ faults.Unexpected token → IsReadingBy shows i tokens (Err e) → FirstFault (ScriptPart whole 0) tokens token Unexpected
+  read_unexpected e token is h = let P : ParseFault → Type 0 = λ f. IsReadingBy shows i tokens (Err f) in subst P is h
 
--- the kind of a fault
-pub read_unexpected : (i : Interpretation) (tokens : List Lexeme) (e : ParseFault) (token : ℕ) → e ≡ faults.Unexpected token → IsReading i tokens (Err e) → FirstFault (ScriptPart whole 0) tokens token Unexpected
-read_unexpected i tokens e token is h = let P : ParseFault → Type 0 = λ f. IsReading i tokens (Err f) in subst P is h
+  pub read_too_deep : (e : ParseFault) (token : ℕ) → e ≡ faults.TooDeep token → IsReadingBy shows i tokens (Err e) → FirstFault (ScriptPart whole 0) tokens token TooDeep
+  read_too_deep e token is h = let P : ParseFault → Type 0 = λ f. IsReadingBy shows i tokens (Err f) in subst P is h
 
-pub read_too_deep : (i : Interpretation) (tokens : List Lexeme) (e : ParseFault) (token : ℕ) → e ≡ faults.TooDeep token → IsReading i tokens (Err e) → FirstFault (ScriptPart whole 0) tokens token TooDeep
-read_too_deep i tokens e token is h = let P : ParseFault → Type 0 = λ f. IsReading i tokens (Err f) in subst P is h
+-- Tokens have one tree, whatever bodies and whatever handler's nodes it is shown with.
+pub one_script : {A B : Type 0} (shows : Interpretation → A → Stmts → Type 0) (others : Interpretation → B → Stmts → Type 0) (i j : Interpretation) (tokens : List Lexeme) (one : Script A) (other : Script B)
+    → (a : IsShown shows i tokens one) → (b : IsShown others j tokens other) → a.items ≡ b.items
+one_script shows others i j tokens one other a b = one_text tokens a.items b.items a.is b.is
+
+-- So the nodes stand for the parts of any tree that the tokens have.
+pub record ShowsParts {B : Type 0} (shows : Interpretation → B → Stmts → Type 0) (i : Interpretation) (script : Script B) (items : Stmts) : Type 0 where
+  pub top : shows i script.top (fill_stmts (body_at i) items)
+  pub bodies : ShowAll (shows i) script.bodies.items (map (fill_stmts (body_at i)) (braced_all items))
+
+pub shows_parts : {B : Type 0} (shows : Interpretation → B → Stmts → Type 0) (i : Interpretation) (tokens : List Lexeme) (script : Script B) (items : Stmts) → IsText tokens items → IsShown shows i tokens script → ShowsParts shows i script items
+shows_parts shows i tokens script items text h =
+    subst (ShowsParts shows i script) (one_text tokens h.items items h.is text) (record { top = h.top; bodies = h.bodies })

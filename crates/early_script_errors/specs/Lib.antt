@@ -1,0 +1,2 @@
+-- A script that was told.
+pub mod Told

@@ -1,5 +1,5 @@
--- What turns of loops answer, and the levels of operators.
-use Rattle.std.proofs.Common.{◌≡◌, ℕ, zero, suc, ◌-◌, ◌<◌, List, Bool, true, false, refl, ap, subst, arith, if◌then◌else◌, nat_eq, Some}
+-- What turns of loops answer.
+use Rattle.std.proofs.Common.{◌≡◌, ℕ, List, Bool, true, false, refl, ap, subst, arith, if◌then◌else◌, nat_eq, Some}
 use Rattle.std.proofs.lemmas.Bool.Decides.{nat_tests}
 use Rattle.script_grammar.specs.declared.token.Kind.{Kind}
 use Rattle.script_grammar.specs.declared.token.Kind.TheVariants as kind
@@ -11,7 +11,7 @@ use Rattle.script_grammar.specs.Tree.{Expr}
 use Rattle.script_grammar.specs.Tree as model
 use Rattle.script_grammar.specs.TreeLists.{Args, exprs_of}
 use Rattle.grammar_parser_specs.specs.Parser.{Recorded, Reply, Parser, head_of, rest_of, after, ret, Again, Stop}
-use Rattle.grammar_parser_specs.specs.Exprs.{Env, AnAssign, more_turn, unary_of, power_operand, power_turn, is_update_expr, operand, is_op, op_turn, level_of, operands_from, power_of, args_of, call_of, tail_turn}
+use Rattle.grammar_parser_specs.specs.Exprs.{Env, AnAssign, more_turn, unary_of, power_operand, power_turn, is_update_expr, operand, is_op, op_turn, args_of, call_of, tail_turn}
 use Rattle.grammar_local_laws.proofs.LocalExprs.{after_twice}
 use Rattle.parse_exprs.specs.declared.source.Source.{Source}
 use Rattle.parse_exprs.specs.declared.place.Place.{Place}
@@ -38,17 +38,6 @@ power_turn_next v ts e h f k = when_true _ _ h (read_is (made (power_operand (he
 pub power_turn_last : {rs qs : List Recorded} {us : List Lexeme} (v : Env) (ts : List Lexeme) (e : Expr) → is_mark mark.POWER (head_of ts).kind ≡ true → is_update_expr e ≡ false → ReadAs rs (unary_of v false (rest_of ts)) e qs us → ReadAs rs (power_turn v ts) (Stop (Some (operand (head_of ts) e))) qs us
 unfolding power_turn
 power_turn_last v ts e h f k = when_true _ _ h (read_is (made (power_operand (head_of ts)) k) (ap (λ b. if b then Again (operand (head_of ts) e) else Stop (Some (operand (head_of ts) e))) f))
-
--- a level is the level below, and operands after it
-pub level_next : (v : Env) (w : Bool) (n : ℕ) (heads : Bool) (ts : List Lexeme) → 0 < n → after (level_of v w (n - 1) heads ts) (operands_from w n (level_of v w (n - 1) false)) ≡ level_of v w n heads ts
-unfolding level_of
-level_next v w zero heads ts h = absurd (omega arith)
-level_next v w (suc n) heads ts h = let e : suc n - 1 ≡ n = omega arith in ap (λ k. after (level_of v w k heads ts) (operands_from w (suc n) (level_of v w k false))) e
-
-pub level_zero : (v : Env) (w : Bool) (n : ℕ) (heads : Bool) (ts : List Lexeme) → n ≡ 0 → power_of v heads ts ≡ level_of v w n heads ts
-unfolding level_of
-level_zero v w zero heads ts h = refl
-level_zero v w (suc n) heads ts h = absurd (omega arith)
 
 -- a fault in front of what is made twice
 pub refused_twice : {A B C : Type 0} (s : Source) (i : Interpretation) (p : Place) (e : ParseFault) (rs : List Recorded) (r : Reply A) (f : A → B) (g : B → C) → Refuses s i p e rs (after r (λ x. ret (f x))) → Refuses s i p e rs (after r (λ x. ret (g (f x))))

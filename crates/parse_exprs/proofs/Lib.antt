@@ -1,5 +1,6 @@
 pub mod Calls
 pub mod ChainExits
+pub mod Climbing
 pub mod Closing
 pub mod Cut
 pub mod EndLoops
@@ -13,6 +14,7 @@ pub mod Locals
 pub mod Loops
 pub mod Made
 pub mod Onward
+pub mod OperatorLevels
 pub mod ParamParts
 pub mod Partners
 pub mod PassedBody

@@ -25,7 +25,7 @@ use script_grammar::token::{FuncForm, Token, mark};
 use script_grammar::tree::Ident;
 
 impl<H: Handler> State<H> {
-    #[tactic(auto, unfolding(pure_parser::specs::Exprs::arrow_rest))]
+    #[tactic(auto, unfolding(grammar_parser_specs::specs::Exprs::arrow_rest))]
     pub(crate) fn arrow_rest(&mut self, source: &Source) -> Result<Ident, ParseFault>
         requires { IsSource source.now }
         ensures { (i : Interpretation) → Reads (NameOf i) (pure.arrow_rest) source.now i self.old.place self.new.place result }
@@ -40,7 +40,7 @@ impl<H: Handler> State<H> {
     }
 
     #[cycle(exprs)]
-    #[tactic(auto, unfolding(pure_parser::specs::Exprs::arrow_first))]
+    #[tactic(auto, unfolding(grammar_parser_specs::specs::Exprs::arrow_first))]
     fn arrow_first(
         &mut self,
         source: &Source,
@@ -58,7 +58,7 @@ impl<H: Handler> State<H> {
     }
 
     #[cycle(exprs)]
-    #[tactic(auto, unfolding(pure_parser::specs::Exprs::arrow_turn, pure_parser::specs::Exprs::arrow_next))]
+    #[tactic(auto, unfolding(grammar_parser_specs::specs::Exprs::arrow_turn, grammar_parser_specs::specs::Exprs::arrow_next))]
     fn arrow_turn(
         &mut self,
         source: &Source,
@@ -98,7 +98,7 @@ impl<H: Handler> State<H> {
     }
 
     #[cycle(exprs)]
-    #[tactic(auto, unfolding(pure_parser::specs::Exprs::arrow_params))]
+    #[tactic(auto, unfolding(grammar_parser_specs::specs::Exprs::arrow_params))]
     fn arrow_params(
         &mut self,
         source: &Source,
@@ -143,7 +143,7 @@ impl<H: Handler> State<H> {
     }
 
     #[cycle(exprs)]
-    #[tactic(auto, unfolding(pure_parser::specs::Exprs::arrow_head, pure_parser::specs::Exprs::arrow_listed))]
+    #[tactic(auto, unfolding(grammar_parser_specs::specs::Exprs::arrow_head, grammar_parser_specs::specs::Exprs::arrow_listed))]
     fn arrow_head(&mut self, source: &Source, depth: u32) -> Result<Params<H::E>, ParseFault>
         requires { IsSource source.now }
         ensures { (i : Interpretation) → Reads (ParamsOf i (H.shows_expr i)) (pure.arrow_head (env_at i depth)) source.now i self.old.place self.new.place result }
@@ -165,7 +165,7 @@ impl<H: Handler> State<H> {
     }
 
     #[cycle(exprs)]
-    #[tactic(auto, unfolding(pure_parser::specs::Exprs::arrow_of))]
+    #[tactic(auto, unfolding(grammar_parser_specs::specs::Exprs::arrow_of))]
     pub(crate) fn arrow(
         &mut self,
         source: &Source,
@@ -199,7 +199,7 @@ impl<H: Handler> State<H> {
 
     /// A ConciseBody.
     #[cycle(exprs)]
-    #[tactic(auto, unfolding(pure_parser::specs::Exprs::arrow_body))]
+    #[tactic(auto, unfolding(grammar_parser_specs::specs::Exprs::arrow_body))]
     pub fn arrow_body(
         &mut self,
         source: &Source,

@@ -67,7 +67,7 @@ impl<H: Handler> State<H> {
 
     /// A PrimaryExpression; the flag says whether an arrow's parameters may stand here.
     #[cycle(exprs)]
-    #[tactic(auto, unfolding(pure_parser::specs::Exprs::prim_of))]
+    #[tactic(auto, unfolding(grammar_parser_specs::specs::Exprs::prim_of))]
     fn prim(&mut self, source: &Source, heads: bool, depth: u32) -> Result<H::E, ParseFault>
         requires { IsSource source.now }
         ensures { (i : Interpretation) → Reads (AtomOf (H.shows_expr i)) (pure.prim_of (env_at i depth) heads) source.now i self.old.place self.new.place result }
@@ -102,7 +102,7 @@ impl<H: Handler> State<H> {
         })
     }
 
-    #[tactic(auto, unfolding(pure_parser::specs::Exprs::dot_of))]
+    #[tactic(auto, unfolding(grammar_parser_specs::specs::Exprs::dot_of))]
     fn dot(&mut self, source: &Source) -> Result<NodeTail<H::E>, ParseFault>
         requires { IsSource source.now }
         ensures { (i : Interpretation) → Reads (TailOf i (H.shows_expr i)) (pure.dot_of) source.now i self.old.place self.new.place result }
@@ -120,7 +120,7 @@ impl<H: Handler> State<H> {
     }
 
     #[cycle(exprs)]
-    #[tactic(auto, unfolding(pure_parser::specs::Exprs::member_turn, pure_parser::specs::Exprs::index_of))]
+    #[tactic(auto, unfolding(grammar_parser_specs::specs::Exprs::member_turn, grammar_parser_specs::specs::Exprs::index_of))]
     fn member(
         &mut self,
         source: &Source,
@@ -144,7 +144,7 @@ impl<H: Handler> State<H> {
     }
 
     #[cycle(exprs)]
-    #[tactic(auto, unfolding(pure_parser::specs::Exprs::tail_turn, pure_parser::specs::Exprs::member_turn, pure_parser::specs::Exprs::call_of))]
+    #[tactic(auto, unfolding(grammar_parser_specs::specs::Exprs::tail_turn, grammar_parser_specs::specs::Exprs::member_turn, grammar_parser_specs::specs::Exprs::call_of))]
     fn tail(
         &mut self,
         source: &Source,
@@ -198,7 +198,7 @@ impl<H: Handler> State<H> {
     }
 
     #[cycle(exprs)]
-    #[tactic(auto, unfolding(pure_parser::specs::Exprs::new_or_prim))]
+    #[tactic(auto, unfolding(grammar_parser_specs::specs::Exprs::new_or_prim))]
     fn new_or_prim(
         &mut self,
         source: &Source,
@@ -220,7 +220,7 @@ impl<H: Handler> State<H> {
     }
 
     #[cycle(exprs)]
-    #[tactic(auto, unfolding(pure_parser::specs::Exprs::new_args))]
+    #[tactic(auto, unfolding(grammar_parser_specs::specs::Exprs::new_args))]
     fn new_args(
         &mut self,
         source: &Source,
@@ -261,7 +261,7 @@ impl<H: Handler> State<H> {
     }
 
     #[cycle(exprs)]
-    #[tactic(auto, unfolding(pure_parser::specs::Exprs::new_of, pure_parser::specs::Exprs::new_from))]
+    #[tactic(auto, unfolding(grammar_parser_specs::specs::Exprs::new_of, grammar_parser_specs::specs::Exprs::new_from))]
     pub(crate) fn new_in(&mut self, source: &Source, depth: u32) -> Result<Ranked<H::E>, ParseFault>
         requires { IsSource source.now }
         ensures { (i : Interpretation) → Reads (RankedOf (H.shows_expr i)) (pure.new_of (env_at i depth)) source.now i self.old.place self.new.place result }
@@ -285,7 +285,7 @@ impl<H: Handler> State<H> {
 
     /// A LeftHandSideExpression.
     #[cycle(exprs)]
-    #[tactic(auto, unfolding(pure_parser::specs::Exprs::left_of))]
+    #[tactic(auto, unfolding(grammar_parser_specs::specs::Exprs::left_of))]
     pub fn left(
         &mut self,
         source: &Source,

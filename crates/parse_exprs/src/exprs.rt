@@ -75,7 +75,7 @@ impl<H: Handler> State<H> {
 
     /// A parameter in an arrow's parentheses.
     #[cycle(exprs)]
-    #[tactic(auto, unfolding(pure_parser::specs::Exprs::arrow_param))]
+    #[tactic(auto, unfolding(grammar_parser_specs::specs::Exprs::arrow_param))]
     pub fn param_call(&mut self, source: &Source, depth: u32) -> Result<NodeParam<H::E>, ParseFault>
         requires { IsSource source.now }
         ensures { (i : Interpretation) → Reads (ParamOf i (H.shows_expr i)) ((env_at i depth).sub (AParam)) source.now i self.old.place self.new.place result }
@@ -100,7 +100,7 @@ impl<H: Handler> State<H> {
     }
 
     #[cycle(exprs)]
-    #[tactic(auto, unfolding(pure_parser::specs::Exprs::more_turn))]
+    #[tactic(auto, unfolding(grammar_parser_specs::specs::Exprs::more_turn))]
     fn more_turn(
         &mut self,
         source: &Source,
@@ -144,7 +144,7 @@ impl<H: Handler> State<H> {
 
     /// An Expression.
     #[cycle(exprs)]
-    #[tactic(auto, unfolding(pure_parser::specs::Exprs::expr_of))]
+    #[tactic(auto, unfolding(grammar_parser_specs::specs::Exprs::expr_of))]
     pub fn expr(
         &mut self,
         source: &Source,
@@ -160,7 +160,7 @@ impl<H: Handler> State<H> {
     }
 
     #[cycle(exprs)]
-    #[tactic(auto, unfolding(pure_parser::specs::Exprs::assign_of, pure_parser::specs::Exprs::plain_of, pure_parser::specs::Exprs::assign_tail))]
+    #[tactic(auto, unfolding(grammar_parser_specs::specs::Exprs::assign_of, grammar_parser_specs::specs::Exprs::plain_of, grammar_parser_specs::specs::Exprs::assign_tail))]
     fn assign_in(
         &mut self,
         source: &Source,

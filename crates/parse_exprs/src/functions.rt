@@ -20,7 +20,7 @@ use script_grammar::tree::Ident;
 impl<H: Handler> State<H> {
     /// A function that is no arrow, from its parameters on.
     #[cycle(exprs)]
-    #[tactic(auto, unfolding(pure_parser::specs::Exprs::function_of))]
+    #[tactic(auto, unfolding(grammar_parser_specs::specs::Exprs::function_of))]
     pub fn function(
         &mut self,
         source: &Source,
@@ -47,7 +47,7 @@ impl<H: Handler> State<H> {
 
     /// A function expression, after its word.
     #[cycle(exprs)]
-    #[tactic(auto, unfolding(pure_parser::specs::Exprs::func_of))]
+    #[tactic(auto, unfolding(grammar_parser_specs::specs::Exprs::func_of))]
     pub(crate) fn func(&mut self, source: &Source, at: u32, depth: u32) -> Result<H::E, ParseFault>
         requires { IsSource source.now }
         ensures { (i : Interpretation) → Reads (AtomOf (H.shows_expr i)) (pure.func_of (env_at i depth) at) source.now i self.old.place self.new.place result }

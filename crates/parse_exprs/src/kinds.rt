@@ -3,8 +3,8 @@
 ghost use Rattle.std.specs.Prelude.{◌≡◌};
 ghost use Rattle.script_grammar.specs.Kinds as test;
 ghost use Rattle.grammar_parser_specs.specs.Exprs as pure;
-ghost use Rattle.parse_exprs.specs.Levels.{loose_level};
 
+use crate::precedence;
 use script_grammar::token::{Kind, mark, word};
 
 /// Whether a token of this kind is the mark of this index.
@@ -128,77 +128,11 @@ pub fn is_update(kind: Kind) -> bool
     }
 }
 
-/// The level of a mark as a binary operator, from the tightest, or 12.
-fn mark_level(index: u8) -> u32
-    ensures { result ≡ test.mark_level index }
-{
-    if index == mark::POWER {
-        0
-    } else if mark::TIMES <= index && index <= mark::REMAINDER {
-        1
-    } else if mark::PLUS <= index && index <= mark::MINUS {
-        2
-    } else if mark::LEFT_SHIFT <= index && index <= mark::UNSIGNED_RIGHT_SHIFT {
-        3
-    } else if mark::LESS <= index && index <= mark::GREATER_EQUAL {
-        4
-    } else {
-        loose_mark_level(index)
-    }
-}
-
-/// The same of a mark that binds no tighter than `==`.
-fn loose_mark_level(index: u8) -> u32
-    ensures { result ≡ loose_level index }
-{
-    if mark::EQUAL <= index && index <= mark::STRICT_NOT_EQUAL {
-        5
-    } else if index == mark::BIT_AND {
-        6
-    } else if index == mark::BIT_XOR {
-        7
-    } else if index == mark::BIT_OR {
-        8
-    } else if index == mark::AND {
-        9
-    } else if index == mark::OR {
-        10
-    } else if index == mark::COALESCE {
-        11
-    } else {
-        12
-    }
-}
-
-/// The level of a token of this kind as a binary operator, from the tightest; 12 of what is none.
-fn level(kind: Kind) -> u32
-    ensures { result ≡ test.kind_level kind }
-{
-    match kind {
-        Kind::Mark(index) => mark_level(index),
-        Kind::Word(index) => {
-            if word::IN <= index && index <= word::INSTANCEOF {
-                4
-            } else {
-                12
-            }
-        }
-        _ => 12,
-    }
-}
-
 /// Whether a token of this kind is a binary operator.
 pub fn is_binary(kind: Kind) -> bool
     ensures { result ≡ test.is_binary kind }
 {
-    level(kind) != 12
-}
-
-/// Whether a token of this kind is an operator of this level; `in` only where the flag says so.
-pub fn is_op(kind: Kind, with_in: bool, of: u32) -> bool
-    ensures { result ≡ pure.is_op with_in of kind }
-{
-    level(kind) == of && (with_in || !is_word(kind, word::IN))
+    precedence::level(kind) != precedence::NO_OPERATOR
 }
 
 /// The index of a mark or a word; 0 of what is neither.

@@ -35,6 +35,7 @@ pub mod params;
 pub mod parens;
 pub mod part;
 pub mod place;
+pub mod precedence;
 pub mod source;
 pub mod state;
 pub mod token;

@@ -22,7 +22,7 @@ use script_grammar::token::mark;
 
 impl<H: Handler> State<H> {
     #[cycle(exprs)]
-    #[tactic(auto, unfolding(pure_parser::specs::Exprs::args_turn, pure_parser::specs::Exprs::args_next))]
+    #[tactic(auto, unfolding(grammar_parser_specs::specs::Exprs::args_turn, grammar_parser_specs::specs::Exprs::args_next))]
     fn args_turn(&mut self, source: &Source, depth: u32) -> Result<Turned<H::E, bool>, ParseFault>
         requires { IsSource source.now }
         ensures { (i : Interpretation) → Reads (TurnOf (NodeOf (H.shows_expr i)) Itself) (pure.args_turn (env_at i depth)) source.now i self.old.place self.new.place result }
@@ -60,7 +60,7 @@ impl<H: Handler> State<H> {
 
     /// Arguments, after the opening parenthesis.
     #[cycle(exprs)]
-    #[tactic(auto, unfolding(pure_parser::specs::Exprs::args_of, pure_parser::specs::Exprs::more_args))]
+    #[tactic(auto, unfolding(grammar_parser_specs::specs::Exprs::args_of, grammar_parser_specs::specs::Exprs::more_args))]
     pub fn args(&mut self, source: &Source, depth: u32) -> Result<NodeArgs<H::E>, ParseFault>
         requires { IsSource source.now }
         ensures { (i : Interpretation) → Reads (ArgsOf (H.shows_expr i)) (pure.args_of (env_at i depth)) source.now i self.old.place self.new.place result }
@@ -81,7 +81,7 @@ impl<H: Handler> State<H> {
         })
     }
 
-    #[tactic(auto, unfolding(pure_parser::specs::Exprs::item_end))]
+    #[tactic(auto, unfolding(grammar_parser_specs::specs::Exprs::item_end))]
     fn item_end(
         &mut self,
         source: &Source,
@@ -98,7 +98,7 @@ impl<H: Handler> State<H> {
     }
 
     #[cycle(exprs)]
-    #[tactic(auto, unfolding(pure_parser::specs::Exprs::item_turn))]
+    #[tactic(auto, unfolding(grammar_parser_specs::specs::Exprs::item_turn))]
     fn item_turn(
         &mut self,
         source: &Source,
@@ -159,7 +159,7 @@ impl<H: Handler> State<H> {
 
     /// An array, after the bracket that opens it.
     #[cycle(exprs)]
-    #[tactic(auto, unfolding(pure_parser::specs::Exprs::array_of))]
+    #[tactic(auto, unfolding(grammar_parser_specs::specs::Exprs::array_of))]
     pub(crate) fn array(&mut self, source: &Source, at: u32, depth: u32) -> Result<H::E, ParseFault>
         requires { IsSource source.now }
         ensures { (i : Interpretation) → Reads (AtomOf (H.shows_expr i)) (pure.array_of (env_at i depth) at) source.now i self.old.place self.new.place result }
@@ -169,7 +169,7 @@ impl<H: Handler> State<H> {
         self.make_array(at, read.items, read.last)
     }
 
-    #[tactic(auto, unfolding(pure_parser::specs::Exprs::part_end))]
+    #[tactic(auto, unfolding(grammar_parser_specs::specs::Exprs::part_end))]
     fn part_end(
         &mut self,
         source: &Source,
@@ -199,7 +199,7 @@ impl<H: Handler> State<H> {
     }
 
     #[cycle(exprs)]
-    #[tactic(auto, unfolding(pure_parser::specs::Exprs::part_turn))]
+    #[tactic(auto, unfolding(grammar_parser_specs::specs::Exprs::part_turn))]
     fn part_turn(
         &mut self,
         source: &Source,
@@ -232,7 +232,7 @@ impl<H: Handler> State<H> {
 
     /// A template, after its head.
     #[cycle(exprs)]
-    #[tactic(auto, unfolding(pure_parser::specs::Exprs::template_of))]
+    #[tactic(auto, unfolding(grammar_parser_specs::specs::Exprs::template_of))]
     pub(crate) fn template(
         &mut self,
         source: &Source,

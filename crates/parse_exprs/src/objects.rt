@@ -27,7 +27,7 @@ use script_grammar::tree::Ident;
 
 impl<H: Handler> State<H> {
     #[cycle(exprs)]
-    #[tactic(auto, unfolding(pure_parser::specs::Exprs::key_of, pure_parser::specs::Exprs::computed_of))]
+    #[tactic(auto, unfolding(grammar_parser_specs::specs::Exprs::key_of, grammar_parser_specs::specs::Exprs::computed_of))]
     fn key(&mut self, source: &Source, depth: u32) -> Result<NodeKey<H::E>, ParseFault>
         requires { IsSource source.now }
         ensures { (i : Interpretation) → Reads (KeyOf i (H.shows_expr i)) (pure.key_of (env_at i depth)) source.now i self.old.place self.new.place result }
@@ -61,7 +61,7 @@ impl<H: Handler> State<H> {
 
     /// After a key: a value or a method.
     #[cycle(exprs)]
-    #[tactic(auto, unfolding(pure_parser::specs::Exprs::keyed_of))]
+    #[tactic(auto, unfolding(grammar_parser_specs::specs::Exprs::keyed_of))]
     fn keyed(&mut self, source: &Source, key: NodeKey<H::E>, depth: u32) -> Result<H::P, ParseFault>
         requires { IsSource source.now }
         ensures { (i : Interpretation) → (k : model.Key) → ShowKey i (H.shows_expr i) key k → Reads (NodeOf (H.shows_prop i)) (pure.keyed_of (env_at i depth) k) source.now i self.old.place self.new.place result }
@@ -84,7 +84,7 @@ impl<H: Handler> State<H> {
 
     /// After a name that is a key: a value, a method, or nothing.
     #[cycle(exprs)]
-    #[tactic(auto, unfolding(pure_parser::specs::Exprs::short_of))]
+    #[tactic(auto, unfolding(grammar_parser_specs::specs::Exprs::short_of))]
     fn short(&mut self, source: &Source, name: Ident, depth: u32) -> Result<H::P, ParseFault>
         requires { IsSource source.now }
         ensures { (i : Interpretation) → Reads (NodeOf (H.shows_prop i)) (pure.short_of (env_at i depth) (named i name)) source.now i self.old.place self.new.place result }
@@ -98,7 +98,7 @@ impl<H: Handler> State<H> {
 
     /// After the word `get`: a getter, or a property that has the word as its name.
     #[cycle(exprs)]
-    #[tactic(auto, unfolding(pure_parser::specs::Exprs::accessor_of, pure_parser::specs::Exprs::getter_of))]
+    #[tactic(auto, unfolding(grammar_parser_specs::specs::Exprs::accessor_of, grammar_parser_specs::specs::Exprs::getter_of))]
     fn getter(&mut self, source: &Source, name: Ident, depth: u32) -> Result<H::P, ParseFault>
         requires { IsSource source.now }
         ensures { (i : Interpretation) → Reads (NodeOf (H.shows_prop i)) (pure.accessor_of (env_at i depth) (named i name) (pure.getter_of (env_at i depth))) source.now i self.old.place self.new.place result }
@@ -114,7 +114,7 @@ impl<H: Handler> State<H> {
 
     /// After the word `set`: a setter, or a property that has the word as its name.
     #[cycle(exprs)]
-    #[tactic(auto, unfolding(pure_parser::specs::Exprs::accessor_of, pure_parser::specs::Exprs::setter_of))]
+    #[tactic(auto, unfolding(grammar_parser_specs::specs::Exprs::accessor_of, grammar_parser_specs::specs::Exprs::setter_of))]
     fn setter(&mut self, source: &Source, name: Ident, depth: u32) -> Result<H::P, ParseFault>
         requires { IsSource source.now }
         ensures { (i : Interpretation) → Reads (NodeOf (H.shows_prop i)) (pure.accessor_of (env_at i depth) (named i name) (pure.setter_of (env_at i depth))) source.now i self.old.place self.new.place result }
@@ -129,7 +129,7 @@ impl<H: Handler> State<H> {
     }
 
     #[cycle(exprs)]
-    #[tactic(auto, unfolding(pure_parser::specs::Exprs::prop_of))]
+    #[tactic(auto, unfolding(grammar_parser_specs::specs::Exprs::prop_of))]
     fn prop(&mut self, source: &Source, depth: u32) -> Result<H::P, ParseFault>
         requires { IsSource source.now }
         ensures { (i : Interpretation) → Reads (NodeOf (H.shows_prop i)) (pure.prop_of (env_at i depth)) source.now i self.old.place self.new.place result }
@@ -151,7 +151,7 @@ impl<H: Handler> State<H> {
     }
 
     #[cycle(exprs)]
-    #[tactic(auto, unfolding(pure_parser::specs::Exprs::props_turn, pure_parser::specs::Exprs::props_next))]
+    #[tactic(auto, unfolding(grammar_parser_specs::specs::Exprs::props_turn, grammar_parser_specs::specs::Exprs::props_next))]
     fn props_turn(&mut self, source: &Source, depth: u32) -> Result<Turned<H::P, bool>, ParseFault>
         requires { IsSource source.now }
         ensures { (i : Interpretation) → Reads (TurnOf (NodeOf (H.shows_prop i)) Itself) (pure.props_turn (env_at i depth)) source.now i self.old.place self.new.place result }
@@ -188,7 +188,7 @@ impl<H: Handler> State<H> {
     }
 
     #[cycle(exprs)]
-    #[tactic(auto, unfolding(pure_parser::specs::Exprs::more_props))]
+    #[tactic(auto, unfolding(grammar_parser_specs::specs::Exprs::more_props))]
     fn more_props(&mut self, source: &Source, depth: u32) -> Result<Items<H::P, bool>, ParseFault>
         requires { IsSource source.now }
         ensures { (i : Interpretation) → Reads (ItemsOf (H.shows_prop i) Itself) (pure.more_props (env_at i depth)) source.now i self.old.place self.new.place result }
@@ -205,7 +205,7 @@ impl<H: Handler> State<H> {
 
     /// An object literal, after the brace that opens it.
     #[cycle(exprs)]
-    #[tactic(auto, unfolding(pure_parser::specs::Exprs::object_of))]
+    #[tactic(auto, unfolding(grammar_parser_specs::specs::Exprs::object_of))]
     pub(crate) fn object(
         &mut self,
         source: &Source,

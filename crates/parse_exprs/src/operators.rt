@@ -12,32 +12,21 @@ ghost use Rattle.grammar_parser_specs.specs.Exprs as pure;
 ghost use Rattle.parse_exprs.specs.Source.{IsSource};
 ghost use Rattle.parse_exprs.specs.Env.{env_at};
 ghost use Rattle.parse_exprs.specs.Answers.{Reads};
+ghost use Rattle.parse_exprs.specs.Levels.{up_to};
 ghost use Rattle.parse_exprs.specs.Means.{Itself, TurnOf, RankedOf, EndedOf, MaybeEndedOf, EndsOf, OperandsOf, ending_as};
 ghost use Rattle.parse_exprs.specs.Ranks.{rank_of};
 
-use crate::kinds;
 use crate::part::{Ended, Ending, Items, Rank, Ranked, Turned};
 use crate::place::ParseFault;
 use crate::source::Source;
 use crate::state::State;
+use crate::{kinds, precedence};
 use script_grammar::handler::Handler;
 use script_grammar::node::NodeOperand;
 use script_grammar::token::mark;
 
-/// The level of `|`.
-const BIT_OR_LEVEL: u32 = 8;
-
-/// The level of `&&`.
-const AND_LEVEL: u32 = 9;
-
-/// The level of `||`.
-const OR_LEVEL: u32 = 10;
-
-/// The level of `??`.
-const COALESCE_LEVEL: u32 = 11;
-
 impl<H: Handler> State<H> {
-    #[tactic(auto, unfolding(pure_parser::specs::Exprs::postfix_of))]
+    #[tactic(auto, unfolding(grammar_parser_specs::specs::Exprs::postfix_of))]
     fn postfix(
         &mut self,
         source: &Source,
@@ -64,7 +53,7 @@ impl<H: Handler> State<H> {
 
     /// A UnaryExpression.
     #[cycle(exprs)]
-    #[tactic(auto, unfolding(pure_parser::specs::Exprs::unary_of, pure_parser::specs::Exprs::update_of))]
+    #[tactic(auto, unfolding(grammar_parser_specs::specs::Exprs::unary_of, grammar_parser_specs::specs::Exprs::update_of))]
     fn unary(
         &mut self,
         source: &Source,
@@ -84,7 +73,7 @@ impl<H: Handler> State<H> {
     }
 
     #[cycle(exprs)]
-    #[tactic(auto, unfolding(pure_parser::specs::Exprs::prefix_of))]
+    #[tactic(auto, unfolding(grammar_parser_specs::specs::Exprs::prefix_of))]
     pub(crate) fn prefix_in(
         &mut self,
         source: &Source,
@@ -125,7 +114,7 @@ impl<H: Handler> State<H> {
     }
 
     #[cycle(exprs)]
-    #[tactic(auto, unfolding(pure_parser::specs::Exprs::power_turn))]
+    #[tactic(auto, unfolding(grammar_parser_specs::specs::Exprs::power_turn))]
     fn power_turn(
         &mut self,
         source: &Source,
@@ -187,7 +176,7 @@ impl<H: Handler> State<H> {
     }
 
     #[cycle(exprs)]
-    #[tactic(auto, unfolding(pure_parser::specs::Exprs::power_of))]
+    #[tactic(auto, unfolding(grammar_parser_specs::specs::Exprs::power_of))]
     fn power(
         &mut self,
         source: &Source,
@@ -198,6 +187,9 @@ impl<H: Handler> State<H> {
         ensures { (i : Interpretation) → Reads (RankedOf (H.shows_expr i)) (pure.power_of (env_at i depth) heads) source.now i self.old.place self.new.place result }
     {
         let first = self.unary(source, heads, depth)?;
+        if !self.place.is_mark(source, mark::POWER) {
+            return Ok(first);
+        }
         if !first.rank.may_be_raised() {
             return Ok(first);
         }
@@ -206,7 +198,7 @@ impl<H: Handler> State<H> {
     }
 
     #[cycle(exprs)]
-    #[tactic(auto, unfolding(pure_parser::specs::Exprs::op_turn))]
+    #[tactic(auto, unfolding(grammar_parser_specs::specs::Exprs::op_turn))]
     fn op_turn(
         &mut self,
         source: &Source,
@@ -221,7 +213,7 @@ impl<H: Handler> State<H> {
         ensures { (i : Interpretation) → Reads (TurnOf (EndedOf (H.shows_expr i)) Itself) (pure.op_turn with_in of (pure.level_of (env_at i depth) with_in lower false)) source.now i self.old.place self.new.place result }
     {
         let kind = self.place.kind(source);
-        if !kinds::is_op(kind, with_in, of) {
+        if !precedence::is_op(kind, with_in, of) {
             return Ok(Turned::Last(()));
         }
         self.place.step(source);
@@ -285,9 +277,9 @@ impl<H: Handler> State<H> {
         self.make_binary(first, rest)
     }
 
-    /// The levels of binary operators up to `||`.
+    /// An expression up to a level of binary operators; up to that of `??`, a ShortCircuitExpression. The next token says
+    /// which level reads on, and a level that would read nothing is not called.
     #[cycle(exprs)]
-    #[tactic(auto, unfolding(pure_parser::specs::Exprs::level_of))]
     fn level(
         &mut self,
         source: &Source,
@@ -297,39 +289,24 @@ impl<H: Handler> State<H> {
         depth: u32,
     ) -> Result<Ranked<H::E>, ParseFault>
         requires source { IsSource source.now }
-        requires of { of ≤ 10 }
-        ensures { (i : Interpretation) → Reads (RankedOf (H.shows_expr i)) (pure.level_of (env_at i depth) with_in of heads) source.now i self.old.place self.new.place result }
+        requires of { of ≤ 11 }
+        ensures { (i : Interpretation) → Reads (RankedOf (H.shows_expr i)) (up_to (env_at i depth) with_in of heads) source.now i self.old.place self.new.place result }
     {
-        if of == 0 {
-            return self.power(source, heads, depth);
+        let mut left = self.power(source, heads, depth)?;
+        let mut read = precedence::EXPONENTIATION;
+        loop {
+            let next = precedence::level_with(self.place.kind(source), with_in);
+            if !precedence::reads_on(read, next, of) {
+                return Ok(left);
+            }
+            let lower = precedence::operand_level(next);
+            left = self.operands_from(source, with_in, next, lower, left, depth)?;
+            read = next;
         }
-        let first = self.level(source, with_in, of - 1, heads, depth)?;
-        self.operands_from(source, with_in, of, of - 1, first, depth)
-    }
-
-    /// A ShortCircuitExpression: a list of `??`, or of `||` over `&&`, and not both.
-    #[cycle(exprs)]
-    #[tactic(auto, unfolding(pure_parser::specs::Exprs::short_circuit, pure_parser::specs::Exprs::or_from))]
-    fn short_circuit(
-        &mut self,
-        source: &Source,
-        with_in: bool,
-        heads: bool,
-        depth: u32,
-    ) -> Result<Ranked<H::E>, ParseFault>
-        requires { IsSource source.now }
-        ensures { (i : Interpretation) → Reads (RankedOf (H.shows_expr i)) (pure.short_circuit (env_at i depth) with_in heads) source.now i self.old.place self.new.place result }
-    {
-        let first = self.level(source, with_in, BIT_OR_LEVEL, heads, depth)?;
-        if kinds::is_op(self.place.kind(source), with_in, COALESCE_LEVEL) {
-            return self.operands_from(source, with_in, COALESCE_LEVEL, BIT_OR_LEVEL, first, depth);
-        }
-        let left = self.operands_from(source, with_in, AND_LEVEL, BIT_OR_LEVEL, first, depth)?;
-        self.operands_from(source, with_in, OR_LEVEL, AND_LEVEL, left, depth)
     }
 
     #[cycle(exprs)]
-    #[tactic(auto, unfolding(pure_parser::specs::Exprs::cond_tail, pure_parser::specs::Exprs::branches_of))]
+    #[tactic(auto, unfolding(grammar_parser_specs::specs::Exprs::cond_tail, grammar_parser_specs::specs::Exprs::branches_of))]
     fn cond_tail(
         &mut self,
         source: &Source,
@@ -357,7 +334,7 @@ impl<H: Handler> State<H> {
 
     /// A ConditionalExpression.
     #[cycle(exprs)]
-    #[tactic(auto, unfolding(pure_parser::specs::Exprs::cond_of))]
+    #[tactic(auto, unfolding(grammar_parser_specs::specs::Exprs::cond_of))]
     pub(crate) fn cond(
         &mut self,
         source: &Source,
@@ -368,7 +345,10 @@ impl<H: Handler> State<H> {
         requires { IsSource source.now }
         ensures { (i : Interpretation) → Reads (RankedOf (H.shows_expr i)) (pure.cond_of (env_at i depth) with_in heads) source.now i self.old.place self.new.place result }
     {
-        let first = self.short_circuit(source, with_in, heads, depth)?;
+        let first = self.level(source, with_in, precedence::COALESCE, heads, depth)?;
+        if !self.place.is_mark(source, mark::QUESTION) {
+            return Ok(first);
+        }
         self.cond_tail(source, with_in, first, depth)
     }
 }

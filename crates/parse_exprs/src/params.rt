@@ -22,7 +22,7 @@ use script_grammar::token::{FuncForm, mark};
 
 impl<H: Handler> State<H> {
     #[cycle(exprs)]
-    #[tactic(auto, unfolding(pure_parser::specs::Exprs::initializer_of))]
+    #[tactic(auto, unfolding(grammar_parser_specs::specs::Exprs::initializer_of))]
     fn initializer(&mut self, source: &Source, depth: u32) -> Result<Option<H::E>, ParseFault>
         requires { IsSource source.now }
         ensures { (i : Interpretation) → Reads (MaybeOf (H.shows_expr i)) (pure.initializer_of (env_at i depth)) source.now i self.old.place self.new.place result }
@@ -36,7 +36,7 @@ impl<H: Handler> State<H> {
     }
 
     #[cycle(exprs)]
-    #[tactic(auto, unfolding(pure_parser::specs::Exprs::param_of))]
+    #[tactic(auto, unfolding(grammar_parser_specs::specs::Exprs::param_of))]
     pub(crate) fn param(
         &mut self,
         source: &Source,
@@ -55,7 +55,7 @@ impl<H: Handler> State<H> {
     }
 
     #[cycle(exprs)]
-    #[tactic(auto, unfolding(pure_parser::specs::Exprs::param_turn))]
+    #[tactic(auto, unfolding(grammar_parser_specs::specs::Exprs::param_turn))]
     fn param_turn(
         &mut self,
         source: &Source,
@@ -74,7 +74,7 @@ impl<H: Handler> State<H> {
     }
 
     #[cycle(exprs)]
-    #[tactic(auto, unfolding(pure_parser::specs::Exprs::params_turn, pure_parser::specs::Exprs::params_next))]
+    #[tactic(auto, unfolding(grammar_parser_specs::specs::Exprs::params_turn, grammar_parser_specs::specs::Exprs::params_next))]
     fn params_turn(
         &mut self,
         source: &Source,
@@ -114,7 +114,7 @@ impl<H: Handler> State<H> {
     }
 
     #[cycle(exprs)]
-    #[tactic(auto, unfolding(pure_parser::specs::Exprs::more_params))]
+    #[tactic(auto, unfolding(grammar_parser_specs::specs::Exprs::more_params))]
     fn more_params(
         &mut self,
         source: &Source,
@@ -163,7 +163,7 @@ impl<H: Handler> State<H> {
     }
 
     #[cycle(exprs)]
-    #[tactic(auto, unfolding(pure_parser::specs::Exprs::listed_params))]
+    #[tactic(auto, unfolding(grammar_parser_specs::specs::Exprs::listed_params))]
     fn listed_params(
         &mut self,
         source: &Source,
@@ -214,7 +214,7 @@ impl<H: Handler> State<H> {
     }
 
     #[cycle(exprs)]
-    #[tactic(auto, unfolding(pure_parser::specs::Exprs::params_head))]
+    #[tactic(auto, unfolding(grammar_parser_specs::specs::Exprs::params_head))]
     pub(crate) fn params_head(
         &mut self,
         source: &Source,

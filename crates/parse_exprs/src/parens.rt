@@ -29,7 +29,7 @@ impl<H: Handler> State<H> {
     }
 
     #[cycle(exprs)]
-    #[tactic(auto, unfolding(pure_parser::specs::Exprs::items_from))]
+    #[tactic(auto, unfolding(grammar_parser_specs::specs::Exprs::items_from))]
     pub(crate) fn items(&mut self, source: &Source, depth: u32) -> Result<Vec<H::E>, ParseFault>
         requires { IsSource source.now }
         ensures { (i : Interpretation) → Reads (ListOf (H.shows_expr i)) (pure.items_from (env_at i depth)) source.now i self.old.place self.new.place result }
@@ -39,7 +39,7 @@ impl<H: Handler> State<H> {
         Self::with_first(first.node, more.items)
     }
 
-    #[tactic(auto, unfolding(pure_parser::specs::Exprs::lead_end))]
+    #[tactic(auto, unfolding(grammar_parser_specs::specs::Exprs::lead_end))]
     fn lead_end(
         &mut self,
         source: &Source,
@@ -57,7 +57,7 @@ impl<H: Handler> State<H> {
         Ok(Turned::Last(items))
     }
 
-    #[tactic(auto, unfolding(pure_parser::specs::Exprs::doomed_rest))]
+    #[tactic(auto, unfolding(grammar_parser_specs::specs::Exprs::doomed_rest))]
     fn doomed_rest(
         &mut self,
         source: &Source,
@@ -71,7 +71,7 @@ impl<H: Handler> State<H> {
     }
 
     #[cycle(exprs)]
-    #[tactic(auto, unfolding(pure_parser::specs::Exprs::lead_turn, pure_parser::specs::Exprs::lead_item))]
+    #[tactic(auto, unfolding(grammar_parser_specs::specs::Exprs::lead_turn, grammar_parser_specs::specs::Exprs::lead_item))]
     fn lead_turn(
         &mut self,
         source: &Source,
@@ -119,7 +119,7 @@ impl<H: Handler> State<H> {
     }
 
     #[cycle(exprs)]
-    #[tactic(auto, unfolding(pure_parser::specs::Exprs::lead_items))]
+    #[tactic(auto, unfolding(grammar_parser_specs::specs::Exprs::lead_items))]
     fn lead_items(&mut self, source: &Source, depth: u32) -> Result<Vec<H::E>, ParseFault>
         requires { IsSource source.now }
         ensures { (i : Interpretation) → Reads (ListOf (H.shows_expr i)) (pure.lead_items (env_at i depth)) source.now i self.old.place self.new.place result }
@@ -160,7 +160,7 @@ impl<H: Handler> State<H> {
 
     /// A parenthesized expression, after the parenthesis; the flag says whether an arrow's parameters may stand there.
     #[cycle(exprs)]
-    #[tactic(auto, unfolding(pure_parser::specs::Exprs::paren_of))]
+    #[tactic(auto, unfolding(grammar_parser_specs::specs::Exprs::paren_of))]
     pub(crate) fn paren(
         &mut self,
         source: &Source,

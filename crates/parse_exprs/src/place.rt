@@ -132,7 +132,7 @@ impl Place {
     }
 
     /// Goes past this mark, which must stand here.
-    #[tactic(auto, unfolding(pure_parser::specs::Exprs::expect))]
+    #[tactic(auto, unfolding(grammar_parser_specs::specs::Exprs::expect))]
     pub fn expect(&mut self, source: &Source, mark: u8) -> Result<(), ParseFault>
         requires { IsSource source.now }
         ensures { (i : Interpretation) → Reads Itself (pure.expect mark) source.now i self.old self.new result }
@@ -145,7 +145,7 @@ impl Place {
     }
 
     /// Reads a name.
-    #[tactic(auto, unfolding(pure_parser::specs::Exprs::name_of))]
+    #[tactic(auto, unfolding(grammar_parser_specs::specs::Exprs::name_of))]
     pub fn name(&mut self, source: &Source) -> Result<Ident, ParseFault>
         requires { IsSource source.now }
         ensures { (i : Interpretation) → Reads (NameOf i) pure.name_of source.now i self.old self.new result }
@@ -159,7 +159,7 @@ impl Place {
     }
 
     /// Reads a name, where one stands here.
-    #[tactic(auto, unfolding(pure_parser::specs::Exprs::maybe_name))]
+    #[tactic(auto, unfolding(grammar_parser_specs::specs::Exprs::maybe_name))]
     pub fn maybe_name(&mut self, source: &Source) -> Result<Option<Ident>, ParseFault>
         requires { IsSource source.now }
         ensures { (i : Interpretation) → Reads (MaybeNameOf i) pure.maybe_name source.now i self.old self.new result }
@@ -173,7 +173,7 @@ impl Place {
     }
 
     /// Goes past an arrow's mark, which must stand here on the line of what is before it.
-    #[tactic(auto, unfolding(pure_parser::specs::Exprs::arrow_mark))]
+    #[tactic(auto, unfolding(grammar_parser_specs::specs::Exprs::arrow_mark))]
     pub fn arrow_mark(&mut self, source: &Source) -> Result<(), ParseFault>
         requires { IsSource source.now }
         ensures { (i : Interpretation) → Reads Itself pure.arrow_mark source.now i self.old self.new result }
@@ -205,7 +205,7 @@ impl Place {
     }
 
     /// The fault at what is not a closing parenthesis and an arrow's mark, where only these can stand but no arrow is.
-    #[tactic(auto, unfolding(pure_parser::specs::Exprs::expect))]
+    #[tactic(auto, unfolding(grammar_parser_specs::specs::Exprs::expect))]
     pub fn doomed(&mut self, source: &Source) -> ParseFault
         requires { IsSource source.now }
         ensures { (i : Interpretation) → Refuses {A = Turn Expr (List Expr)} source.now i self.new result (records source.now i self.old) (pure.doomed (front source.now i self.old.at)) }

@@ -1,7 +1,8 @@
 use Rattle.parse_exprs.proofs.Calls.{answers_inside, refuses_none}
 use Rattle.parse_exprs.proofs.ChainExits.{atom_rank, tail_shown}
+use Rattle.parse_exprs.proofs.Climbing.{read_by, tight}
 use Rattle.parse_exprs.proofs.EndLoops.{ends_again, ends_init, ends_stop, last_more, operands_more}
-use Rattle.parse_exprs.proofs.Exits.{level_zero, more_turn_next, op_turn_next, power_turn_last, power_turn_next, tail_turn_call}
+use Rattle.parse_exprs.proofs.Exits.{more_turn_next, op_turn_next, power_turn_last, power_turn_next, tail_turn_call}
 use Rattle.parse_exprs.proofs.FuncParts.{func_ending, func_rank, func_read, function_form}
 use Rattle.parse_exprs.proofs.KeyParts.{key_read, or_none}
 use Rattle.parse_exprs.proofs.ListExits.{all_both, made_failed}
@@ -184,6 +185,9 @@ assign_in-returns-then-not-is_assign_mark = operators.assign_in-returns-then-not
 pub cond-returns : goal.cond-returns
 cond-returns = operators.cond-returns
 
+pub cond-returns-then-not-is_mark : goal.cond-returns-then-not-is_mark
+cond-returns-then-not-is_mark = operators.cond-returns-then-not-is_mark
+
 pub cond_tail-returns : goal.cond_tail-returns
 cond_tail-returns = operators.cond_tail-returns
 
@@ -296,18 +300,20 @@ left-returns-then-not-may_begin_chain g t c = λ i.
     let tail = begins_rank h.0 ∙ sym (ap begins h.2) ∙ sym c.may_begin_chain.ensures ∙ c.if-not-may_begin_chain.true in
     (h.0, h.1, h.2, h.3, then _ h.4 (when_false _ _ tail (just _ _ _)))
 
-pub level-returns : goal.level-returns
-level-returns = operators.level-returns
+pub level-loop-left-init : goal.level-loop-left-init
+level-loop-left-init = operators.level-loop-left-init
 
-pub level-returns-in_err-first : goal.level-returns-in_err-first
-level-returns-in_err-first = operators.level-returns-in_err-first
+pub level-loop-left-preserved : goal.level-loop-left-preserved
+level-loop-left-preserved = operators.level-loop-left-preserved
 
-pub level-returns-then-of-eq0 : goal.level-returns-then-of-eq0
-level-returns-then-of-eq0 g t c = λ i.
-    let shows = g.H.Handler.shows_expr i in
-    let s = c.args.source.now in
-    let rs = records s i c.args.self.now.place in
-    subst (λ x. Answers (RankedOf shows) s i c.power.new.self.place c.power.result rs x) (level_zero (env_at i c.args.depth) c.args.with_in c.args.of c.args.heads (front s i c.args.self.now.place.at) c.if-of-eq0.true) (c.power.ensures i)
+pub level-returns-in_err-left : goal.level-returns-in_err-left
+level-returns-in_err-left = operators.level-returns-in_err-left
+
+pub level-returns-in_err-left-2 : goal.level-returns-in_err-left-2
+level-returns-in_err-left-2 = operators.level-returns-in_err-left-2
+
+pub level-returns-then-not-reads_on : goal.level-returns-then-not-reads_on
+level-returns-then-not-reads_on = operators.level-returns-then-not-reads_on
 
 pub listed_params-returns : goal.listed_params-returns
 listed_params-returns = functions.listed_params-returns
@@ -415,7 +421,7 @@ one_param-returns g t c = λ i.
 pub op_turn-returns : goal.op_turn-returns
 op_turn-returns g t c = λ i.
     let a = rw (c.step.ensures.at i, c.step.ensures.records i) at (c.in_ok-value.ensures i) in
-    (a.0, a.1, (a.3, rw (c.mark_of.ensures, c.is_word_kind.ensures, c.kind-kind.ensures i) (op_turn_next c.args.with_in c.args.of (level_of (env_at i c.args.depth) c.args.with_in c.args.lower false) _ a.0 (ap (is_op c.args.with_in c.args.of) (sym (c.kind-kind.ensures i)) ∙ sym c.is_op.ensures ∙ c.if-not-is_op.false) a.4)))
+    (a.0, a.1, (a.3, rw (c.mark_of.ensures, c.is_word_kind.ensures, c.kind-kind.ensures i) (op_turn_next c.args.with_in c.args.of (level_of (env_at i c.args.depth) c.args.with_in c.args.lower false) _ a.0 (ap (is_op c.args.with_in c.args.of) (sym (c.kind-kind.ensures i)) ∙ sym c.is_op.ensures ∙ c.if-not-is_op.false) (read_by (tight (env_at i c.args.depth) c.args.with_in false _ c.args.lower c.requires.lower) a.4))))
 
 pub operands-loop-items-init : goal.operands-loop-items-init
 operands-loop-items-init g t c = λ i. rw c.new-items.ensures.items (ends_init _ _ _ _ _ _ refl)
@@ -491,6 +497,9 @@ power-returns = operators.power-returns
 
 pub power-returns-in_err-rest : goal.power-returns-in_err-rest
 power-returns-in_err-rest = operators.power-returns-in_err-rest
+
+pub power-returns-then-not-is_mark : goal.power-returns-then-not-is_mark
+power-returns-then-not-is_mark = operators.power-returns-then-not-is_mark
 
 pub power-returns-then-not-may_be_raised : goal.power-returns-then-not-may_be_raised
 unfolding power_of
@@ -616,12 +625,6 @@ short-returns g t c = λ i. (model.Short (named i c.args.name), c.in_ok-prop.ens
 
 pub short-returns-then-is_mark : goal.short-returns-then-is_mark
 short-returns-then-is_mark = properties.short-returns-then-is_mark
-
-pub short_circuit-returns : goal.short_circuit-returns
-short_circuit-returns = operators.short_circuit-returns
-
-pub short_circuit-returns-then-is_op : goal.short_circuit-returns-then-is_op
-short_circuit-returns-then-is_op = operators.short_circuit-returns-then-is_op
 
 pub tail-returns-then-is_mark : goal.tail-returns-then-is_mark
 tail-returns-then-is_mark g t c = λ i.

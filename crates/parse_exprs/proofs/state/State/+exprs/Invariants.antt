@@ -1,8 +1,9 @@
+use Rattle.parse_exprs.proofs.Climbing.{Climbing}
 use Rattle.parse_exprs.proofs.EndLoops.{LoopingTo}
 use Rattle.parse_exprs.proofs.Loops.{Looping}
 use Rattle.parse_exprs.specs.Answers.{records}
 use Rattle.parse_exprs.specs.Env.{env_at}
-use Rattle.parse_exprs.specs.Means.{ending_as}
+use Rattle.parse_exprs.specs.Means.{RankedOf, ending_as}
 use Rattle.parse_exprs.specs.Source.{front}
 use Rattle.grammar_parser_specs.specs.Exprs.{AParam, ARest, AnAssign, args_turn, item_turn, lead_turn, level_of, member_turn, more_turn, op_turn, part_turn, power_turn, tail_turn}
 use Rattle.grammar_parser_specs.specs.Parser.{led, loop}
@@ -21,6 +22,12 @@ invariant-operands-loop-items g l = (i : Interpretation) → LoopingTo (ShowOper
 
 abbrev pub decreases-operands-loop-items : goal.decreases-operands-loop-items
 decreases-operands-loop-items g l = length (drop l.self.place.at l.fn.source.tokens.now)
+
+abbrev pub invariant-level-loop-left : goal.invariant-level-loop-left
+invariant-level-loop-left g l = (i : Interpretation) → RankedOf (g.H.Handler.shows_expr i) l.left (λ t. Climbing (env_at i l.fn.depth) l.fn.with_in l.fn.heads (records l.fn.source i l.fn.self.place) (front l.fn.source i l.fn.self.place.at) l.fn.of l.read t (records l.fn.source i l.self.place) (front l.fn.source i l.self.place.at))
+
+abbrev pub decreases-level-loop-left : goal.decreases-level-loop-left
+decreases-level-loop-left g l = l.fn.of - l.read
 
 abbrev pub decreases-level : goal.decreases-level
 decreases-level g l = 128 * (400 - l.depth) + (33 + 4 * l.of)
@@ -285,9 +292,6 @@ decreases-setter g l = 128 * (400 - l.depth) + (15)
 
 abbrev pub decreases-short : goal.decreases-short
 decreases-short g l = 128 * (400 - l.depth) + (14)
-
-abbrev pub decreases-short_circuit : goal.decreases-short_circuit
-decreases-short_circuit g l = 128 * (400 - l.depth) + (80)
 
 abbrev pub decreases-tail : goal.decreases-tail
 decreases-tail g l = 128 * (400 - l.depth) + (7)

@@ -1,17 +1,20 @@
 -- Operators, with assignments, conditions and `new`.
 use Rattle.parse_exprs.proofs.Calls.{refuses_none}
 use Rattle.parse_exprs.proofs.ChainExits.{maybe_args_shown}
+use Rattle.parse_exprs.proofs.Climbing.{climb_next, climb_refused, climb_start, climb_stop, no_powers, start_refused}
 use Rattle.parse_exprs.proofs.EndLoops.{ends_stop, operands_more}
-use Rattle.parse_exprs.proofs.Exits.{level_next, refused_twice}
+use Rattle.parse_exprs.proofs.Exits.{refused_twice}
 use Rattle.parse_exprs.proofs.FuncParts.{refused_behind}
 use Rattle.parse_exprs.proofs.Loops.{all_more}
 use Rattle.parse_exprs.proofs.Made.{made_answers}
 use Rattle.parse_exprs.proofs.Onward.{onward, onward_false, onward_true, ranked_maps}
+use Rattle.parse_exprs.proofs.OperatorLevels.{reads_so}
 use Rattle.parse_exprs.proofs.RankFacts.{assigns_rank, begins_rank, raises_rank}
 use Rattle.parse_exprs.proofs.Steps.{handed, just, made, made_twice, read_is, refused, then, when_false, when_true}
 use Rattle.parse_exprs.proofs.state.State.+exprs.Goals.{assign_in-then-not-is_assign_mark-via-else-not-is_assign_mark+then-not-may_be_assigned, assign_in-then-not-is_assign_mark-via-then-not-is_assign_mark, prefix-else-is_prefix, prefix-then-is_prefix}
 use Rattle.parse_exprs.specs.Answers.{Answers, records}
 use Rattle.parse_exprs.specs.Env.{env_at}
+use Rattle.parse_exprs.specs.Levels.{level_with}
 use Rattle.parse_exprs.specs.Means.{Itself, RankedOf, ShowRanked}
 use Rattle.parse_exprs.specs.Ranks.{assigns, begins, raises}
 use Rattle.parse_exprs.specs.Source.{front}
@@ -88,6 +91,12 @@ cond-returns g t c = λ i.
     let a = c.in_ok-first.ensures i in
     onward (RankedOf shows) s i c.cond_tail.new.self.place c.cond_tail.result rs _ (cond_tail (env_at i c.args.depth) c.args.with_in) (ranked_maps shows) a.4 (c.cond_tail.ensures i a.0 a.1 a.2 a.3)
 
+pub cond-returns-then-not-is_mark : goal.cond-returns-then-not-is_mark
+unfolding cond_of cond_tail
+cond-returns-then-not-is_mark g t c = λ i.
+    let a = c.in_ok-first.ensures i in
+    (a.0, a.1, a.2, a.3, then _ a.4 (when_false _ _ (sym (c.is_mark.ensures i) ∙ c.if-not-is_mark.true) (just _ _ _)))
+
 pub cond_tail-returns : goal.cond_tail-returns
 unfolding cond_tail branches_of
 cond_tail-returns g t c = λ i t m r e.
@@ -96,26 +105,55 @@ cond_tail-returns g t c = λ i t m r e.
     let is = sym (c.is_mark.ensures i) ∙ c.if-not-is_mark.false in
     (model.Cond t a.0 b.0, c.in_ok-node.ensures i t a.0 b.0 m a.1 b.1, refl, b.3, when_true _ _ is (then _ a.4 (then _ (c.in_ok-expect.ensures i) (made _ b.4))))
 
-pub level-returns : goal.level-returns
-level-returns g t c = λ i.
-    let shows = g.H.Handler.shows_expr i in
+pub level-loop-left-init : goal.level-loop-left-init
+level-loop-left-init g t c = λ i.
     let s = c.args.source.now in
-    let rs = records s i c.args.self.now.place in
-    let v = env_at i c.args.depth in
-    let a = c.in_ok-first.ensures i in
-    subst (λ x. Answers (RankedOf shows) s i c.operands_from.new.self.place c.operands_from.result rs x) (level_next v c.args.with_in c.args.of c.args.heads (front s i c.args.self.now.place.at) (omega arith))
-    (onward (RankedOf shows) s i c.operands_from.new.self.place c.operands_from.result rs _ (operands_from c.args.with_in c.args.of (level_of v c.args.with_in (c.args.of - 1) false)) (ranked_maps shows) a.4 (c.operands_from.ensures i a.0 a.1 a.2 a.3))
+    let p = c.power.new.self.place in
+    let a = c.in_ok-left.ensures i in
+    (a.0, a.1, a.2, a.3, climb_start (env_at i c.args.depth) c.args.with_in c.args.heads (records s i c.args.self.now.place) (front s i c.args.self.now.place.at) c.args.of a.0 (records s i p) (front s i p.at) a.4)
 
-pub level-returns-in_err-first : goal.level-returns-in_err-first
-level-returns-in_err-first g t c = λ i.
-    let shows = g.H.Handler.shows_expr i in
+pub level-loop-left-preserved : goal.level-loop-left-preserved
+level-loop-left-preserved g t c = λ i.
+    let s = c.args.source.now in
+    let p = c.loop-left.self.place in
+    let n = c.operands_from.new.self.place in
+    let a = c.loop-left.invariant i in
+    let b = rw c.operand_level-lower.ensures at (c.in_ok-left-2.ensures i a.0 a.1 a.2 a.3) in
+    let is = c.level_with-next.ensures ∙ ap (level_with c.args.with_in) (c.kind.ensures i) in
+    let on = reads_so c.loop-left.read c.level_with-next.result c.args.of c.requires.of (sym c.reads_on.ensures ∙ c.if-not-reads_on.false) in
+    (b.0, b.1, b.2, b.3, climb_next (env_at i c.args.depth) c.args.with_in c.args.heads (records s i c.args.self.now.place) (front s i c.args.self.now.place.at) c.args.of c.loop-left.read c.level_with-next.result a.0 (records s i p) (front s i p.at) c.requires.of a.4 is on b.0 (records s i n) (front s i n.at) b.4)
+
+pub level-returns-in_err-left : goal.level-returns-in_err-left
+level-returns-in_err-left g t c = λ i.
     let s = c.args.source.now in
     let rs = records s i c.args.self.now.place in
-    let v = env_at i c.args.depth in
-    let p = c.level.new.self.place in
-    let e = c.in_err-first.field-0.0 in
-    subst (λ x. Answers (RankedOf shows) s i p c.from_residual.result rs x) (level_next v c.args.with_in c.args.of c.args.heads (front s i c.args.self.now.place.at) (omega arith))
-    (handed s i p e c.from_residual.result (RankedOf shows) rs _ c.from_residual.ensures.1 (refused s i p e rs _ (operands_from c.args.with_in c.args.of (level_of v c.args.with_in (c.args.of - 1) false)) (c.in_err-first.ensures i)))
+    let ts = front s i c.args.self.now.place.at in
+    let p = c.power.new.self.place in
+    let e = c.in_err-left.field-0.0 in
+    handed s i p e c.from_residual.result (RankedOf (g.H.Handler.shows_expr i)) rs _ c.from_residual.ensures.1 (start_refused (env_at i c.args.depth) c.args.with_in c.args.heads rs ts s i p e c.args.of c.requires.of (c.in_err-left.ensures i))
+
+pub level-returns-in_err-left-2 : goal.level-returns-in_err-left-2
+level-returns-in_err-left-2 g t c = λ i.
+    let s = c.args.source.now in
+    let rs = records s i c.args.self.now.place in
+    let ts = front s i c.args.self.now.place.at in
+    let q = c.loop-left.self.place in
+    let p = c.operands_from.new.self.place in
+    let e = c.in_err-left-2.field-0.0 in
+    let a = c.loop-left.invariant i in
+    let b = rw c.operand_level-lower.ensures at (c.in_err-left-2.ensures i a.0 a.1 a.2 a.3) in
+    let is = c.level_with-next.ensures ∙ ap (level_with c.args.with_in) (c.kind.ensures i) in
+    let on = reads_so c.loop-left.read c.level_with-next.result c.args.of c.requires.of (sym c.reads_on.ensures ∙ c.if-not-reads_on.false) in
+    handed s i p e c.from_residual-in_err-left-2.result (RankedOf (g.H.Handler.shows_expr i)) rs _ c.from_residual-in_err-left-2.ensures.1
+    (climb_refused (env_at i c.args.depth) c.args.with_in c.args.heads rs ts c.args.of c.loop-left.read c.level_with-next.result a.0 (records s i q) (front s i q.at) c.requires.of a.4 is on s i p e b)
+
+pub level-returns-then-not-reads_on : goal.level-returns-then-not-reads_on
+level-returns-then-not-reads_on g t c = λ i.
+    let s = c.args.source.now in
+    let p = c.loop-left.self.place in
+    let a = c.loop-left.invariant i in
+    let is = c.level_with-next.ensures ∙ ap (level_with c.args.with_in) (c.kind.ensures i) in
+    (a.0, a.1, a.2, a.3, climb_stop (env_at i c.args.depth) c.args.with_in c.args.heads (records s i c.args.self.now.place) (front s i c.args.self.now.place.at) c.args.of c.loop-left.read c.level_with-next.result a.0 (records s i p) (front s i p.at) c.requires.of a.4 is (sym c.reads_on.ensures ∙ c.if-not-reads_on.true))
 
 pub new_in-returns : goal.new_in-returns
 unfolding new_of new_from
@@ -211,6 +249,12 @@ power-returns-in_err-rest g t c = λ i.
     let fault = refused_twice s i p e _ (loop (power_turn (env_at i c.args.depth)) (front s i c.unary.new.self.place.at)) (λ m. with_last m.items m.last) (binary_case a.0) (c.in_err-rest.ensures i) in
     handed s i p e c.from_residual-in_err-rest.result (RankedOf shows) rs _ c.from_residual-in_err-rest.ensures.1 (refused_behind s i p e rs _ _ a.4 (onward_true (Itself {A = Expr}) s i p (Err e) _ _ _ _ yes fault))
 
+pub power-returns-then-not-is_mark : goal.power-returns-then-not-is_mark
+unfolding power_of
+power-returns-then-not-is_mark g t c = λ i.
+    let a = c.in_ok-first.ensures i in
+    (a.0, a.1, a.2, a.3, then _ a.4 (no_powers (env_at i c.args.depth) a.0 _ _ (sym (c.is_mark.ensures i) ∙ c.if-not-is_mark.true)))
+
 pub powers-returns-in-Last-Some : goal.powers-returns-in-Last-Some
 powers-returns-in-Last-Some g t c = λ i.
     let shows = g.H.Handler.shows_expr i in
@@ -258,33 +302,6 @@ prefix_in-returns-then-is_update g t c = λ i.
       a.3,
       read_is (when_false _ _ no (when_true _ _ yes (made _ a.4))) (ap (λ (x : Lexeme). model.Update x.start (mark_of x.kind) true a.0) (sym same)),
     )
-
-pub short_circuit-returns : goal.short_circuit-returns
-unfolding short_circuit or_from
-short_circuit-returns g t c = λ i.
-    let shows = g.H.Handler.shows_expr i in
-    let s = c.args.source.now in
-    let rs = records s i c.args.self.now.place in
-    let a = c.in_ok-first.ensures i in
-    let no = ap (is_op c.args.with_in coalesce_level) (sym (c.kind.ensures i)) ∙ sym c.is_op.ensures ∙ c.if-is_op.false in
-    let b = c.in_ok-left.ensures i a.0 a.1 a.2 a.3 in
-    let p = c.operands_from-3.new.self.place in
-    let o = c.operands_from-3.result in
-    onward (RankedOf shows) s i p o rs _ _ (ranked_maps shows) a.4
-    (onward_false (RankedOf shows) s i p o _ _ _ _ no
-    (onward (RankedOf shows) s i p o _ _ (operands_from c.args.with_in or_level (level_of (env_at i c.args.depth) c.args.with_in and_level false)) (ranked_maps shows) b.4 (c.operands_from-3.ensures i b.0 b.1 b.2 b.3)))
-
-pub short_circuit-returns-then-is_op : goal.short_circuit-returns-then-is_op
-unfolding short_circuit
-short_circuit-returns-then-is_op g t c = λ i.
-    let shows = g.H.Handler.shows_expr i in
-    let s = c.args.source.now in
-    let rs = records s i c.args.self.now.place in
-    let a = c.in_ok-first.ensures i in
-    let yes = ap (is_op c.args.with_in coalesce_level) (sym (c.kind.ensures i)) ∙ sym c.is_op.ensures ∙ c.if-is_op.true in
-    let p = c.operands_from.new.self.place in
-    let o = c.operands_from.result in
-    onward (RankedOf shows) s i p o rs _ _ (ranked_maps shows) a.4 (onward_true (RankedOf shows) s i p o _ _ _ _ yes (c.operands_from.ensures i a.0 a.1 a.2 a.3))
 
 pub unary-returns : goal.unary-returns
 unfolding unary_of update_of

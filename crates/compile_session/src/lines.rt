@@ -1,26 +1,14 @@
 //! The lines that are printed for a file.
 
-ghost use Rattle.std.specs.Prelude.{◌≡◌, ◌++◌, codes, IfOk, OnOk};
+ghost use Rattle.std.specs.Prelude.{◌≡◌, ◌++◌, codes, IfOk};
 ghost use Rattle.std.specs.Fmt.{decimal};
 ghost use Rattle.session_specs.specs.Answer.{file_line};
 ghost use Rattle.session_specs.specs.Refusals.{at_offset, refusal_line};
 ghost use Rattle.compile_session.specs.Answers.{refusal_of};
 
 use crate::refusal::Refusal;
+use script_image::append_decimal;
 use std::alloc::{AllocError, Global};
-
-/// Appends the decimal digits of a number.
-pub(crate) fn append_decimal(
-    alloc: Global,
-    out: &mut Vec<u8>,
-    number: u64,
-) -> Result<(), AllocError>
-    ensures { OnOk result (out.new.items ≡ out.old.items ++ decimal number) }
-{
-    let digits = number.to_string(alloc)?;
-    out.extend_from_slice(digits.as_bytes())?;
-    Ok(())
-}
 
 /// The line before the listing of a file.
 pub(crate) fn file_text(alloc: Global, name: &str) -> Result<Vec<u8>, AllocError>
@@ -38,7 +26,7 @@ pub(crate) fn fine_text(alloc: Global, name: &str, functions: usize) -> Result<V
 {
     let mut out = Vec::from_slice(alloc, name.as_bytes())?;
     out.extend_from_slice(b": ok, ")?;
-    append_decimal(alloc, &mut out, functions as u64)?;
+    append_decimal(&mut out, functions as u64)?;
     out.extend_from_slice(b" functions\n")?;
     Ok(out)
 }
@@ -63,7 +51,7 @@ fn line_of_place(
 {
     let mut out = Vec::from_slice(alloc, name.as_bytes())?;
     out.extend_from_slice(b":")?;
-    append_decimal(alloc, &mut out, u64::from(offset))?;
+    append_decimal(&mut out, u64::from(offset))?;
     out.extend_from_slice(words)?;
     Ok(out)
 }
@@ -79,13 +67,13 @@ pub(crate) fn refusal_text(alloc: Global, name: &str, why: Refusal) -> Result<Ve
         Refusal::TooDeep { offset } => line_of_place(alloc, name, offset, b": too deep\n"),
         Refusal::Early { offset, rule } => {
             let mut out = line_of_place(alloc, name, offset, b": early error ")?;
-            append_decimal(alloc, &mut out, u64::from(rule))?;
+            append_decimal(&mut out, u64::from(rule))?;
             out.extend_from_slice(b"\n")?;
             Ok(out)
         }
         Refusal::NoFunction { number } => {
             let mut out = line_of_file(alloc, name, b": no function ")?;
-            append_decimal(alloc, &mut out, u64::from(number))?;
+            append_decimal(&mut out, u64::from(number))?;
             out.extend_from_slice(b"\n")?;
             Ok(out)
         }

@@ -67,21 +67,16 @@ pub(crate) fn missing_of(want: &Want, count: usize) -> Option<u32>
 }
 
 /// Appends the listing that a command is to print.
-fn append_text(
-    alloc: Global,
-    out: &mut Vec<u8>,
-    command: Command,
-    shown: &MergedStencil,
-) -> Result<(), AllocError>
+fn append_text(out: &mut Vec<u8>, command: Command, shown: &MergedStencil) -> Result<(), AllocError>
     ensures { OnOk result ((named : NamedMerged (List Listed)) → MergedStandsFor ShowsListed shown.now named → out.new.items ≡ out.old.items ++ listed_text command named) }
 {
     match command {
         Command::Scopes => {
-            scope_text(alloc, out, shown)?;
+            scope_text(out, shown)?;
             Ok(())
         }
         Command::Code | Command::Check | Command::Save | Command::Load | Command::Verify => {
-            code_text(alloc, out, shown)?;
+            code_text(out, shown)?;
             Ok(())
         }
     }
@@ -118,6 +113,6 @@ pub(crate) fn listing_of(
     ensures { IfOk result (λ text. (named : NamedMerged (List Listed)) → MergedStandsFor ShowsListed shown.now named → text.items ≡ answer.file_line name.now ++ listed_text command named) }
 {
     let mut out = file_text(alloc, name)?;
-    append_text(alloc, &mut out, command, shown)?;
+    append_text(&mut out, command, shown)?;
     Ok(out)
 }

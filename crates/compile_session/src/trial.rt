@@ -11,26 +11,20 @@ ghost use Rattle.compile_session.specs.Answers.{IsScriptOf};
 ghost use Rattle.compile_session.specs.Files.{SettlesWork};
 
 use crate::answer::FileAnswer;
-use crate::lines::append_decimal;
 use crate::listing::stencil_of;
 use crate::source::{SourceScript, SourceText, read_source};
-use script_image::instructions;
+use script_image::{append_decimal, instructions};
 use session_trial::generated_text;
 use session_words::Want;
 use std::alloc::{AllocError, Global};
 
 /// Appends what is printed before the counts: the number and the size that the text was generated from.
-fn append_numbers(
-    alloc: Global,
-    out: &mut Vec<u8>,
-    number: u32,
-    size: u32,
-) -> Result<(), AllocError>
+fn append_numbers(out: &mut Vec<u8>, number: u32, size: u32) -> Result<(), AllocError>
     ensures { OnOk result (out.new.items ≡ out.old.items ++ answer.numbers_text number size) }
 {
-    append_decimal(alloc, out, u64::from(number))?;
+    append_decimal(out, u64::from(number))?;
     out.extend_from_slice(b" ")?;
-    append_decimal(alloc, out, u64::from(size))?;
+    append_decimal(out, u64::from(size))?;
     out.extend_from_slice(b": ")?;
     Ok(())
 }
@@ -53,7 +47,7 @@ fn append_counts(
 ) -> Result<(), AllocError>
     ensures { OnOk result (out.new.items ≡ out.old.items ++ answer.counts_text functions instructions) }
 {
-    append_decimal(alloc, out, functions)?;
+    append_decimal(out, functions)?;
     out.extend_from_slice(b" functions, ")?;
     append_wide(alloc, out, instructions)?;
     out.extend_from_slice(b" instructions\n")?;
@@ -72,8 +66,8 @@ fn trial_line(
     ensures { IfOk result (λ text. text.items ≡ codes "trial " ++ answer.numbers_text number size ++ decimal bytes ++ codes " bytes, " ++ answer.counts_text functions instructions) }
 {
     let mut out = Vec::from_slice(alloc, b"trial ")?;
-    append_numbers(alloc, &mut out, number, size)?;
-    append_decimal(alloc, &mut out, bytes)?;
+    append_numbers(&mut out, number, size)?;
+    append_decimal(&mut out, bytes)?;
     out.extend_from_slice(b" bytes, ")?;
     append_counts(alloc, &mut out, functions, instructions)?;
     Ok(out)

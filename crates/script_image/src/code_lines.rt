@@ -11,15 +11,15 @@ ghost use Rattle.script_image.specs.ReadLines.{read_as, read_operand};
 use crate::names::name_of;
 use crate::quoted::{append_decimal, append_padded, append_quoted, append_range, text_at};
 use bytecode_buf::{Instr, Shape, decode_at};
-use std::alloc::{AllocError, Global};
+use std::alloc::AllocError;
 use stencil_data::{FunctionStencil, Text, TryNote};
 
 /// Appends a blank and a number.
-fn append_number(alloc: Global, out: &mut Vec<u8>, number: u64) -> Result<(), AllocError>
+fn append_number(out: &mut Vec<u8>, number: u64) -> Result<(), AllocError>
     ensures { OnOk result (out.new.items ≡ out.old.items ++ ((32 ∷ []) ++ decimal number)) }
 {
     out.extend_from_slice(b" ")?;
-    append_decimal(alloc, out, number)?;
+    append_decimal(out, number)?;
     Ok(())
 }
 
@@ -33,11 +33,11 @@ fn append_text(out: &mut Vec<u8>, units: &[u16]) -> Result<(), AllocError>
 }
 
 /// Appends hops and a slot, a blank before each.
-fn append_aliased(alloc: Global, out: &mut Vec<u8>, hops: u64, slot: u64) -> Result<(), AllocError>
+fn append_aliased(out: &mut Vec<u8>, hops: u64, slot: u64) -> Result<(), AllocError>
     ensures { OnOk result (out.new.items ≡ out.old.items ++ lines.operand_text (command.Aliased hops slot)) }
 {
-    append_number(alloc, out, hops)?;
-    append_number(alloc, out, slot)?;
+    append_number(out, hops)?;
+    append_number(out, slot)?;
     Ok(())
 }
 
@@ -50,7 +50,6 @@ fn target_of(at: usize, distance: i64) -> u64
 
 /// Appends the operands of an instruction of this shape that was read at an offset.
 fn append_operand(
-    alloc: Global,
     out: &mut Vec<u8>,
     at: usize,
     shape: Shape,
@@ -61,49 +60,38 @@ fn append_operand(
 {
     match shape {
         Shape::Nothing => (),
-        Shape::Whole8 => append_number(alloc, out, instr.a)?,
-        Shape::Whole16 => append_number(alloc, out, instr.a)?,
-        Shape::Whole24 => append_number(alloc, out, instr.a)?,
-        Shape::Whole32 => append_number(alloc, out, instr.a)?,
-        Shape::Whole64 => append_number(alloc, out, instr.a)?,
+        Shape::Whole8 => append_number(out, instr.a)?,
+        Shape::Whole16 => append_number(out, instr.a)?,
+        Shape::Whole24 => append_number(out, instr.a)?,
+        Shape::Whole32 => append_number(out, instr.a)?,
+        Shape::Whole64 => append_number(out, instr.a)?,
         Shape::Atom => append_text(out, text_at(texts, instr.a))?,
-        Shape::Arg => append_number(alloc, out, instr.a)?,
-        Shape::Slot => append_number(alloc, out, instr.a)?,
-        Shape::Aliased => append_aliased(alloc, out, instr.a, instr.b)?,
-        Shape::Num => append_number(alloc, out, instr.a)?,
-        Shape::Argc => append_number(alloc, out, instr.a)?,
-        Shape::Place => append_number(alloc, out, instr.a)?,
-        Shape::Jump => append_number(alloc, out, target_of(at, instr.to))?,
+        Shape::Arg => append_number(out, instr.a)?,
+        Shape::Slot => append_number(out, instr.a)?,
+        Shape::Aliased => append_aliased(out, instr.a, instr.b)?,
+        Shape::Num => append_number(out, instr.a)?,
+        Shape::Argc => append_number(out, instr.a)?,
+        Shape::Place => append_number(out, instr.a)?,
+        Shape::Jump => append_number(out, target_of(at, instr.to))?,
     }
     Ok(())
 }
 
 /// Appends the line of an instruction that was read at an offset.
-fn append_line(
-    alloc: Global,
-    out: &mut Vec<u8>,
-    at: usize,
-    instr: Instr,
-    texts: &[Text],
-) -> Result<(), AllocError>
+fn append_line(out: &mut Vec<u8>, at: usize, instr: Instr, texts: &[Text]) -> Result<(), AllocError>
     ensures { OnOk result (out.new.items ≡ out.old.items ++ lines.line (read_as texts.now at instr)) }
 {
     out.extend_from_slice(b"  ")?;
-    append_padded(alloc, out, at as u64)?;
+    append_padded(out, at as u64)?;
     out.extend_from_slice(b" ")?;
     out.extend_from_slice(name_of(instr.op).as_bytes())?;
-    append_operand(alloc, out, at, instr.op.row().shape, instr, texts)?;
+    append_operand(out, at, instr.op.row().shape, instr, texts)?;
     out.extend_from_slice(b"\n")?;
     Ok(())
 }
 
 /// Appends the lines of the whole instructions of a code.
-fn append_instructions(
-    alloc: Global,
-    out: &mut Vec<u8>,
-    code: &[u8],
-    texts: &[Text],
-) -> Result<(), AllocError>
+fn append_instructions(out: &mut Vec<u8>, code: &[u8], texts: &[Text]) -> Result<(), AllocError>
     ensures { OnOk result (out.new.items ≡ out.old.items ++ lines.listing (command.listed texts.now code.now)) }
 {
     let mut at = 0;
@@ -111,7 +99,7 @@ fn append_instructions(
         match decode_at(code, at) {
             None => return Ok(()),
             Some(instr) => {
-                append_line(alloc, out, at, instr, texts)?;
+                append_line(out, at, instr, texts)?;
                 at = instr.next;
             }
         }
@@ -120,36 +108,35 @@ fn append_instructions(
 }
 
 /// Appends the line of a try note.
-fn append_note(alloc: Global, out: &mut Vec<u8>, note: TryNote) -> Result<(), AllocError>
+fn append_note(out: &mut Vec<u8>, note: TryNote) -> Result<(), AllocError>
     ensures { OnOk result (out.new.items ≡ out.old.items ++ lines.note_line note) }
 {
     out.extend_from_slice(b"  catch ")?;
-    append_range(alloc, out, note.start, note.end)?;
+    append_range(out, note.start, note.end)?;
     out.extend_from_slice(b" depth ")?;
-    append_decimal(alloc, out, u64::from(note.depth))?;
+    append_decimal(out, u64::from(note.depth))?;
     out.extend_from_slice(b"\n")?;
     Ok(())
 }
 
-fn append_notes(alloc: Global, out: &mut Vec<u8>, notes: &[TryNote]) -> Result<(), AllocError>
+fn append_notes(out: &mut Vec<u8>, notes: &[TryNote]) -> Result<(), AllocError>
     ensures { OnOk result (out.new.items ≡ out.old.items ++ flat_map lines.note_line notes.now) }
 {
     for note in notes {
-        append_note(alloc, out, *note)?;
+        append_note(out, *note)?;
     }
     Ok(())
 }
 
 /// Appends what stands under the line of a compiled script for its code.
 pub(crate) fn append_code(
-    alloc: Global,
     out: &mut Vec<u8>,
     texts: &[Text],
     script: &FunctionStencil,
 ) -> Result<(), AllocError>
     ensures { OnOk result (out.new.items ≡ out.old.items ++ lines.code_lines (listed_script texts.now script.now)) }
 {
-    append_instructions(alloc, out, &script.code, texts)?;
-    append_notes(alloc, out, &script.notes)?;
+    append_instructions(out, &script.code, texts)?;
+    append_notes(out, &script.notes)?;
     Ok(())
 }

@@ -18,4 +18,5 @@ mod scope_lines;
 mod script_lines;
 
 pub use counts::instructions;
+pub use quoted::append_decimal;
 pub use script_lines::{code_text, scope_text};

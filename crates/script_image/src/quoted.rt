@@ -5,19 +5,16 @@ ghost use Rattle.std.specs.Fmt.{decimal};
 ghost use Rattle.stencil_data.specs.StandsFor as stands;
 ghost use Rattle.script_image.specs.Quoted as printed;
 
-use std::alloc::{AllocError, Global};
+use itoa::Buffer;
+use std::alloc::AllocError;
 use stencil_data::{Extent, Text};
 
-/// Appends the decimal digits of a number.
-pub(crate) fn append_decimal(
-    alloc: Global,
-    out: &mut Vec<u8>,
-    number: u64,
-) -> Result<(), AllocError>
+/// Appends the decimal digits of a number. It takes no memory but that of the list.
+pub fn append_decimal(out: &mut Vec<u8>, number: u64) -> Result<(), AllocError>
     ensures { OnOk result (out.new.items ≡ out.old.items ++ decimal number) }
 {
-    let digits = number.to_string(alloc)?;
-    out.extend_from_slice(digits.as_bytes())?;
+    let mut buffer = Buffer::new();
+    out.extend_from_slice(buffer.format(number).as_bytes())?;
     Ok(())
 }
 
@@ -30,12 +27,13 @@ fn zeros(count: usize) -> &'static [u8]
 }
 
 /// Appends the decimal digits of a number, at least five.
-pub(crate) fn append_padded(alloc: Global, out: &mut Vec<u8>, number: u64) -> Result<(), AllocError>
+pub(crate) fn append_padded(out: &mut Vec<u8>, number: u64) -> Result<(), AllocError>
     ensures { OnOk result (out.new.items ≡ out.old.items ++ printed.padded number) }
 {
-    let digits = number.to_string(alloc)?;
+    let mut buffer = Buffer::new();
+    let digits = buffer.format(number).as_bytes();
     out.extend_from_slice(zeros(5usize.saturating_sub(digits.len())))?;
-    out.extend_from_slice(digits.as_bytes())?;
+    out.extend_from_slice(digits)?;
     Ok(())
 }
 
@@ -121,27 +119,18 @@ pub(crate) fn append_name(
 }
 
 /// Appends `start..end`.
-pub(crate) fn append_range(
-    alloc: Global,
-    out: &mut Vec<u8>,
-    start: u64,
-    end: u64,
-) -> Result<(), AllocError>
+pub(crate) fn append_range(out: &mut Vec<u8>, start: u64, end: u64) -> Result<(), AllocError>
     ensures { OnOk result (out.new.items ≡ out.old.items ++ printed.range_text start end) }
 {
-    append_decimal(alloc, out, start)?;
+    append_decimal(out, start)?;
     out.extend_from_slice(b"..")?;
-    append_decimal(alloc, out, end)?;
+    append_decimal(out, end)?;
     Ok(())
 }
 
 /// Appends an extent.
-pub(crate) fn append_extent(
-    alloc: Global,
-    out: &mut Vec<u8>,
-    extent: Extent,
-) -> Result<(), AllocError>
+pub(crate) fn append_extent(out: &mut Vec<u8>, extent: Extent) -> Result<(), AllocError>
     ensures { OnOk result (out.new.items ≡ out.old.items ++ printed.extent_text extent) }
 {
-    append_range(alloc, out, u64::from(extent.start), u64::from(extent.end))
+    append_range(out, u64::from(extent.start), u64::from(extent.end))
 }

@@ -6,7 +6,7 @@ ghost use Rattle.script_image.specs.Listed.{listed_script};
 ghost use Rattle.script_image.specs.ScopeLines as lines;
 
 use crate::quoted::{append_decimal, append_quoted, text_at};
-use std::alloc::{AllocError, Global};
+use std::alloc::AllocError;
 use stencil_data::{BindKind, Binding, FunctionStencil, ScopeData, ScopeKind, Slot, Text};
 
 fn scope_name(kind: ScopeKind) -> &'static str
@@ -40,22 +40,22 @@ fn binding_name(kind: BindKind) -> &'static str
 }
 
 /// Appends where a binding's value lives.
-fn append_slot(alloc: Global, out: &mut Vec<u8>, slot: Slot) -> Result<(), AllocError>
+fn append_slot(out: &mut Vec<u8>, slot: Slot) -> Result<(), AllocError>
     ensures { OnOk result (out.new.items ≡ out.old.items ++ lines.slot_text slot) }
 {
     match slot {
         Slot::Global => out.extend_from_slice(b"global")?,
         Slot::Arg(index) => {
             out.extend_from_slice(b"arg ")?;
-            append_decimal(alloc, out, u64::from(index))?;
+            append_decimal(out, u64::from(index))?;
         }
         Slot::Frame(index) => {
             out.extend_from_slice(b"frame ")?;
-            append_decimal(alloc, out, u64::from(index))?;
+            append_decimal(out, u64::from(index))?;
         }
         Slot::Env(index) => {
             out.extend_from_slice(b"env ")?;
-            append_decimal(alloc, out, u64::from(index))?;
+            append_decimal(out, u64::from(index))?;
         }
         Slot::Callee => out.extend_from_slice(b"callee")?,
     }
@@ -63,12 +63,7 @@ fn append_slot(alloc: Global, out: &mut Vec<u8>, slot: Slot) -> Result<(), Alloc
 }
 
 /// Appends the line of a binding.
-fn append_binding(
-    alloc: Global,
-    out: &mut Vec<u8>,
-    texts: &[Text],
-    binding: Binding,
-) -> Result<(), AllocError>
+fn append_binding(out: &mut Vec<u8>, texts: &[Text], binding: Binding) -> Result<(), AllocError>
     ensures { OnOk result (out.new.items ≡ out.old.items ++ lines.binding_line (named_binding texts.now binding)) }
 {
     out.extend_from_slice(b"    ")?;
@@ -76,13 +71,12 @@ fn append_binding(
     out.extend_from_slice(b" ")?;
     out.extend_from_slice(binding_name(binding.kind).as_bytes())?;
     out.extend_from_slice(b" ")?;
-    append_slot(alloc, out, binding.slot)?;
+    append_slot(out, binding.slot)?;
     out.extend_from_slice(b"\n")?;
     Ok(())
 }
 
 fn append_bindings(
-    alloc: Global,
     out: &mut Vec<u8>,
     texts: &[Text],
     bindings: &[Binding],
@@ -90,25 +84,24 @@ fn append_bindings(
     ensures { OnOk result (out.new.items ≡ out.old.items ++ flat_map lines.binding_line (named_bindings texts.now bindings.now)) }
 {
     for binding in bindings {
-        append_binding(alloc, out, texts, *binding)?;
+        append_binding(out, texts, *binding)?;
     }
     Ok(())
 }
 
 /// Appends the number of the scope around, or `-` where there is none.
-fn append_parent(alloc: Global, out: &mut Vec<u8>, parent: Option<u32>) -> Result<(), AllocError>
+fn append_parent(out: &mut Vec<u8>, parent: Option<u32>) -> Result<(), AllocError>
     ensures { OnOk result (out.new.items ≡ out.old.items ++ lines.parent_text parent) }
 {
     match parent {
         None => out.extend_from_slice(b"-")?,
-        Some(number) => append_decimal(alloc, out, u64::from(number))?,
+        Some(number) => append_decimal(out, u64::from(number))?,
     }
     Ok(())
 }
 
 /// Appends the line of the scope of this number.
 fn append_scope_line(
-    alloc: Global,
     out: &mut Vec<u8>,
     texts: &[Text],
     number: usize,
@@ -117,19 +110,18 @@ fn append_scope_line(
     ensures { OnOk result (out.new.items ≡ out.old.items ++ lines.scope_line number (named_scope texts.now scope.now)) }
 {
     out.extend_from_slice(b"  scope ")?;
-    append_decimal(alloc, out, number as u64)?;
+    append_decimal(out, number as u64)?;
     out.extend_from_slice(b" ")?;
     out.extend_from_slice(scope_name(scope.kind).as_bytes())?;
     out.extend_from_slice(b" parent ")?;
-    append_parent(alloc, out, scope.parent)?;
+    append_parent(out, scope.parent)?;
     out.extend_from_slice(b" env ")?;
-    append_decimal(alloc, out, u64::from(scope.env_slots))?;
+    append_decimal(out, u64::from(scope.env_slots))?;
     out.extend_from_slice(b"\n")?;
     Ok(())
 }
 
 fn append_scope_list(
-    alloc: Global,
     out: &mut Vec<u8>,
     texts: &[Text],
     scopes: &[ScopeData],
@@ -137,21 +129,20 @@ fn append_scope_list(
     ensures { OnOk result (out.new.items ≡ out.old.items ++ lines.scopes_from 0 (map (named_scope texts.now) scopes.now)) }
 {
     for (number, scope) in scopes.iter().enumerate() {
-        append_scope_line(alloc, out, texts, number, scope)?;
-        append_bindings(alloc, out, texts, &scope.bindings)?;
+        append_scope_line(out, texts, number, scope)?;
+        append_bindings(out, texts, &scope.bindings)?;
     }
     Ok(())
 }
 
 /// Appends what stands under the line of a compiled script for its scopes.
 pub(crate) fn append_scopes(
-    alloc: Global,
     out: &mut Vec<u8>,
     texts: &[Text],
     script: &FunctionStencil,
 ) -> Result<(), AllocError>
     ensures { OnOk result (out.new.items ≡ out.old.items ++ lines.scope_lines (listed_script texts.now script.now)) }
 {
-    append_scope_list(alloc, out, texts, &script.scopes)?;
+    append_scope_list(out, texts, &script.scopes)?;
     Ok(())
 }

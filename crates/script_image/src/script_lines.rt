@@ -13,7 +13,7 @@ ghost use Rattle.script_image.specs.ScriptLines as lines;
 use crate::code_lines::append_code;
 use crate::quoted::{append_decimal, append_extent, append_name, append_quoted, text_at};
 use crate::scope_lines::append_scopes;
-use std::alloc::{AllocError, Global};
+use std::alloc::AllocError;
 use stencil_data::{ClosedName, Entry, Extent, FunctionStencil, LazyRecord, MergedStencil, Text};
 
 /// What is listed of a compiled script.
@@ -25,7 +25,6 @@ pub(crate) enum Listing {
 
 /// Appends what stands under the line of a compiled script.
 fn append_lines(
-    alloc: Global,
     out: &mut Vec<u8>,
     listing: Listing,
     texts: &[Text],
@@ -34,15 +33,14 @@ fn append_lines(
     ensures { OnOk result (out.new.items ≡ out.old.items ++ lines_of listing (listed_script texts.now script.now)) }
 {
     match listing {
-        Listing::Code => append_code(alloc, out, texts, script)?,
-        Listing::Scopes => append_scopes(alloc, out, texts, script)?,
+        Listing::Code => append_code(out, texts, script)?,
+        Listing::Scopes => append_scopes(out, texts, script)?,
     }
     Ok(())
 }
 
 /// Appends the line of a script as far as all scripts have it.
 fn append_script(
-    alloc: Global,
     out: &mut Vec<u8>,
     number: u64,
     how: &str,
@@ -51,78 +49,63 @@ fn append_script(
     ensures { OnOk result (out.new.items ≡ out.old.items ++ lines.script_text number how.now extent) }
 {
     out.extend_from_slice(b"script ")?;
-    append_decimal(alloc, out, number)?;
+    append_decimal(out, number)?;
     out.extend_from_slice(b" ")?;
     out.extend_from_slice(how.as_bytes())?;
     out.extend_from_slice(b" ")?;
-    append_extent(alloc, out, extent)?;
+    append_extent(out, extent)?;
     Ok(())
 }
 
 /// Appends numbers with a comma between two, or `-` where there is none.
-fn append_numbers(alloc: Global, out: &mut Vec<u8>, numbers: &[u32]) -> Result<(), AllocError>
+fn append_numbers(out: &mut Vec<u8>, numbers: &[u32]) -> Result<(), AllocError>
     ensures { OnOk result (out.new.items ≡ out.old.items ++ list_text (map decimal numbers.now)) }
 {
     match numbers.split_first() {
         None => out.extend_from_slice(b"-")?,
         Some((first, rest)) => {
-            append_decimal(alloc, out, u64::from(*first))?;
-            append_further_numbers(alloc, out, rest)?;
+            append_decimal(out, u64::from(*first))?;
+            append_further_numbers(out, rest)?;
         }
     }
     Ok(())
 }
 
-fn append_further_numbers(
-    alloc: Global,
-    out: &mut Vec<u8>,
-    numbers: &[u32],
-) -> Result<(), AllocError>
+fn append_further_numbers(out: &mut Vec<u8>, numbers: &[u32]) -> Result<(), AllocError>
     ensures { OnOk result (out.new.items ≡ out.old.items ++ with_commas (map decimal numbers.now)) }
 {
     for number in numbers {
         out.extend_from_slice(b",")?;
-        append_decimal(alloc, out, u64::from(*number))?;
+        append_decimal(out, u64::from(*number))?;
     }
     Ok(())
 }
 
 /// Appends a name that is closed over, after the number of its scope.
-fn append_closed_name(
-    alloc: Global,
-    out: &mut Vec<u8>,
-    texts: &[Text],
-    name: ClosedName,
-) -> Result<(), AllocError>
+fn append_closed_name(out: &mut Vec<u8>, texts: &[Text], name: ClosedName) -> Result<(), AllocError>
     ensures { OnOk result (out.new.items ≡ out.old.items ++ lines.closed_text (named_closed texts.now name)) }
 {
-    append_decimal(alloc, out, u64::from(name.scope))?;
+    append_decimal(out, u64::from(name.scope))?;
     out.extend_from_slice(b":")?;
     append_quoted(out, text_at(texts, u64::from(name.atom)))?;
     Ok(())
 }
 
 /// Appends closed names with a comma between two, or `-` where there is none.
-fn append_closed(
-    alloc: Global,
-    out: &mut Vec<u8>,
-    texts: &[Text],
-    names: &[ClosedName],
-) -> Result<(), AllocError>
+fn append_closed(out: &mut Vec<u8>, texts: &[Text], names: &[ClosedName]) -> Result<(), AllocError>
     ensures { OnOk result (out.new.items ≡ out.old.items ++ list_text (map lines.closed_text (map (named_closed texts.now) names.now))) }
 {
     match names.split_first() {
         None => out.extend_from_slice(b"-")?,
         Some((first, rest)) => {
-            append_closed_name(alloc, out, texts, *first)?;
-            append_further_closed(alloc, out, texts, rest)?;
+            append_closed_name(out, texts, *first)?;
+            append_further_closed(out, texts, rest)?;
         }
     }
     Ok(())
 }
 
 fn append_further_closed(
-    alloc: Global,
     out: &mut Vec<u8>,
     texts: &[Text],
     names: &[ClosedName],
@@ -131,14 +114,13 @@ fn append_further_closed(
 {
     for name in names {
         out.extend_from_slice(b",")?;
-        append_closed_name(alloc, out, texts, *name)?;
+        append_closed_name(out, texts, *name)?;
     }
     Ok(())
 }
 
 /// Appends the line of the function of this number, which is not compiled.
 fn append_record(
-    alloc: Global,
     out: &mut Vec<u8>,
     texts: &[Text],
     number: u64,
@@ -146,20 +128,19 @@ fn append_record(
 ) -> Result<(), AllocError>
     ensures { OnOk result (out.new.items ≡ out.old.items ++ lines.lazy_line number (named_record texts.now lazy.now)) }
 {
-    append_script(alloc, out, number, "lazy", lazy.extent)?;
+    append_script(out, number, "lazy", lazy.extent)?;
     out.extend_from_slice(b" ")?;
     append_name(out, texts, lazy.name)?;
     out.extend_from_slice(b" inner ")?;
-    append_numbers(alloc, out, &lazy.inner)?;
+    append_numbers(out, &lazy.inner)?;
     out.extend_from_slice(b" closed ")?;
-    append_closed(alloc, out, texts, &lazy.closed)?;
+    append_closed(out, texts, &lazy.closed)?;
     out.extend_from_slice(b"\n")?;
     Ok(())
 }
 
 /// Appends the lines of the compiled function of this number.
 fn append_compiled(
-    alloc: Global,
     out: &mut Vec<u8>,
     listing: Listing,
     texts: &[Text],
@@ -168,17 +149,16 @@ fn append_compiled(
 ) -> Result<(), AllocError>
     ensures { OnOk result (out.new.items ≡ out.old.items ++ lines.function_line number (listed_script texts.now script.now) ++ lines_of listing (listed_script texts.now script.now)) }
 {
-    append_script(alloc, out, number, "function", script.extent)?;
+    append_script(out, number, "function", script.extent)?;
     out.extend_from_slice(b" ")?;
     append_name(out, texts, script.name)?;
     out.extend_from_slice(b"\n")?;
-    append_lines(alloc, out, listing, texts, script)?;
+    append_lines(out, listing, texts, script)?;
     Ok(())
 }
 
 /// Appends the lines of the function of this number.
 fn append_function(
-    alloc: Global,
     out: &mut Vec<u8>,
     listing: Listing,
     texts: &[Text],
@@ -189,15 +169,14 @@ fn append_function(
     ensures { OnOk result (out.new.items ≡ out.old.items ++ lines.script_lines (lines_of listing) number (named_record texts.now lazy.now) (listed_entry texts.now entry.now)) }
 {
     match entry {
-        Entry::Lazy => append_record(alloc, out, texts, number, lazy)?,
-        Entry::Compiled(script) => append_compiled(alloc, out, listing, texts, number, script)?,
+        Entry::Lazy => append_record(out, texts, number, lazy)?,
+        Entry::Compiled(script) => append_compiled(out, listing, texts, number, script)?,
     }
     Ok(())
 }
 
 /// Appends the lines of the functions that have these records and entries, the first one being function 1.
 fn append_functions(
-    alloc: Global,
     out: &mut Vec<u8>,
     listing: Listing,
     texts: &[Text],
@@ -209,7 +188,6 @@ fn append_functions(
     for index in 0..records.len().min(entries.len()) {
         let number = index as u64 + 1;
         append_function(
-            alloc,
             out,
             listing,
             texts,
@@ -222,19 +200,13 @@ fn append_functions(
 }
 
 /// Appends the lines of all scripts.
-fn append_all(
-    alloc: Global,
-    out: &mut Vec<u8>,
-    listing: Listing,
-    merged: &MergedStencil,
-) -> Result<(), AllocError>
+fn append_all(out: &mut Vec<u8>, listing: Listing, merged: &MergedStencil) -> Result<(), AllocError>
     ensures { OnOk result (out.new.items ≡ out.old.items ++ lines.text_of (lines_of listing) (listed_stencil merged.now)) }
 {
-    append_script(alloc, out, 0, "top", merged.top.extent)?;
+    append_script(out, 0, "top", merged.top.extent)?;
     out.extend_from_slice(b"\n")?;
-    append_lines(alloc, out, listing, &merged.texts, &merged.top)?;
+    append_lines(out, listing, &merged.texts, &merged.top)?;
     append_functions(
-        alloc,
         out,
         listing,
         &merged.texts,
@@ -245,21 +217,17 @@ fn append_all(
 }
 
 /// Appends the listing of the code of all scripts of a merged stencil.
-pub fn code_text(alloc: Global, out: &mut Vec<u8>, merged: &MergedStencil) -> Result<(), AllocError>
+pub fn code_text(out: &mut Vec<u8>, merged: &MergedStencil) -> Result<(), AllocError>
     ensures { OnOk result ((named : NamedMerged (List Listed)) → MergedStandsFor ShowsListed merged.now named → out.new.items ≡ out.old.items ++ lines.code_text named) }
 {
-    append_all(alloc, out, Listing::Code, merged)?;
+    append_all(out, Listing::Code, merged)?;
     Ok(())
 }
 
 /// Appends the listing of the scopes of all scripts of a merged stencil.
-pub fn scope_text(
-    alloc: Global,
-    out: &mut Vec<u8>,
-    merged: &MergedStencil,
-) -> Result<(), AllocError>
+pub fn scope_text(out: &mut Vec<u8>, merged: &MergedStencil) -> Result<(), AllocError>
     ensures { OnOk result ((named : NamedMerged (List Listed)) → MergedStandsFor ShowsListed merged.now named → out.new.items ≡ out.old.items ++ lines.scope_text named) }
 {
-    append_all(alloc, out, Listing::Scopes, merged)?;
+    append_all(out, Listing::Scopes, merged)?;
     Ok(())
 }

@@ -17,6 +17,6 @@ pub fn append_listing(alloc: Global, out: &mut Vec<u8>, bytes: &[u8]) -> Result<
     ensures none { result ≡ Err NoImage → IsNoImage bytes.now }
 {
     let stencil = read_image(alloc, bytes)?;
-    code_text(alloc, out, &stencil)?;
+    code_text(out, &stencil)?;
     Ok(())
 }

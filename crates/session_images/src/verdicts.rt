@@ -1,7 +1,6 @@
 //! Whether the code in an image is sound, script by script.
 
 ghost use Rattle.std.specs.Prelude.{◌≡◌, ◌++◌, ◌∷◌, [], Err, List, ℕ, IfOk, OnOk};
-ghost use Rattle.std.specs.Fmt.{decimal};
 ghost use Rattle.code_check.specs.Verdicts.{soundness};
 ghost use Rattle.stencil_xdr_read.specs.declared.fault.ImageFault.TheVariants.{NoImage};
 ghost use Rattle.session_image_specs.specs.Images as answer;
@@ -9,27 +8,19 @@ ghost use Rattle.session_image_specs.specs.Images.{AreVerified, AreVerifiedLines
 ghost use Rattle.session_images.specs.Appended.{AppendsVerdict};
 
 use code_check::{Verdict, verify_code};
+use script_image::append_decimal;
 use std::alloc::{AllocError, Global};
 use stencil_data::{Entry, FunctionStencil};
 use stencil_xdr_read::{ImageFault, read_image};
 
-/// Appends the decimal digits of a number.
-fn append_decimal(alloc: Global, out: &mut Vec<u8>, number: u64) -> Result<(), AllocError>
-    ensures { OnOk result (out.new.items ≡ out.old.items ++ decimal number) }
-{
-    let digits = number.to_string(alloc)?;
-    out.extend_from_slice(digits.as_bytes())?;
-    Ok(())
-}
-
 /// Appends what is printed of a verdict.
-fn append_soundness(alloc: Global, out: &mut Vec<u8>, verdict: Verdict) -> Result<(), AllocError>
+fn append_soundness(out: &mut Vec<u8>, verdict: Verdict) -> Result<(), AllocError>
     ensures { OnOk result (out.new.items ≡ out.old.items ++ answer.soundness_text (soundness verdict)) }
 {
     match verdict {
         Verdict::Sound { depth } => {
             out.extend_from_slice(b"sound depth ")?;
-            append_decimal(alloc, out, depth)?;
+            append_decimal(out, depth)?;
             Ok(())
         }
         Verdict::Unsound => {
@@ -40,18 +31,13 @@ fn append_soundness(alloc: Global, out: &mut Vec<u8>, verdict: Verdict) -> Resul
 }
 
 /// Appends the line of the script of this number.
-fn append_line(
-    alloc: Global,
-    out: &mut Vec<u8>,
-    number: u64,
-    verdict: Verdict,
-) -> Result<(), AllocError>
+fn append_line(out: &mut Vec<u8>, number: u64, verdict: Verdict) -> Result<(), AllocError>
     ensures { OnOk result (out.new.items ≡ out.old.items ++ answer.verified_line number (soundness verdict)) }
 {
     out.extend_from_slice(b"script ")?;
-    append_decimal(alloc, out, number)?;
+    append_decimal(out, number)?;
     out.extend_from_slice(b" ")?;
-    append_soundness(alloc, out, verdict)?;
+    append_soundness(out, verdict)?;
     out.extend_from_slice(b"\n")?;
     Ok(())
 }
@@ -75,7 +61,7 @@ fn append_script(
     ensures { IfOk result (AppendsVerdict number part.now.code part.now.notes out.old.items out.new.items) }
 {
     let verdict = verify_code(alloc, &part.code, &part.notes)?;
-    append_line(alloc, out, number, verdict)?;
+    append_line(out, number, verdict)?;
     Ok(is_unsound(verdict))
 }
 

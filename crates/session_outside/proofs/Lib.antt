@@ -1,3 +1,4 @@
 pub mod ReadLemmas
 pub mod WriteLemmas
 pub mod ManyLemmas
+pub mod OpenedLemmas

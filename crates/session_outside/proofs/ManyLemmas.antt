@@ -96,7 +96,7 @@ long-more (d ∷ ds) name (None ∷ rs) read long = tt
 long-more (d ∷ ds) name (Some b ∷ rs) read long = long-more ds name rs read long
 
 -- after files that were all read the next is opened
-opened-all : (done : List (List ℕ)) (reads : List (Option (Vec ℕ Global))) → AreRead done reads → opened done reads ≡ done
+pub opened-all : (done : List (List ℕ)) (reads : List (Option (Vec ℕ Global))) → AreRead done reads → opened done reads ≡ done
 opened-all [] reads all = refl
 opened-all (d ∷ ds) [] all = absurd all
 opened-all (d ∷ ds) (None ∷ rs) all = absurd all
@@ -175,7 +175,7 @@ front-refused names_then names_before names_now done rest name before turned = e
 ]
 
 -- a refusal leaves the names, or adds this one
-refused_at : (T : Type 0) (before now : List (List ℕ)) (name : List ℕ) (why : ShelfRefusal) → TurnsToRead {T = T} before now name (Err why) → TurnsAtMost before now name
+pub refused_at : (T : Type 0) (before now : List (List ℕ)) (name : List ℕ) (why : ShelfRefusal) → TurnsToRead {T = T} before now name (Err why) → TurnsAtMost before now name
 refused_at T before now name Failed turned = inr turned
 refused_at T before now name NoMemory turned = turned
 

@@ -1,6 +1,7 @@
 pub mod Shelf
 pub mod Sink
 pub mod Files
+pub mod MapShelves
 pub mod OpenFiles
 pub mod Tally
 pub mod Loops

@@ -1,6 +1,8 @@
 -- What reading a file whole, and writing bytes whole, gives.
-use Rattle.std.specs.Prelude.{◌≡◌, ℕ, ◌+◌, ◌<◌, ◌≤◌, List, [], ◌∷◌, length, Bool, true, false, Option, Some, None, Vec}
+use Rattle.std.specs.Prelude.{◌≡◌, ℕ, ◌+◌, ◌<◌, ◌≤◌, nat_le, List, [], ◌∷◌, ◌++◌, length, Bool, true, false, if◌then◌else◌, Option, Some, None, Vec, Result, Ok, Err}
 use Rattle.std.specs.declared.alloc.Global.{Global}
+use Rattle.session_outside.specs.declared.shelf.ShelfRefusal.{ShelfRefusal}
+use Rattle.session_outside.specs.Shelf.{TurnsToFront}
 
 -- all bytes that were left where they are no more than so many, else none
 abbrev pub IsWholeWithin : List ℕ → ℕ → Option (Vec ℕ Global) → Type 0
@@ -84,3 +86,15 @@ GoesOn None read now = now ≡ None
 GoesOn (Some left) None now = now ≡ None
 GoesOn (Some left) (Some bytes) None = ⊥
 GoesOn (Some left) (Some bytes) (Some now) = Unit {0}
+
+-- of the files of these names, after so many bytes of others, those that are opened: up to and including the first with which
+-- they are more than `most` bytes, all where there is no such
+abbrev pub opened_within : (most : ℕ) → (List ℕ → List ℕ) → (before : ℕ) → List (List ℕ) → List (List ℕ)
+opened_within most held before [] = []
+opened_within most held before (name ∷ names) =
+    name ∷ (if nat_le (before + length (held name)) most then opened_within most held (before + length (held name)) names else [])
+
+-- the names that reading many files turns to, where those to be opened are these: all of them, or, after a refusal, some from the first on
+abbrev pub TurnsWithin : List (List ℕ) → List (List ℕ) → List (List ℕ) → Result (Vec (Option (Vec ℕ Global)) Global) ShelfRefusal → Type 0
+TurnsWithin before now names (Ok reads) = now ≡ before ++ names
+TurnsWithin before now names (Err _) = TurnsToFront before now names

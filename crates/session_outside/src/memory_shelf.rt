@@ -1,6 +1,6 @@
 //! Shelves that hold their files in memory.
 
-ghost use Rattle.std.specs.Prelude.{◌≡◌, ℕ, ◌-◌, ◌^◌, ◌<◌, ◌≤◌, false, [], ◌∷◌, ◌++◌, map, length, take, drop, min, Some, None, OnOk, OnErr, IsTrue, ◌↔◌};
+ghost use Rattle.std.specs.Prelude.{◌≡◌, ℕ, ◌-◌, ◌^◌, ◌<◌, ◌≤◌, false, [], ◌∷◌, ◌++◌, map, length, take, drop, min, Some, None, OnOk, OnErr, IfOk, IsTrue, ◌↔◌, ◌⊎◌};
 ghost use Rattle.std.specs.String.{string_bytes};
 ghost use Rattle.std.specs.Prelude.{true};
 ghost use Rattle.session_outside.specs.Files.{bytes_at, held_by, place_of};
@@ -204,6 +204,9 @@ pub struct MapShelf {
 }
 
 impl MapShelf {
+    ghost use Rattle.std.specs.Prelude.{Contains, IsSome, List};
+    ghost use Rattle.session_outside.specs.MapShelves.{HasName, IsTold};
+
     /// The shelf that holds these files, of equal names the first. The calls whose numbers are in
     /// `fail` fail, and so does each `turn_to` of a missing name; calls are counted from 0 over both
     /// methods, and the count stays at 2^64 - 1. It takes no memory; each name that it is turned to
@@ -213,6 +216,8 @@ impl MapShelf {
         ensures faults { ⟦<MapShelf as Shelf>⟧.faults result ≡ 0 }
         ensures turned { ⟦<MapShelf as Shelf>⟧.turned result ≡ [] }
         ensures closed { ⟦<MapShelf as Shelf>⟧.is_open result ≡ false }
+        ensures has { (name : List ℕ) → HasName result name ↔ IsSome (place_of files.items name) }
+        ensures first { IsTold result ↔ Contains fail.items 0 }
     {
         MapShelf {
             open: OpenFiles::new(alloc, files),
@@ -225,6 +230,8 @@ impl MapShelf {
 
 impl Shelf for MapShelf {
     ghost use Rattle.session_outside.specs.OpenFiles.{left_of, names_of};
+    ghost use Rattle.session_outside.specs.MapShelves.{Counted, Fails, HasName, IsTold};
+    ghost use Rattle.session_outside.specs.Shelf.{CountsShelf, AddsName, Opens, LeavesAfterTurn, StaysOpen, LeavesAfterRead};
 
     ghost held = { λ s. Some (held_by s.open.files.items) };
 
@@ -236,7 +243,19 @@ impl Shelf for MapShelf {
 
     ghost is_open = { λ s. s.open.is_open };
 
-    fn turn_to(&mut self, name: &str) -> Result<(), ShelfRefusal> {
+    /// Fails at a name that is not there, and where it is told to.
+    fn turn_to(&mut self, name: &str) -> Result<(), ShelfRefusal>
+        requires { ⟦<MapShelf as Shelf>⟧.faults self.old < 2 ^ 64 - 1 }
+        ensures count { CountsShelf (⟦<MapShelf as Shelf>⟧.faults self.old) (⟦<MapShelf as Shelf>⟧.faults self.new) result }
+        ensures names { AddsName (⟦<MapShelf as Shelf>⟧.turned self.old) (⟦<MapShelf as Shelf>⟧.turned self.new) name.now result }
+        ensures same { ⟦<MapShelf as Shelf>⟧.held self.new ≡ ⟦<MapShelf as Shelf>⟧.held self.old }
+        ensures opens { Opens (⟦<MapShelf as Shelf>⟧.is_open self.old) (⟦<MapShelf as Shelf>⟧.is_open self.new) result }
+        ensures leaves { LeavesAfterTurn (⟦<MapShelf as Shelf>⟧.held self.old) (⟦<MapShelf as Shelf>⟧.left self.old) (⟦<MapShelf as Shelf>⟧.left self.new) name.now result }
+        ensures missing { ¬ HasName self.old name.now → Fails result }
+        ensures told { IsTold self.old → Fails result }
+        ensures failed { result ≡ Err ShelfRefusal.Failed → IsTold self.old ⊎ (¬ HasName self.old name.now) }
+        ensures counted { Counted self.old self.new result }
+    {
         if self.open.name_turned_to(name).is_err() {
             return Err(ShelfRefusal::NoMemory);
         }
@@ -251,7 +270,21 @@ impl Shelf for MapShelf {
         Ok(())
     }
 
-    fn read(&mut self, into: &mut [u8]) -> Result<usize, ShelfRefusal> {
+    /// Fails where it is told to.
+    fn read(&mut self, into: &mut [u8]) -> Result<usize, ShelfRefusal>
+        requires counted { ⟦<MapShelf as Shelf>⟧.faults self.old < 2 ^ 64 - 1 }
+        requires opened { ⟦<MapShelf as Shelf>⟧.is_open self.old ≡ true }
+        requires room { 0 < length into.old }
+        ensures count { CountsShelf (⟦<MapShelf as Shelf>⟧.faults self.old) (⟦<MapShelf as Shelf>⟧.faults self.new) result }
+        ensures names { ⟦<MapShelf as Shelf>⟧.turned self.new ≡ ⟦<MapShelf as Shelf>⟧.turned self.old }
+        ensures same { ⟦<MapShelf as Shelf>⟧.held self.new ≡ ⟦<MapShelf as Shelf>⟧.held self.old }
+        ensures within { IfOk result (λ n. n ≤ length into.new) }
+        ensures stays { StaysOpen (⟦<MapShelf as Shelf>⟧.is_open self.old) (⟦<MapShelf as Shelf>⟧.is_open self.new) result }
+        ensures leaves { LeavesAfterRead (⟦<MapShelf as Shelf>⟧.left self.old) (⟦<MapShelf as Shelf>⟧.left self.new) into.new result }
+        ensures told { IsTold self.old → Fails result }
+        ensures failed { result ≡ Err ShelfRefusal.Failed → IsTold self.old }
+        ensures counted { Counted self.old self.new result }
+    {
         if is_call_told(&self.fail, &mut self.calls) {
             self.open.close();
             self.faults += 1;

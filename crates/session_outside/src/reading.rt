@@ -3,7 +3,7 @@
 ghost use Rattle.std.specs.Prelude.{◌≡◌, ℕ, ◌+◌, ◌-◌, ◌^◌, ◌<◌, ◌≤◌, true, [], ◌++◌, List, Some, length, map, IfOk, IfSome, OnOk};
 ghost use Rattle.std.specs.String.{string_bytes};
 ghost use Rattle.session_outside.specs.Shelf.{CountsShelf, TurnsToNext, TurnsToOpened, TurnsToRead};
-ghost use Rattle.session_outside.specs.Loops.{AreLeft, EndsWithin, GoesOn, HasAtMost, HasLeft, HasRead, HaveAtMost, IsWholeBehind, ReadsAllWithin, ReadsBehind, ReadsNameWithin};
+ghost use Rattle.session_outside.specs.Loops.{AreLeft, EndsWithin, GoesOn, HasAtMost, HasLeft, HasRead, HaveAtMost, IsWholeBehind, ReadsAllWithin, ReadsBehind, ReadsNameWithin, TurnsWithin, opened_within};
 
 use crate::shelf::{Shelf, ShelfRefusal};
 use std::alloc::Global;
@@ -125,6 +125,8 @@ pub fn read_files<L: Shelf>(
     requires most { most < 2 ^ 62 }
     ensures count { CountsShelf (L.faults shelf.old) (L.faults shelf.new) result }
     ensures names { TurnsToOpened (L.turned shelf.old) (L.turned shelf.new) (map string_bytes names.now) result }
+    ensures opened { (held : List ℕ → List ℕ) → L.held shelf.old ≡ Some held →
+        TurnsWithin (L.turned shelf.old) (L.turned shelf.new) (opened_within most held 0 (map string_bytes names.now)) result }
     ensures same { L.held shelf.new ≡ L.held shelf.old }
     ensures within { IfOk result (λ reads. HaveAtMost most reads.items) }
     ensures read { IfOk result (λ reads. ReadsAllWithin (L.held shelf.old) (map string_bytes names.now) most reads.items) }

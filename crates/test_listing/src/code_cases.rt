@@ -8,7 +8,7 @@ use stencil_data::{ClosedName, Entry, Extent, MergedStencil, Text};
 
 fn listing(alloc: Global, merged: &MergedStencil) -> Result<Vec<u8>, AllocError> {
     let mut out = Vec::new(alloc);
-    code_text(alloc, &mut out, merged)?;
+    code_text(&mut out, merged)?;
     Ok(out)
 }
 

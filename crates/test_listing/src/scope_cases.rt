@@ -9,7 +9,7 @@ use stencil_data::{
 
 fn listing(alloc: Global, merged: &MergedStencil) -> Result<Vec<u8>, AllocError> {
     let mut out = Vec::new(alloc);
-    scope_text(alloc, &mut out, merged)?;
+    scope_text(&mut out, merged)?;
     Ok(out)
 }
 

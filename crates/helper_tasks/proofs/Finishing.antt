@@ -26,7 +26,7 @@ module _ {A : Type 0} where
   pub refilled : (len : ℕ) (new old : List A) → length new ≡ len → take len (new ++ drop (length new) old) ≡ new
   refilled len new old e = ap (λ (k : ℕ). take k (new ++ drop (length new) old)) (sym e) ∙ take-append_seam new (drop (length new) old)
 
-  pub each_all : (P : A → Type 0) (xs : List A) → Each P xs → All P xs
+  each_all : (P : A → Type 0) (xs : List A) → Each P xs → All P xs
   each_all P xs all k d lt = each-index P xs k d lt all
 
   pub all_each : (P : A → Type 0) (xs : List A) → All P xs → Each P xs
@@ -164,6 +164,10 @@ new_looks_at : (at : List Place) → places (map new_look at) ≡ at
 new_looks_at [] = refl
 new_looks_at (p ∷ at) = ap (λ (l : List Place). p ∷ l) (new_looks_at at)
 
+-- there are as many workers as shares
+pub shares_count : {S O N : Type 0} (hs : List (Helper S O N)) (shares : List S) → map (λ (h : Helper S O N). h.desk.share) hs ≡ shares → length hs ≡ length shares
+shares_count {S} {O} {N} hs shares e = sym (length-map hs (λ (h : Helper S O N). h.desk.share)) ∙ ap length e
+
 module _ {S O N : Type 0} (fits : S → Type 0) (gives : ℕ → O → Type 0) (queue : Place) (order : List ℕ) where
   starts_in : (at : List Place) (n : ℕ) (h : Helper S O N) → length at ≡ n → 0 < n → n ≤ 16 → Fresh at queue n order h → fits h.desk.share → StartsIn fits gives queue order h
   starts_in at n h size some_worker small f ok = record {
@@ -181,34 +185,30 @@ module _ {S O N : Type 0} (fits : S → Type 0) (gives : ℕ → O → Type 0) (
   }
 
   pub all_start : (hs : List (Helper S O N)) (shares : List S) → map (λ (h : Helper S O N). h.desk.share) hs ≡ shares → 0 < length shares → length shares ≤ 16 → Each (Fresh (map deque_of hs) queue (length hs) order) hs → All fits shares
-      → All (StartsIn fits gives queue order) hs
+      → Each (StartsIn fits gives queue order) hs
   all_start hs shares e some_share small fresh ok =
-      let count : length hs ≡ length shares = sym (length-map hs (λ (h : Helper S O N). h.desk.share)) ∙ ap length e in
+      let count : length hs ≡ length shares = shares_count hs shares e in
       let F : Helper S O N → Type 0 = Fresh (map deque_of hs) queue (length hs) order in
       let fit : Each (λ (h : Helper S O N). fits h.desk.share) hs = each_of (λ (h : Helper S O N). h.desk.share) fits hs shares e (all_each fits shares ok) in
-      each_all (StartsIn fits gives queue order) hs
-      (each-map (λ (h : Helper S O N). F h × fits h.desk.share) (StartsIn fits gives queue order) hs
+      each-map (λ (h : Helper S O N). F h × fits h.desk.share) (StartsIn fits gives queue order) hs
       (λ h f. starts_in (map deque_of hs) (length hs) h (length-map hs deque_of) (omega arith) (omega arith) f.0 f.1)
-      (each_both F (λ (h : Helper S O N). fits h.desk.share) hs fresh fit))
+      (each_both F (λ (h : Helper S O N). fits h.desk.share) hs fresh fit)
 
 module _ {S O N : Type 0} (fits : S → Type 0) (gives : ℕ → O → Type 0) (ran : S → List ℕ) (queue : Place) (order : List ℕ) where
   -- what one worker did
   pub Done : Helper S O N → Helper S O N → Type 0
   Done h k = Works fits gives ran queue h k (drop h.rest order) []
 
-  -- no worker was refused a task
-  pub all_done : (hs ks : List (Helper S O N)) (rs : List (Result (Helper S O N) AllocError)) → map (λ (k : Helper S O N). Ok k) ks ≡ rs → length rs ≡ length hs
-      → ((i : ℕ) (h : Helper S O N) (r : Result (Helper S O N) AllocError) → i < length hs → Served fits gives ran queue order (get_or hs i h) (get_or rs i r)) → Paired Done hs ks
+  all_served : (hs ks : List (Helper S O N)) → Paired (Served fits gives ran queue order) hs (map (λ (k : Helper S O N). Ok k) ks) → Paired Done hs ks
   unfolding Done
-  all_done [] [] rs e n each = tt
-  all_done [] (k ∷ ks) rs e n each = absurd (let a = ap length e in omega arith)
-  all_done (h ∷ hs) [] rs e n each = absurd (let a = ap length e in omega arith)
-  all_done (h ∷ hs) (k ∷ ks) rs e n each =
-      let tail : List (Result (Helper S O N) AllocError) = map (λ (l : Helper S O N). Ok l) ks in
-      let all : (i : ℕ) (g : Helper S O N) (r : Result (Helper S O N) AllocError) → i < suc (length hs) → Served fits gives ran queue order (get_or (h ∷ hs) i g) (get_or (Ok k ∷ tail) i r) =
-      λ i g r lt. subst (λ (l : List (Result (Helper S O N) AllocError)). Served fits gives ran queue order (get_or (h ∷ hs) i g) (get_or l i r)) (sym e) (each i g r lt) in
-      let count : length tail ≡ length hs = let a = ap length e in omega arith in
-      (all 0 h (Ok k) (omega arith), all_done hs ks tail refl count (λ i g r lt. all (suc i) g r (omega arith)))
+  all_served [] [] served = tt
+  all_served [] (k ∷ ks) served = elim served [ ]
+  all_served (h ∷ hs) [] served = elim served [ ]
+  all_served (h ∷ hs) (k ∷ ks) served = (served.0, all_served hs ks served.1)
+
+  -- no worker was refused a task
+  pub all_done : (hs ks : List (Helper S O N)) (rs : List (Result (Helper S O N) AllocError)) → map (λ (k : Helper S O N). Ok k) ks ≡ rs → Paired (Served fits gives ran queue order) hs rs → Paired Done hs ks
+  all_done hs ks rs e served = all_served hs ks (subst (Paired (Served fits gives ran queue order) hs) (sym e) served)
 
   pub done_looking : (at : List Place) (n : ℕ) (hs ks : List (Helper S O N)) → Each (Fresh at queue n order) hs → Paired Done hs ks → Each (Looking at (64 - n)) ks
   unfolding Done

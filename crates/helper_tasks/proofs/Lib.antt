@@ -8,3 +8,4 @@ pub mod Settling
 pub mod Finishing
 pub mod Orders
 pub mod Rows
+pub mod Serving

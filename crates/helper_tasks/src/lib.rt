@@ -4,7 +4,9 @@
 //! gave, in the order of their numbers. A `Gate` stands between a task's run and its result; `OpenGate` lets each task
 //! pass, and `MeetGate` holds some back until others have come, by which a test sees that workers run beside each other.
 //!
-//! The crate stands on `crossbeam_deque` alone. Whoever has work that splits into numbered tasks stands on it.
+//! Each worker has a thread with a stack of its own size, whatever the limit of the system is.
+//!
+//! The crate stands on `crossbeam_deque`, and on `core` for the size of a stack. Whoever has work that splits into numbered tasks stands on it.
 #![tactic(auto)]
 
 mod crew;
@@ -20,6 +22,7 @@ mod run;
 mod settle;
 #[cfg(test)]
 mod tests;
+mod threads;
 mod workplace;
 
 pub use gate::{Gate, MeetGate, OpenGate};

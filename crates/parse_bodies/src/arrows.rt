@@ -21,7 +21,7 @@ use script_grammar::node::{NodeFunc, NodeParam};
 use script_grammar::token::{FuncForm, mark};
 
 /// A parameter or a rest parameter.
-#[tactic(auto, unfolding(pure_parser::specs::Stmts::strict_param))]
+#[tactic(auto, unfolding(grammar_parser_specs::specs::Stmts::strict_param))]
 fn strict_param<H: Handler>(
     state: &mut State<H>,
     source: &Source,
@@ -44,7 +44,7 @@ fn strict_param<H: Handler>(
 }
 
 /// A parameter after a comma, or none where the parenthesis closes.
-#[tactic(auto, unfolding(pure_parser::specs::Stmts::strict_next))]
+#[tactic(auto, unfolding(grammar_parser_specs::specs::Stmts::strict_next))]
 fn strict_next<H: Handler>(
     state: &mut State<H>,
     source: &Source,
@@ -60,7 +60,7 @@ fn strict_next<H: Handler>(
 }
 
 /// A comma and a parameter, where they stand here.
-#[tactic(auto, unfolding(pure_parser::specs::Stmts::strict_turn))]
+#[tactic(auto, unfolding(grammar_parser_specs::specs::Stmts::strict_turn))]
 fn strict_turn<H: Handler>(
     state: &mut State<H>,
     source: &Source,
@@ -97,7 +97,7 @@ fn strict_led<H: Handler>(
 }
 
 /// The parameters in parentheses, after the one that opens.
-#[tactic(auto, unfolding(pure_parser::specs::Stmts::strict_params))]
+#[tactic(auto, unfolding(grammar_parser_specs::specs::Stmts::strict_params))]
 fn strict_params<H: Handler>(
     state: &mut State<H>,
     source: &Source,
@@ -122,7 +122,7 @@ fn strict_params<H: Handler>(
 }
 
 /// The same with the parenthesis that closes.
-#[tactic(auto, unfolding(pure_parser::specs::Stmts::strict_listed))]
+#[tactic(auto, unfolding(grammar_parser_specs::specs::Stmts::strict_listed))]
 fn strict_listed<H: Handler>(
     state: &mut State<H>,
     source: &Source,
@@ -138,7 +138,7 @@ fn strict_listed<H: Handler>(
 }
 
 /// What stands before the mark of an arrow.
-#[tactic(auto, unfolding(pure_parser::specs::Stmts::strict_head))]
+#[tactic(auto, unfolding(grammar_parser_specs::specs::Stmts::strict_head))]
 fn strict_head<H: Handler>(
     state: &mut State<H>,
     source: &Source,
@@ -162,7 +162,7 @@ fn strict_head<H: Handler>(
 }
 
 /// An arrow. Its body, where it has braces, is passed over.
-#[tactic(auto, unfolding(pure_parser::specs::Stmts::arrow_alone))]
+#[tactic(auto, unfolding(grammar_parser_specs::specs::Stmts::arrow_alone))]
 pub fn arrow_alone<H: Handler>(
     state: &mut State<H>,
     source: &Source,

@@ -25,7 +25,7 @@ use script_grammar::token::{Decl, mark};
 use script_grammar::tree::Ident;
 
 /// An initializer, where one stands here.
-#[tactic(auto, unfolding(pure_parser::specs::Stmts::value_of))]
+#[tactic(auto, unfolding(grammar_parser_specs::specs::Stmts::value_of))]
 fn initializer<H: Handler>(
     state: &mut State<H>,
     source: &Source,
@@ -63,7 +63,7 @@ fn bound<E>(name: Ident, value: Option<Ranked<E>>) -> EndedBind<E>
 }
 
 /// What stands after a name that is declared.
-#[tactic(auto, unfolding(pure_parser::specs::Stmts::bind_from))]
+#[tactic(auto, unfolding(grammar_parser_specs::specs::Stmts::bind_from))]
 fn bind_from<H: Handler>(
     state: &mut State<H>,
     source: &Source,
@@ -79,7 +79,7 @@ fn bind_from<H: Handler>(
 }
 
 /// A name that is declared, with its initializer.
-#[tactic(auto, unfolding(pure_parser::specs::Stmts::bind_of))]
+#[tactic(auto, unfolding(grammar_parser_specs::specs::Stmts::bind_of))]
 fn bind<H: Handler>(
     state: &mut State<H>,
     source: &Source,
@@ -95,7 +95,7 @@ fn bind<H: Handler>(
 }
 
 /// A name after a comma, where one stands here.
-#[tactic(auto, unfolding(pure_parser::specs::Stmts::bind_turn))]
+#[tactic(auto, unfolding(grammar_parser_specs::specs::Stmts::bind_turn))]
 fn bind_turn<H: Handler>(
     state: &mut State<H>,
     source: &Source,
@@ -139,7 +139,7 @@ fn binds_led<H: Handler>(
 }
 
 /// What stands after the first name of a list.
-#[tactic(auto, unfolding(pure_parser::specs::Stmts::binds_from))]
+#[tactic(auto, unfolding(grammar_parser_specs::specs::Stmts::binds_from))]
 pub fn binds_from<H: Handler>(
     state: &mut State<H>,
     source: &Source,
@@ -156,7 +156,7 @@ pub fn binds_from<H: Handler>(
 }
 
 /// A declaration of variables, after its word.
-#[tactic(auto, unfolding(pure_parser::specs::Stmts::binding_of))]
+#[tactic(auto, unfolding(grammar_parser_specs::specs::Stmts::binding_of))]
 pub fn binding<H: Handler>(
     state: &mut State<H>,
     source: &Source,

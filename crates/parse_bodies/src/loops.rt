@@ -35,7 +35,7 @@ use script_grammar::tree::Ident;
 
 /// `while`, after its word.
 #[cycle(stmts)]
-#[tactic(auto, unfolding(pure_parser::specs::Stmts::while_of))]
+#[tactic(auto, unfolding(grammar_parser_specs::specs::Stmts::while_of))]
 pub fn while_from<H: Handler>(
     state: &mut State<H>,
     source: &Source,
@@ -54,7 +54,7 @@ pub fn while_from<H: Handler>(
 
 /// `do`, after its word.
 #[cycle(stmts)]
-#[tactic(auto, unfolding(pure_parser::specs::Stmts::do_of))]
+#[tactic(auto, unfolding(grammar_parser_specs::specs::Stmts::do_of))]
 pub fn do_from<H: Handler>(
     state: &mut State<H>,
     source: &Source,
@@ -77,7 +77,7 @@ pub fn do_from<H: Handler>(
 
 /// A `for` with two semicolons, after what begins its head.
 #[cycle(stmts)]
-#[tactic(auto, unfolding(pure_parser::specs::Stmts::for_from))]
+#[tactic(auto, unfolding(grammar_parser_specs::specs::Stmts::for_from))]
 fn for_from<H: Handler>(
     state: &mut State<H>,
     source: &Source,
@@ -101,7 +101,7 @@ fn for_from<H: Handler>(
 
 /// A for-in, after its `in`.
 #[cycle(stmts)]
-#[tactic(auto, unfolding(pure_parser::specs::Stmts::for_in_from))]
+#[tactic(auto, unfolding(grammar_parser_specs::specs::Stmts::for_in_from))]
 fn for_in_from<H: Handler>(
     state: &mut State<H>,
     source: &Source,
@@ -122,7 +122,7 @@ fn for_in_from<H: Handler>(
 
 /// A `for` whose head begins with a declaration, after its first name.
 #[cycle(stmts)]
-#[tactic(auto, unfolding(pure_parser::specs::Stmts::for_named))]
+#[tactic(auto, unfolding(grammar_parser_specs::specs::Stmts::for_named))]
 fn for_named<H: Handler>(
     state: &mut State<H>,
     source: &Source,
@@ -148,7 +148,7 @@ fn for_named<H: Handler>(
 
 /// A `for` whose head begins with a declaration, after its word.
 #[cycle(stmts)]
-#[tactic(auto, unfolding(pure_parser::specs::Stmts::for_decl))]
+#[tactic(auto, unfolding(grammar_parser_specs::specs::Stmts::for_decl))]
 fn for_decl<H: Handler>(
     state: &mut State<H>,
     source: &Source,
@@ -181,7 +181,7 @@ fn is_for_in(place: &Place, source: &Source, of: Rank) -> bool
 
 /// A `for` whose head begins with an Expression, after this.
 #[cycle(stmts)]
-#[tactic(auto, unfolding(pure_parser::specs::Stmts::for_valued))]
+#[tactic(auto, unfolding(grammar_parser_specs::specs::Stmts::for_valued))]
 fn for_valued<H: Handler>(
     state: &mut State<H>,
     source: &Source,
@@ -216,7 +216,7 @@ fn for_expr<H: Handler>(
 
 /// What stands after the parenthesis of a `for`.
 #[cycle(stmts)]
-#[tactic(auto, unfolding(pure_parser::specs::Stmts::for_head))]
+#[tactic(auto, unfolding(grammar_parser_specs::specs::Stmts::for_head))]
 fn for_head<H: Handler>(
     state: &mut State<H>,
     source: &Source,
@@ -246,7 +246,7 @@ fn for_head<H: Handler>(
 
 /// `for`, after its word.
 #[cycle(stmts)]
-#[tactic(auto, unfolding(pure_parser::specs::Stmts::for_of))]
+#[tactic(auto, unfolding(grammar_parser_specs::specs::Stmts::for_of))]
 pub fn for_stmt<H: Handler>(
     state: &mut State<H>,
     source: &Source,

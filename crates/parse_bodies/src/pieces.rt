@@ -18,7 +18,7 @@ use script_grammar::token::mark;
 use script_grammar::tree::Ident;
 
 /// Goes past this word, which must stand here.
-#[tactic(auto, unfolding(pure_parser::specs::Stmts::expect_word))]
+#[tactic(auto, unfolding(grammar_parser_specs::specs::Stmts::expect_word))]
 pub fn expect_word(place: &mut Place, source: &Source, word: u8) -> Result<(), ParseFault>
     requires { IsSource source.now }
     ensures { (i : Interpretation) → Reads Itself (pure.expect_word word) source.now i place.old place.new result }
@@ -31,7 +31,7 @@ pub fn expect_word(place: &mut Place, source: &Source, word: u8) -> Result<(), P
 }
 
 /// Goes past a semicolon, or leaves it out, after a statement with this ending; whether it is written.
-#[tactic(auto, unfolding(pure_parser::specs::Stmts::semi_of))]
+#[tactic(auto, unfolding(grammar_parser_specs::specs::Stmts::semi_of))]
 pub fn semi(place: &mut Place, source: &Source, ending: StmtEnding) -> Result<bool, ParseFault>
     requires { IsSource source.now }
     ensures { (i : Interpretation) → Reads Itself (pure.semi_of (stmt_ending ending)) source.now i place.old place.new result }
@@ -47,7 +47,7 @@ pub fn semi(place: &mut Place, source: &Source, ending: StmtEnding) -> Result<bo
 }
 
 /// Reads a label on the line of its word, where one stands here.
-#[tactic(auto, unfolding(pure_parser::specs::Stmts::label_name))]
+#[tactic(auto, unfolding(grammar_parser_specs::specs::Stmts::label_name))]
 pub fn label_name(place: &mut Place, source: &Source) -> Result<Option<Ident>, ParseFault>
     requires { IsSource source.now }
     ensures { (i : Interpretation) → Reads (MaybeNameOf i) pure.label_name source.now i place.old place.new result }
@@ -90,7 +90,7 @@ pub fn is_label(place: &Place, source: &Source) -> bool
 }
 
 /// Reads the parameter of a `catch` after its parenthesis, and the one that closes it.
-#[tactic(auto, unfolding(pure_parser::specs::Stmts::catch_name))]
+#[tactic(auto, unfolding(grammar_parser_specs::specs::Stmts::catch_name))]
 fn catch_name(place: &mut Place, source: &Source) -> Result<Ident, ParseFault>
     requires { IsSource source.now }
     ensures { (i : Interpretation) → Reads (NameOf i) pure.catch_name source.now i place.old place.new result }
@@ -101,7 +101,7 @@ fn catch_name(place: &mut Place, source: &Source) -> Result<Ident, ParseFault>
 }
 
 /// Reads the parameter of a `catch` with its parentheses, where it has one.
-#[tactic(auto, unfolding(pure_parser::specs::Stmts::catch_param))]
+#[tactic(auto, unfolding(grammar_parser_specs::specs::Stmts::catch_param))]
 pub fn catch_param(place: &mut Place, source: &Source) -> Result<Option<Ident>, ParseFault>
     requires { IsSource source.now }
     ensures { (i : Interpretation) → Reads (MaybeNameOf i) pure.catch_param source.now i place.old place.new result }

@@ -27,7 +27,7 @@ use script_grammar::node::NodeFunc;
 use script_grammar::token::{FuncForm, mark};
 
 /// Goes past the brace that closes a body, and answers the offset where it ends.
-#[tactic(auto, unfolding(pure_parser::specs::Stmts::close_body))]
+#[tactic(auto, unfolding(grammar_parser_specs::specs::Stmts::close_body))]
 fn close_body(place: &mut Place, source: &Source) -> Result<u32, ParseFault>
     requires { IsSource source.now }
     ensures { (i : Interpretation) (ss : List model.Stmt) → Reads (ClosedOf ss) (pure.close_body ss) source.now i place.old place.new result }
@@ -43,7 +43,7 @@ fn close_body(place: &mut Place, source: &Source) -> Result<u32, ParseFault>
 /// A function's body in braces, which stands inside so many nodes that count for the depth.
 ///
 /// Bodies inside it are passed over.
-#[tactic(auto, unfolding(pure_parser::specs::Stmts::reading))]
+#[tactic(auto, unfolding(grammar_parser_specs::specs::Stmts::reading))]
 pub fn body<H: Handler>(
     state: &mut State<H>,
     source: &Source,
@@ -60,7 +60,7 @@ pub fn body<H: Handler>(
 }
 
 /// Asks that no token is left here.
-#[tactic(auto, unfolding(pure_parser::specs::Stmts::end_of))]
+#[tactic(auto, unfolding(grammar_parser_specs::specs::Stmts::end_of))]
 fn expect_end(place: &Place, source: &Source) -> Result<(), ParseFault>
     requires { IsSource source.now }
     ensures { (i : Interpretation) → Reads Itself (pure.end_of tt) source.now i place.now place.now result }
@@ -72,7 +72,7 @@ fn expect_end(place: &Place, source: &Source) -> Result<(), ParseFault>
 }
 
 /// A script, up to the end of all. Bodies of functions are passed over.
-#[tactic(auto, unfolding(pure_parser::specs::Stmts::script_of))]
+#[tactic(auto, unfolding(grammar_parser_specs::specs::Stmts::script_of))]
 pub fn script<H: Handler>(state: &mut State<H>, source: &Source) -> Result<H::B, ParseFault>
     requires { IsSource source.now }
     ensures { (i : Interpretation) → Reads (NodeOf (H.shows_body i)) (pure.script_of (stmts_at i 0)) source.now i state.old.place state.new.place result }
@@ -107,7 +107,7 @@ fn function<H: Handler>(
 }
 
 /// A function, from its parameters up to the end of all. Its body is passed over, where it has braces.
-#[tactic(auto, unfolding(pure_parser::specs::Stmts::alone_of))]
+#[tactic(auto, unfolding(grammar_parser_specs::specs::Stmts::alone_of))]
 pub fn alone<H: Handler>(
     state: &mut State<H>,
     source: &Source,

@@ -32,7 +32,7 @@ use script_grammar::token::{Decl, mark, word};
 
 /// A statement of a list, where the list goes on here.
 #[cycle(stmts)]
-#[tactic(auto, unfolding(pure_parser::specs::Stmts::stmt_turn))]
+#[tactic(auto, unfolding(grammar_parser_specs::specs::Stmts::stmt_turn))]
 fn stmt_turn<H: Handler>(
     state: &mut State<H>,
     source: &Source,
@@ -71,7 +71,7 @@ fn items<H: Handler>(
 
 /// A list of statements.
 #[cycle(stmts)]
-#[tactic(auto, unfolding(pure_parser::specs::Stmts::stmts_from))]
+#[tactic(auto, unfolding(grammar_parser_specs::specs::Stmts::stmts_from))]
 pub fn stmts_from<H: Handler>(
     state: &mut State<H>,
     source: &Source,
@@ -87,7 +87,7 @@ pub fn stmts_from<H: Handler>(
 
 /// Statements in braces, after the first brace.
 #[cycle(stmts)]
-#[tactic(auto, unfolding(pure_parser::specs::Stmts::braced_from))]
+#[tactic(auto, unfolding(grammar_parser_specs::specs::Stmts::braced_from))]
 fn braced_from<H: Handler>(
     state: &mut State<H>,
     source: &Source,
@@ -104,7 +104,7 @@ fn braced_from<H: Handler>(
 
 /// Statements in braces.
 #[cycle(stmts)]
-#[tactic(auto, unfolding(pure_parser::specs::Stmts::braced_of))]
+#[tactic(auto, unfolding(grammar_parser_specs::specs::Stmts::braced_of))]
 fn braced<H: Handler>(
     state: &mut State<H>,
     source: &Source,
@@ -121,7 +121,7 @@ fn braced<H: Handler>(
 
 /// A block, after its brace.
 #[cycle(stmts)]
-#[tactic(auto, unfolding(pure_parser::specs::Stmts::block_stmt))]
+#[tactic(auto, unfolding(grammar_parser_specs::specs::Stmts::block_stmt))]
 fn block_stmt<H: Handler>(
     state: &mut State<H>,
     source: &Source,
@@ -141,7 +141,7 @@ fn block_stmt<H: Handler>(
 
 /// An `else` and its statement, where one stands here.
 #[cycle(stmts)]
-#[tactic(auto, unfolding(pure_parser::specs::Stmts::else_of))]
+#[tactic(auto, unfolding(grammar_parser_specs::specs::Stmts::else_of))]
 fn else_part<H: Handler>(
     state: &mut State<H>,
     source: &Source,
@@ -205,7 +205,7 @@ fn make_if<H: Handler>(
 
 /// `if`, after its word. An `else` belongs to the nearest one.
 #[cycle(stmts)]
-#[tactic(auto, unfolding(pure_parser::specs::Stmts::if_of))]
+#[tactic(auto, unfolding(grammar_parser_specs::specs::Stmts::if_of))]
 fn if_from<H: Handler>(
     state: &mut State<H>,
     source: &Source,
@@ -223,7 +223,7 @@ fn if_from<H: Handler>(
 
 /// `try`, after its word.
 #[cycle(stmts)]
-#[tactic(auto, unfolding(pure_parser::specs::Stmts::try_of))]
+#[tactic(auto, unfolding(grammar_parser_specs::specs::Stmts::try_of))]
 fn try_from<H: Handler>(
     state: &mut State<H>,
     source: &Source,
@@ -246,7 +246,7 @@ fn try_from<H: Handler>(
 
 /// A label and its statement.
 #[cycle(stmts)]
-#[tactic(auto, unfolding(pure_parser::specs::Stmts::labelled_of))]
+#[tactic(auto, unfolding(grammar_parser_specs::specs::Stmts::labelled_of))]
 fn labelled<H: Handler>(
     state: &mut State<H>,
     source: &Source,
@@ -266,7 +266,7 @@ fn labelled<H: Handler>(
 
 /// A statement that begins with no word of a statement.
 #[cycle(stmts)]
-#[tactic(auto, unfolding(pure_parser::specs::Stmts::plain_stmt))]
+#[tactic(auto, unfolding(grammar_parser_specs::specs::Stmts::plain_stmt))]
 fn plain_stmt<H: Handler>(
     state: &mut State<H>,
     source: &Source,
@@ -291,7 +291,7 @@ fn plain_stmt<H: Handler>(
 
 /// A jump, or a statement that begins with no word of a statement.
 #[cycle(stmts)]
-#[tactic(auto, unfolding(pure_parser::specs::Stmts::jump_stmt))]
+#[tactic(auto, unfolding(grammar_parser_specs::specs::Stmts::jump_stmt))]
 fn jump_stmt<H: Handler>(
     state: &mut State<H>,
     source: &Source,
@@ -323,7 +323,7 @@ fn jump_stmt<H: Handler>(
 
 /// A declaration, or what `nested_stmt` reads.
 #[cycle(stmts)]
-#[tactic(auto, unfolding(pure_parser::specs::Stmts::declaration_stmt))]
+#[tactic(auto, unfolding(grammar_parser_specs::specs::Stmts::declaration_stmt))]
 fn declaration_stmt<H: Handler>(
     state: &mut State<H>,
     source: &Source,
@@ -354,7 +354,7 @@ fn declaration_stmt<H: Handler>(
 
 /// A statement that holds statements, or what `jump_stmt` reads.
 #[cycle(stmts)]
-#[tactic(auto, unfolding(pure_parser::specs::Stmts::nested_stmt))]
+#[tactic(auto, unfolding(grammar_parser_specs::specs::Stmts::nested_stmt))]
 fn nested_stmt<H: Handler>(
     state: &mut State<H>,
     source: &Source,
@@ -393,7 +393,7 @@ fn nested_stmt<H: Handler>(
 
 /// A statement, with room for depth.
 #[cycle(stmts)]
-#[tactic(auto, unfolding(pure_parser::specs::Stmts::stmt_of))]
+#[tactic(auto, unfolding(grammar_parser_specs::specs::Stmts::stmt_of))]
 fn stmt_in<H: Handler>(
     state: &mut State<H>,
     source: &Source,

@@ -25,7 +25,7 @@ use script_grammar::token::{mark, word};
 
 /// A clause of a `switch`, after the word `case`.
 #[cycle(stmts)]
-#[tactic(auto, unfolding(pure_parser::specs::Stmts::case_of))]
+#[tactic(auto, unfolding(grammar_parser_specs::specs::Stmts::case_of))]
 fn case_clause<H: Handler>(
     state: &mut State<H>,
     source: &Source,
@@ -46,7 +46,7 @@ fn case_clause<H: Handler>(
 
 /// A clause of a `switch`, after the word `default`.
 #[cycle(stmts)]
-#[tactic(auto, unfolding(pure_parser::specs::Stmts::default_of))]
+#[tactic(auto, unfolding(grammar_parser_specs::specs::Stmts::default_of))]
 fn default_clause<H: Handler>(
     state: &mut State<H>,
     source: &Source,
@@ -63,7 +63,7 @@ fn default_clause<H: Handler>(
 
 /// A clause after a default, where one stands here.
 #[cycle(stmts)]
-#[tactic(auto, unfolding(pure_parser::specs::Stmts::case_turn))]
+#[tactic(auto, unfolding(grammar_parser_specs::specs::Stmts::case_turn))]
 fn case_turn<H: Handler>(
     state: &mut State<H>,
     source: &Source,
@@ -103,7 +103,7 @@ fn cases<H: Handler>(
 
 /// A clause with a test; or the default, or none, which end the clauses up to a default.
 #[cycle(stmts)]
-#[tactic(auto, unfolding(pure_parser::specs::Stmts::clause_turn))]
+#[tactic(auto, unfolding(grammar_parser_specs::specs::Stmts::clause_turn))]
 fn clause_turn<H: Handler>(
     state: &mut State<H>,
     source: &Source,
@@ -156,7 +156,7 @@ fn joined<T: Drop>(mut front: Vec<T>, mut back: Vec<T>) -> Result<Vec<T>, ParseF
 
 /// A default and the clauses after it.
 #[cycle(stmts)]
-#[tactic(auto, unfolding(pure_parser::specs::Stmts::more_clauses))]
+#[tactic(auto, unfolding(grammar_parser_specs::specs::Stmts::more_clauses))]
 fn behind_default<H: Handler>(
     state: &mut State<H>,
     source: &Source,
@@ -175,7 +175,7 @@ fn behind_default<H: Handler>(
 
 /// The default, if there is one, and the clauses after it.
 #[cycle(stmts)]
-#[tactic(auto, unfolding(pure_parser::specs::Stmts::more_clauses))]
+#[tactic(auto, unfolding(grammar_parser_specs::specs::Stmts::more_clauses))]
 fn more_clauses<H: Handler>(
     state: &mut State<H>,
     source: &Source,
@@ -194,7 +194,7 @@ fn more_clauses<H: Handler>(
 
 /// The clauses of a `switch`.
 #[cycle(stmts)]
-#[tactic(auto, unfolding(pure_parser::specs::Stmts::clauses_from))]
+#[tactic(auto, unfolding(grammar_parser_specs::specs::Stmts::clauses_from))]
 fn clauses_from<H: Handler>(
     state: &mut State<H>,
     source: &Source,
@@ -211,7 +211,7 @@ fn clauses_from<H: Handler>(
 
 /// `switch`, after its word.
 #[cycle(stmts)]
-#[tactic(auto, unfolding(pure_parser::specs::Stmts::switch_of))]
+#[tactic(auto, unfolding(grammar_parser_specs::specs::Stmts::switch_of))]
 pub fn switch_from<H: Handler>(
     state: &mut State<H>,
     source: &Source,

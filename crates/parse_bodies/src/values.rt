@@ -21,7 +21,7 @@ use script_grammar::handler::Handler;
 use script_grammar::token::{FuncForm, mark};
 
 /// An Expression in parentheses.
-#[tactic(auto, unfolding(pure_parser::specs::Stmts::parens_of))]
+#[tactic(auto, unfolding(grammar_parser_specs::specs::Stmts::parens_of))]
 pub fn parens<H: Handler>(
     state: &mut State<H>,
     source: &Source,
@@ -37,7 +37,7 @@ pub fn parens<H: Handler>(
 }
 
 /// An expression statement.
-#[tactic(auto, unfolding(pure_parser::specs::Stmts::value_stmt))]
+#[tactic(auto, unfolding(grammar_parser_specs::specs::Stmts::value_stmt))]
 pub fn value<H: Handler>(
     state: &mut State<H>,
     source: &Source,
@@ -56,7 +56,7 @@ pub fn value<H: Handler>(
 }
 
 /// The value of a `return`, where one stands on its line.
-#[tactic(auto, unfolding(pure_parser::specs::Stmts::returned_of))]
+#[tactic(auto, unfolding(grammar_parser_specs::specs::Stmts::returned_of))]
 fn returned<H: Handler>(
     state: &mut State<H>,
     source: &Source,
@@ -93,7 +93,7 @@ fn return_ending<E>(value: &Option<Ranked<E>>) -> StmtEnding
 }
 
 /// `return`, after the word.
-#[tactic(auto, unfolding(pure_parser::specs::Stmts::return_of))]
+#[tactic(auto, unfolding(grammar_parser_specs::specs::Stmts::return_of))]
 pub fn return_from<H: Handler>(
     state: &mut State<H>,
     source: &Source,
@@ -113,7 +113,7 @@ pub fn return_from<H: Handler>(
 }
 
 /// The Expression of a `throw`, which must stand on its line.
-#[tactic(auto, unfolding(pure_parser::specs::Stmts::thrown_of))]
+#[tactic(auto, unfolding(grammar_parser_specs::specs::Stmts::thrown_of))]
 fn thrown<H: Handler>(
     state: &mut State<H>,
     source: &Source,
@@ -131,7 +131,7 @@ fn thrown<H: Handler>(
 }
 
 /// `throw`, after the word.
-#[tactic(auto, unfolding(pure_parser::specs::Stmts::throw_of))]
+#[tactic(auto, unfolding(grammar_parser_specs::specs::Stmts::throw_of))]
 pub fn throw_from<H: Handler>(
     state: &mut State<H>,
     source: &Source,
@@ -150,7 +150,7 @@ pub fn throw_from<H: Handler>(
 }
 
 /// A function declaration, after the word `function`.
-#[tactic(auto, unfolding(pure_parser::specs::Stmts::declared_of))]
+#[tactic(auto, unfolding(grammar_parser_specs::specs::Stmts::declared_of))]
 pub fn declared<H: Handler>(
     state: &mut State<H>,
     source: &Source,
@@ -169,7 +169,7 @@ pub fn declared<H: Handler>(
 }
 
 /// An Expression, or none where this mark stands.
-#[tactic(auto, unfolding(pure_parser::specs::Stmts::option_of))]
+#[tactic(auto, unfolding(grammar_parser_specs::specs::Stmts::option_of))]
 pub fn option<H: Handler>(
     state: &mut State<H>,
     source: &Source,

@@ -21,7 +21,7 @@ use script_grammar::handler::Handler;
 use script_grammar::tree::Ident;
 
 /// `debugger`, after the word.
-#[tactic(auto, unfolding(pure_parser::specs::Stmts::debugger_of))]
+#[tactic(auto, unfolding(grammar_parser_specs::specs::Stmts::debugger_of))]
 pub fn debugger<H: Handler>(
     state: &mut State<H>,
     source: &Source,
@@ -38,7 +38,7 @@ pub fn debugger<H: Handler>(
 }
 
 /// `continue`, after the word that starts at this offset.
-#[tactic(auto, unfolding(pure_parser::specs::Stmts::continue_of))]
+#[tactic(auto, unfolding(grammar_parser_specs::specs::Stmts::continue_of))]
 pub fn continue_from<H: Handler>(
     state: &mut State<H>,
     source: &Source,
@@ -57,7 +57,7 @@ pub fn continue_from<H: Handler>(
 }
 
 /// `break`, after the word that starts at this offset.
-#[tactic(auto, unfolding(pure_parser::specs::Stmts::break_of))]
+#[tactic(auto, unfolding(grammar_parser_specs::specs::Stmts::break_of))]
 pub fn break_from<H: Handler>(
     state: &mut State<H>,
     source: &Source,

@@ -1,0 +1,6 @@
+mod Late
+mod Placing
+mod Depths
+mod Turns
+mod Inside
+mod Whole

@@ -1,0 +1,4 @@
+pub mod Listing
+pub mod Placed
+pub mod Strict
+pub mod Weight

@@ -1,5 +1,5 @@
 -- One file: what is printed is its answer.
-use Rattle.std.proofs.Common.{◌≡◌, ℕ, ◌+◌, ◌≤◌, true, false, List, length, Option, Some, Vec, refl, sym, ◌∙◌, subst}
+use Rattle.std.proofs.Common.{◌≡◌, ℕ, true, false, List, length, Option, Some, Vec, refl, sym, ◌∙◌, subst}
 use Rattle.std.specs.declared.alloc.Global.{Global}
 use Rattle.session_outside.specs.Loops.{IsWholeBehind}
 use Rattle.session_words.specs.declared.options.Command.{Command}

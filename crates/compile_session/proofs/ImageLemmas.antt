@@ -1,10 +1,8 @@
 -- Images: what is printed is the answer, and there is one.
-use Rattle.std.proofs.Common.{◌≡◌, ℕ, true, false, Bool, List, ◌++◌, inl, inr, ap, sym, ◌∙◌, subst}
-use Rattle.stencil_data.specs.MergedView.{MergedView}
+use Rattle.std.proofs.Common.{◌≡◌, ℕ, false, List, ◌++◌, inl, inr, ap, sym, ◌∙◌}
 use Rattle.stencil_data.specs.Named.{NamedMerged}
 use Rattle.bytecode_buf.specs.Command.{Listed}
 use Rattle.script_image.specs.ScriptLines.{code_text}
-use Rattle.stencil_xdr_specs.specs.Image.{IsImageOf}
 use Rattle.session_image_specs.specs.Images.{IsImageFor, IsNoImage, AreVerifiedLines}
 use Rattle.session_images.proofs.OneListing.{one_image_one_listing}
 use Rattle.session_images.proofs.OneVerdict.{one_image_one_verdict}

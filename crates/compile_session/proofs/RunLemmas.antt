@@ -1,16 +1,17 @@
 -- The command: what the sink has taken is a front of the answer.
-use Rattle.std.proofs.Common.{◌≡◌, ℕ, Bool, true, false, List, [], ◌∷◌, ◌++◌, Option, Some, None, Vec, refl, ap, sym, ◌∙◌, subst, append-nil, if◌then◌else◌, ◌+◌, ◌<◌, ◌≤◌, length}
+use Rattle.std.proofs.Common.{◌≡◌, ℕ, Bool, true, false, List, [], ◌∷◌, ◌++◌, Option, Some, None, Vec, refl, ap, sym, ◌∙◌, subst, append-nil, if◌then◌else◌}
 use Rattle.std.specs.declared.alloc.Global.{Global}
-use Rattle.std.proofs.lemmas.Bool.{le-leb, lt-leb}
 use Rattle.session_outside.specs.Shelf.{TurnsToFront, opened}
 use Rattle.session_outside.specs.Sink.{Gains, GainsFront}
-use Rattle.session_outside.specs.Loops.{ReadsAllWithin, AreWholeBehind}
-use Rattle.session_words.specs.Asked.{Asked}
+use Rattle.session_outside.specs.Loops.{ReadsAllWithin, opened_within}
+use Rattle.session_words.specs.Asked.{Asked, Files, Trial, Churn}
 use Rattle.session_words.specs.Words.{asked_of}
-use Rattle.session_specs.specs.Answer.{IsAnswer, IsAnswerTo, most_bytes}
+use Rattle.session_specs.specs.Answer.{IsAnswer, IsAnswerTo, IsOfFiles, IsTrial, IsChurn, most_bytes}
 use Rattle.compile_session.specs.declared.answer.FileAnswer.{FileAnswer}
 use Rattle.compile_session.specs.Built.{built, built_of, is_built_work, files_of, names_of}
-use Rattle.compile_session.specs.Files.{AnswersWork, SettlesWork, opened_of}
+use Rattle.compile_session.specs.Alike.{AskAlike, IsAlike}
+use Rattle.compile_session.specs.Files.{AnswersWork, SettlesWork, status_of}
+use Rattle.compile_session.specs.declared.status.Status.{Status}
 
 -- what the words ask for is built
 pub built_is : (words : List (List ℕ)) (a : Asked) → asked_of words ≡ Some a → is_built_work a ≡ true → built_of words ≡ Some a
@@ -40,6 +41,38 @@ only_answer words a held text out refused r asked s other =
     let e : other.asked ≡ a = some_same other.asked a (sym other.form ∙ asked) in
     sym (s.only out r (subst (λ (x : Asked). IsAnswerTo x held out r) e other.answer)).0
 
+-- whatever the answer is, all of it was written, and the status is its own
+pub only_written : (words : List (List ℕ)) (a : Asked) (held : List ℕ → List ℕ) (text seen : List ℕ) (refused : Bool) (before now : Option (List ℕ)) (status : Status) → asked_of words ≡ Some a → SettlesWork a held text refused → seen ≡ text → Gains before now seen → status ≡ status_of refused
+    → (out : List ℕ) (r : Bool) → IsAnswer words held out r → (status ≡ status_of r) × Gains before now out
+only_written words a held text seen refused before now status asked s same gained is out r other =
+    let e : other.asked ≡ a = some_same other.asked a (sym other.form ∙ asked) in
+    let one : (out ≡ text) × (r ≡ refused) = s.only out r (subst (λ (x : Asked). IsAnswerTo x held out r) e other.answer) in
+    (is ∙ ap status_of (sym one.1), subst (λ (l : List ℕ). Gains before now l) (same ∙ sym one.0) gained)
+
+-- what is asked alike has the same answers
+answer_alike : (a b : Asked) (held : List ℕ → List ℕ) (out : List ℕ) (r : Bool) → IsAlike a b → IsAnswerTo b held out r → IsAnswerTo a held out r
+answer_alike (Files a) (Files b) held out r same answer =
+    subst (λ c. IsOfFiles c a.want held 0 a.files out r) (sym same.0) (subst (λ w. IsOfFiles b.command w held 0 a.files out r) (sym same.1) (subst (λ (fs : List (List ℕ)). IsOfFiles b.command b.want held 0 fs out r) (sym same.2) answer))
+answer_alike (Files a) (Trial n s w) held out r same answer = absurd same
+answer_alike (Files a) (Churn n s w) held out r same answer = absurd same
+answer_alike (Trial n s w) (Files b) held out r same answer = absurd same
+answer_alike (Trial n s w) (Trial m t v) held out r same answer =
+    subst (λ (k : ℕ). IsTrial k s out × (r ≡ false)) (sym same.0) (subst (λ (k : ℕ). IsTrial m k out × (r ≡ false)) (sym same.1) answer)
+answer_alike (Trial n s w) (Churn m t v) held out r same answer = absurd same
+answer_alike (Churn n s w) (Files b) held out r same answer = absurd same
+answer_alike (Churn n s w) (Trial m t v) held out r same answer = absurd same
+answer_alike (Churn n s w) (Churn m t v) held out r same answer =
+    subst (λ (k : ℕ). IsChurn k s out × (r ≡ false)) (sym same.0) (subst (λ (k : ℕ). IsChurn m k out × (r ≡ false)) (sym same.1) answer)
+
+-- an answer to words that ask for the same is an answer to these
+pub of_alike : (words others : List (List ℕ)) (held : List ℕ → List ℕ) (out : List ℕ) (r : Bool) → AskAlike words others → IsAnswer others held out r → IsAnswer words held out r
+of_alike words others held out r alike other = record {
+  asked = alike.asked;
+  form = alike.form;
+  answer = answer_alike alike.asked alike.asked_by_others held out r alike.alike
+      (subst (λ (x : Asked). IsAnswerTo x held out r) (some_same other.asked alike.asked_by_others (sym other.form ∙ alike.form_of_others)) other.answer);
+}
+
 -- what was written in part is a front of every answer
 pub front_of_answer : (words : List (List ℕ)) (a : Asked) (held : List ℕ → List ℕ) (text seen : List ℕ) (refused : Bool) (before now : Option (List ℕ)) → asked_of words ≡ Some a → SettlesWork a held text refused → seen ≡ text → GainsFront before now seen
     → (out : List ℕ) (r : Bool) → IsAnswer words held out r → GainsFront before now out
@@ -57,22 +90,6 @@ GainsFront-none None bytes = refl
 GainsFront-none (Some taken) bytes = ([], bytes, refl, ap Some (sym (append-nil taken)))
 
 -- ---- the names that the shelf was turned to
-
-opened_yes : (held : List ℕ → List ℕ) (before : ℕ) (name : List ℕ) (names : List (List ℕ)) → before + length (held name) ≤ most_bytes → opened_of held before (name ∷ names) ≡ name ∷ opened_of held (before + length (held name)) names
-opened_yes held before name names few =
-    ap (λ (b : Bool). name ∷ (if b then opened_of held (before + length (held name)) names else [])) (le-leb (before + length (held name)) most_bytes few)
-
-opened_no : (held : List ℕ → List ℕ) (before : ℕ) (name : List ℕ) (names : List (List ℕ)) → most_bytes < before + length (held name) → opened_of held before (name ∷ names) ≡ name ∷ []
-opened_no held before name names many =
-    ap (λ (b : Bool). name ∷ (if b then opened_of held (before + length (held name)) names else [])) (lt-leb (before + length (held name)) most_bytes many)
-
--- the files that were opened, by what was read, are those that are to be by what the names hold
-pub opened_are : (held : List ℕ → List ℕ) (before : ℕ) (names : List (List ℕ)) (reads : List (Option (Vec ℕ Global))) → AreWholeBehind most_bytes held before names reads → opened names reads ≡ opened_of held before names
-opened_are held before [] reads whole = refl
-opened_are held before (n ∷ ns) [] whole = absurd whole
-opened_are held before (n ∷ ns) (None ∷ rs) whole = sym (opened_no held before n ns whole.0)
-opened_are held before (n ∷ ns) (Some b ∷ rs) whole =
-    ap (λ (l : List (List ℕ)). n ∷ l) (opened_are held (before + length (held n)) ns rs whole.1) ∙ sym (opened_yes held before n ns whole.0.1)
 
 opened_front : (names : List (List ℕ)) (reads : List (Option (Vec ℕ Global))) → (rest : List (List ℕ)) × (names ≡ opened names reads ++ rest)
 opened_front [] reads = ([], refl)
@@ -94,8 +111,20 @@ turned_front words a names reads before now is same turned =
     subst (λ (ns : List (List ℕ)). TurnsToFront before now ns) (names_are words a names is same) (opened names reads, h.0, h.1, turned)
 
 -- where the shelf tells what it holds, it was turned to those that are to be opened
-pub turned_all : (words : List (List ℕ)) (a : Asked) (names : List (List ℕ)) (shelf : Option (List ℕ → List ℕ)) (held : List ℕ → List ℕ) (reads : List (Option (Vec ℕ Global))) (before now : List (List ℕ)) → (asked_of words ≡ Some a) × (is_built_work a ≡ true) → names ≡ files_of a
-    → shelf ≡ Some held → ReadsAllWithin shelf names most_bytes reads → now ≡ before ++ opened names reads → now ≡ before ++ opened_of held 0 (names_of (built_of words))
-turned_all words a names shelf held reads before now is same tells read turned =
-    let whole : AreWholeBehind most_bytes held 0 names reads = subst (λ (s : Option (List ℕ → List ℕ)). ReadsAllWithin s names most_bytes reads) tells read in
-    turned ∙ ap (λ (ns : List (List ℕ)). before ++ ns) (opened_are held 0 names reads whole) ∙ ap (λ (ns : List (List ℕ)). before ++ opened_of held 0 ns) (names_are words a names is same)
+pub opened_all : (words : List (List ℕ)) (a : Asked) (held : List ℕ → List ℕ) (names : List (List ℕ)) (before now : List (List ℕ)) → (asked_of words ≡ Some a) × (is_built_work a ≡ true) → names ≡ files_of a
+    → now ≡ before ++ opened_within most_bytes held 0 names → now ≡ before ++ opened_within most_bytes held 0 (names_of (built_of words))
+opened_all words a held names before now is same turned =
+    subst (λ (ns : List (List ℕ)). now ≡ before ++ opened_within most_bytes held 0 ns) (names_are words a names is same) turned
+
+-- all of these are some from the first on
+pub opened_whole : (words : List (List ℕ)) (a : Asked) (held : List ℕ → List ℕ) (names : List (List ℕ)) (before now : List (List ℕ)) → (asked_of words ≡ Some a) × (is_built_work a ≡ true) → names ≡ files_of a
+    → now ≡ before ++ opened_within most_bytes held 0 names → TurnsToFront before now (opened_within most_bytes held 0 (names_of (built_of words)))
+opened_whole words a held names before now is same turned =
+    let all = opened_within most_bytes held 0 (names_of (built_of words)) in
+    (all, [], sym (append-nil all), opened_all words a held names before now is same turned)
+
+-- some of these were turned to, where the shelf refused one
+pub opened_some : (words : List (List ℕ)) (a : Asked) (held : List ℕ → List ℕ) (names : List (List ℕ)) (before now : List (List ℕ)) → (asked_of words ≡ Some a) × (is_built_work a ≡ true) → names ≡ files_of a
+    → TurnsToFront before now (opened_within most_bytes held 0 names) → TurnsToFront before now (opened_within most_bytes held 0 (names_of (built_of words)))
+opened_some words a held names before now is same turned =
+    subst (λ (ns : List (List ℕ)). TurnsToFront before now (opened_within most_bytes held 0 ns)) (names_are words a names is same) turned

@@ -1,5 +1,5 @@
 -- A trial: the line that is printed is the answer, and there is one.
-use Rattle.std.proofs.Common.{◌≡◌, ℕ, ◌≤◌, false, List, ◌++◌, length, ap, refl, sym, ◌∙◌, subst, codes, append_assoc}
+use Rattle.std.proofs.Common.{◌≡◌, ℕ, false, List, ◌++◌, length, ap, refl, sym, ◌∙◌, subst, codes, append_assoc}
 use Rattle.std.specs.Fmt.{decimal}
 use Rattle.script_grammar.specs.Tree.{Stmts}
 use Rattle.stencil_data.specs.MergedView.{MergedView}

@@ -1,5 +1,5 @@
 -- How a command ends, and what it answers for all its files.
-use Rattle.std.specs.Prelude.{◌≡◌, ℕ, ◌+◌, ◌≤◌, nat_le, Bool, true, false, if◌then◌else◌, List, [], ◌∷◌, length, Vec, Option}
+use Rattle.std.specs.Prelude.{◌≡◌, ℕ, ◌≤◌, Bool, true, false, List, length, Vec, Option}
 use Rattle.std.specs.declared.alloc.Global.{Global}
 use Rattle.session_outside.specs.Loops.{AreWholeBehind}
 use Rattle.session_words.specs.Asked.{Job, Asked, Files, Trial, Churn}
@@ -54,10 +54,3 @@ abbrev pub IsBounded : Asked → Type 0
 IsBounded (Files j) = (length j.files ≤ 64) × (1 ≤ j.workers) × (j.workers ≤ 16)
 IsBounded (Trial number size workers) = size ≤ 100000
 IsBounded (Churn number size workers) = size ≤ 100000
-
--- of the files of these names, after so many bytes of others, those that are opened: up to and including the first with which
--- the files are more than 16,777,215 bytes, all where there is no such
-abbrev pub opened_of : (List ℕ → List ℕ) → ℕ → List (List ℕ) → List (List ℕ)
-opened_of held before [] = []
-opened_of held before (name ∷ names) =
-    name ∷ (if nat_le (before + length (held name)) most_bytes then opened_of held (before + length (held name)) names else [])

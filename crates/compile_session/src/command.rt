@@ -4,9 +4,11 @@ ghost use Rattle.std.specs.Prelude.{◌≡◌, ◌≢◌, ℕ, ◌-◌, ◌^◌,
 ghost use Rattle.std.specs.String.{string_bytes};
 ghost use Rattle.session_outside.specs.Shelf.{TurnsToFront};
 ghost use Rattle.session_outside.specs.Sink.{Gains, GainsFront};
-ghost use Rattle.session_specs.specs.Answer.{IsAnswer};
+ghost use Rattle.session_outside.specs.Loops.{opened_within};
+ghost use Rattle.session_specs.specs.Answer.{IsAnswer, most_bytes};
+ghost use Rattle.compile_session.specs.Alike.{AskAlike};
 ghost use Rattle.compile_session.specs.Built.{built_of, names_of};
-ghost use Rattle.compile_session.specs.Files.{IsBefore, IsWhole, opened_of, status_of};
+ghost use Rattle.compile_session.specs.Files.{IsBefore, IsWhole, status_of};
 
 use crate::file::MOST_BYTES;
 use crate::status::Status;
@@ -31,9 +33,15 @@ pub fn run<R: Threads + Wait + Sync, L: Shelf, K: Sink, G: Gate, T: Tally>(
     requires shelf { L.faults shelf.old < 2 ^ 64 - 1 }
     requires sink { K.faults sink.old < 2 ^ 64 - 1 }
 
-    // What the sink has taken where all was done: the answer to the words, where the files hold what the shelf tells.
+    // What the sink has taken where all was done: the answer to the words, where the files hold what the shelf tells. There is no
+    // other answer, to these words or to others that ask for the same with another number of workers or another order.
     ensures answer { (held : List ℕ → List ℕ) → L.held shelf.old ≡ Some held → IsWhole result →
         (out : List ℕ) × (refused : Bool) × IsAnswer (map string_bytes words.now) held out refused × (result ≡ status_of refused) × Gains (K.taken sink.old) (K.taken sink.new) out }
+    ensures only { (held : List ℕ → List ℕ) → L.held shelf.old ≡ Some held → IsWhole result → (out : List ℕ) (refused : Bool) →
+        IsAnswer (map string_bytes words.now) held out refused → (result ≡ status_of refused) × Gains (K.taken sink.old) (K.taken sink.new) out }
+    ensures alike { (held : List ℕ → List ℕ) → L.held shelf.old ≡ Some held → IsWhole result → (others : List (List ℕ)) →
+        AskAlike (map string_bytes words.now) others → (out : List ℕ) (refused : Bool) →
+        IsAnswer others held out refused → (result ≡ status_of refused) × Gains (K.taken sink.old) (K.taken sink.new) out }
     ensures front { (held : List ℕ → List ℕ) → L.held shelf.old ≡ Some held → (out : List ℕ) (refused : Bool) →
         IsAnswer (map string_bytes words.now) held out refused → GainsFront (K.taken sink.old) (K.taken sink.new) out }
     ensures nothing { IsBefore result → K.taken sink.new ≡ K.taken sink.old }
@@ -48,10 +56,13 @@ pub fn run<R: Threads + Wait + Sync, L: Shelf, K: Sink, G: Gate, T: Tally>(
     ensures complete { built_of (map string_bytes words.now) ≢ None → L.faults shelf.new ≡ L.faults shelf.old →
         K.faults sink.new ≡ K.faults sink.old → IsWhole result ⊎ (result ≡ Status.NoMemory) }
 
-    // The names that the shelf was turned to: all up to and including the first with which the files are too long. And what stays.
+    // The names that the shelf was turned to: whatever the status is, some from the first on, none after the first with which the
+    // files are too long; where all was done, all of these. And what stays.
     ensures names { TurnsToFront (L.turned shelf.old) (L.turned shelf.new) (names_of (built_of (map string_bytes words.now))) }
+    ensures opened { (held : List ℕ → List ℕ) → L.held shelf.old ≡ Some held →
+        TurnsToFront (L.turned shelf.old) (L.turned shelf.new) (opened_within most_bytes held 0 (names_of (built_of (map string_bytes words.now)))) }
     ensures all_names { (held : List ℕ → List ℕ) → L.held shelf.old ≡ Some held → IsWhole result →
-        L.turned shelf.new ≡ L.turned shelf.old ++ opened_of held 0 (names_of (built_of (map string_bytes words.now))) }
+        L.turned shelf.new ≡ L.turned shelf.old ++ opened_within most_bytes held 0 (names_of (built_of (map string_bytes words.now))) }
     ensures unread { result ≡ Status.BadWords → L.turned shelf.new ≡ L.turned shelf.old }
     ensures same { L.held shelf.new ≡ L.held shelf.old }
     ensures count { T.count tally.new ≡ T.count tally.old }

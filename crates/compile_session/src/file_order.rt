@@ -1,7 +1,9 @@
 //! In which order the files of a command are handed to workers.
 
-ghost use Rattle.std.specs.Prelude.{◌≤◌, ℕ, length, IfOk};
+ghost use Rattle.std.specs.Prelude.{◌≡◌, IfOk};
 ghost use Rattle.helper_tasks.specs.Jobs.{IsOrderOf};
+ghost use Rattle.compile_session.specs.Orders as definition;
+ghost use Rattle.compile_session.specs.Orders.{IsBegunIn};
 
 use session_words::Order;
 use std::alloc::{AllocError, Global};
@@ -9,7 +11,8 @@ use std::cmp::Reverse;
 
 /// The numbers below `count`, rising.
 fn rising(alloc: Global, count: u32) -> Result<Vec<u32>, AllocError>
-    ensures { IfOk result (λ numbers. IsOrderOf count numbers.items) }
+    ensures order { IfOk result (λ numbers. IsOrderOf count numbers.items) }
+    ensures rising { IfOk result (λ numbers. numbers.items ≡ definition.rising count) }
 {
     let mut numbers = Vec::new(alloc);
     for number in 0..count {
@@ -35,7 +38,8 @@ pub(crate) fn file_order(
     reads: &[Option<Vec<u8>>],
     count: u32,
 ) -> Result<Vec<u32>, AllocError>
-    ensures { IfOk result (λ numbers. IsOrderOf count numbers.items) }
+    ensures order { IfOk result (λ numbers. IsOrderOf count numbers.items) }
+    ensures begun { IfOk result (λ numbers. IsBegunIn order count numbers.items) }
 {
     let mut numbers = rising(alloc, count)?;
     match order {

@@ -1,5 +1,7 @@
 //! How a command ends.
 
+ghost use Rattle.std.specs.Prelude.{◌≡◌};
+
 /// The status of a command; the program ends with its number.
 #[derive(Clone, Copy, Debug, PartialEq, Eq)]
 pub enum Status {
@@ -15,4 +17,15 @@ pub enum Status {
     WriteFault = 4,
     /// Memory was wanting; what was written is a front of the output.
     NoMemory = 5,
+}
+
+impl Status {
+    ghost use Rattle.compile_session.specs.Statuses.{number_of};
+
+    /// The number with which the program ends, 0 to 5.
+    pub fn number(self) -> u8
+        ensures { result ≡ number_of self }
+    {
+        self as u8
+    }
 }

@@ -1,7 +1,7 @@
 use Rattle.std.proofs.Common.{map}
 use Rattle.std.specs.String.{string_bytes}
 use Rattle.session_words.specs.Asked.{asked}
-use Rattle.compile_session.proofs.RunLemmas.{settled_seen, front_of_answer, GainsFront-all, turned_front, turned_all}
+use Rattle.compile_session.proofs.RunLemmas.{settled_seen, front_of_answer, only_written, of_alike, GainsFront-all, turned_front, opened_all, opened_whole, opened_some}
 use Rattle.compile_session.proofs.WorkLemmas.{work_bounded}
 use Rattle.compile_session.proofs.command.run.Goals as goal
 
@@ -27,9 +27,36 @@ pub returns-clause-names : goal.returns-clause-names
 returns-clause-names g c =
     turned_front (map string_bytes c.args.words.now) (asked c.in-Ok.work) (map string_bytes c.files_of.result.now) c.in-Ok-read_files.reads.items (g.L.Shelf.turned c.args.shelf.now) (g.L.Shelf.turned c.read_files.new.shelf) c.in-Ok.ensures c.files_of.ensures c.in-Ok-read_files.ensures.names
 
+pub returns-in-Ok-write_bytes-clause-only : goal.returns-in-Ok-write_bytes-clause-only
+returns-in-Ok-write_bytes-clause-only g c = λ held tells whole out refused a.
+    let s = settled_seen (asked c.in-Ok.work) (g.L.Shelf.held c.args.shelf.now) held (map string_bytes c.files_of.result.now) c.in-Ok-read_files.reads.items c.deref.result.now c.in-Ok-answer_to.answer c.files_of.ensures c.deref.ensures.value tells c.in-Ok-read_files.ensures.read c.in-Ok-answer_to.ensures in
+    only_written (map string_bytes c.args.words.now) (asked c.in-Ok.work) held c.in-Ok-answer_to.answer.text.items c.deref-2.result.now c.in-Ok-answer_to.answer.refused (g.K.Sink.taken c.args.sink.now) (g.K.Sink.taken c.write_bytes.new.sink) c.status_of.result c.in-Ok.ensures.0 s c.deref-2.ensures.value c.in-Ok-write_bytes.ensures.took c.status_of.ensures out refused a
+
+pub returns-in-Ok-write_bytes-clause-alike : goal.returns-in-Ok-write_bytes-clause-alike
+returns-in-Ok-write_bytes-clause-alike g c = λ held tells whole others alike out refused a.
+    let s = settled_seen (asked c.in-Ok.work) (g.L.Shelf.held c.args.shelf.now) held (map string_bytes c.files_of.result.now) c.in-Ok-read_files.reads.items c.deref.result.now c.in-Ok-answer_to.answer c.files_of.ensures c.deref.ensures.value tells c.in-Ok-read_files.ensures.read c.in-Ok-answer_to.ensures in
+    only_written (map string_bytes c.args.words.now) (asked c.in-Ok.work) held c.in-Ok-answer_to.answer.text.items c.deref-2.result.now c.in-Ok-answer_to.answer.refused (g.K.Sink.taken c.args.sink.now) (g.K.Sink.taken c.write_bytes.new.sink) c.status_of.result c.in-Ok.ensures.0 s c.deref-2.ensures.value c.in-Ok-write_bytes.ensures.took c.status_of.ensures out refused (of_alike (map string_bytes c.args.words.now) others held out refused alike a)
+
+pub returns-in-Err-answer_to-clause-opened : goal.returns-in-Err-answer_to-clause-opened
+returns-in-Err-answer_to-clause-opened g c = λ held tells. opened_whole (map string_bytes c.args.words.now) (asked c.in-Ok.work) held (map string_bytes c.files_of.result.now) (g.L.Shelf.turned c.args.shelf.now) (g.L.Shelf.turned c.read_files.new.shelf) c.in-Ok.ensures c.files_of.ensures (c.in-Ok-read_files.ensures.opened held tells)
+
+pub returns-in-Ok-write_bytes-clause-opened : goal.returns-in-Ok-write_bytes-clause-opened
+returns-in-Ok-write_bytes-clause-opened g c = λ held tells. opened_whole (map string_bytes c.args.words.now) (asked c.in-Ok.work) held (map string_bytes c.files_of.result.now) (g.L.Shelf.turned c.args.shelf.now) (g.L.Shelf.turned c.read_files.new.shelf) c.in-Ok.ensures c.files_of.ensures (c.in-Ok-read_files.ensures.opened held tells)
+
+pub returns-in-Err-Failed-write_bytes-clause-opened : goal.returns-in-Err-Failed-write_bytes-clause-opened
+returns-in-Err-Failed-write_bytes-clause-opened g c = λ held tells. opened_whole (map string_bytes c.args.words.now) (asked c.in-Ok.work) held (map string_bytes c.files_of.result.now) (g.L.Shelf.turned c.args.shelf.now) (g.L.Shelf.turned c.read_files.new.shelf) c.in-Ok.ensures c.files_of.ensures (c.in-Ok-read_files.ensures.opened held tells)
+
+pub returns-clause-opened : goal.returns-clause-opened
+returns-clause-opened g c = λ held tells. opened_whole (map string_bytes c.args.words.now) (asked c.in-Ok.work) held (map string_bytes c.files_of.result.now) (g.L.Shelf.turned c.args.shelf.now) (g.L.Shelf.turned c.read_files.new.shelf) c.in-Ok.ensures c.files_of.ensures (c.in-Ok-read_files.ensures.opened held tells)
+
+pub returns-in-Err-Failed-clause-opened : goal.returns-in-Err-Failed-clause-opened
+returns-in-Err-Failed-clause-opened g c = λ held tells. opened_some (map string_bytes c.args.words.now) (asked c.in-Ok.work) held (map string_bytes c.files_of.result.now) (g.L.Shelf.turned c.args.shelf.now) (g.L.Shelf.turned c.read_files.new.shelf) c.in-Ok.ensures c.files_of.ensures (c.in-Err-Failed.ensures.opened held tells)
+
+pub returns-in-Err-NoMemory-clause-opened : goal.returns-in-Err-NoMemory-clause-opened
+returns-in-Err-NoMemory-clause-opened g c = λ held tells. opened_some (map string_bytes c.args.words.now) (asked c.in-Ok.work) held (map string_bytes c.files_of.result.now) (g.L.Shelf.turned c.args.shelf.now) (g.L.Shelf.turned c.read_files.new.shelf) c.in-Ok.ensures c.files_of.ensures (c.in-Err-NoMemory.ensures.opened held tells)
+
 pub returns-in-Ok-write_bytes-clause-all_names : goal.returns-in-Ok-write_bytes-clause-all_names
-returns-in-Ok-write_bytes-clause-all_names g c = λ held tells whole.
-    turned_all (map string_bytes c.args.words.now) (asked c.in-Ok.work) (map string_bytes c.files_of.result.now) (g.L.Shelf.held c.args.shelf.now) held c.in-Ok-read_files.reads.items (g.L.Shelf.turned c.args.shelf.now) (g.L.Shelf.turned c.read_files.new.shelf) c.in-Ok.ensures c.files_of.ensures tells c.in-Ok-read_files.ensures.read c.in-Ok-read_files.ensures.names
+returns-in-Ok-write_bytes-clause-all_names g c = λ held tells whole. opened_all (map string_bytes c.args.words.now) (asked c.in-Ok.work) held (map string_bytes c.files_of.result.now) (g.L.Shelf.turned c.args.shelf.now) (g.L.Shelf.turned c.read_files.new.shelf) c.in-Ok.ensures c.files_of.ensures (c.in-Ok-read_files.ensures.opened held tells)
 
 pub answer_to-requires-clause-bounded : goal.answer_to-requires-clause-bounded
 answer_to-requires-clause-bounded g c κs within = work_bounded (map string_bytes c.args.words.now) (asked c.in-Ok.work) c.in-Ok.ensures.0

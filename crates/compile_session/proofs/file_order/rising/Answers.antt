@@ -1,5 +1,6 @@
-use Rattle.std.proofs.Common.{[], ◌∷◌, length, refl, ap, arith, length-append}
+use Rattle.std.proofs.Common.{ℕ, List, [], ◌∷◌, ◌++◌, length, refl, ap, sym, ◌∙◌, arith, length-append}
 use Rattle.helper_tasks.proofs.Orders.{order_up}
+use Rattle.compile_session.proofs.OrderLemmas.{rising_more}
 use Rattle.compile_session.proofs.file_order.rising.Goals as goal
 
 pub loop-number-preserved : goal.loop-number-preserved
@@ -9,4 +10,5 @@ loop-number-preserved c =
     let n = ap length more in
     let m = length-append c.loop-number.numbers.items (c.loop-number.number ∷ []) in
     let size = inv.0 in
-    (omega arith, λ x. order_up x c.loop-number.number _ c.loop-number.numbers.items _ refl more (inv.1 x))
+    let next = c.loop-number.number in
+    (omega arith, λ x. order_up x next _ c.loop-number.numbers.items _ refl more (inv.1 x), more ∙ (ap (λ (xs : List ℕ). xs ++ next ∷ []) inv.2 ∙ sym (rising_more 0 next next (omega arith))))

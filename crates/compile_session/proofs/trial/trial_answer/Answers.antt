@@ -1,5 +1,4 @@
 use Rattle.std.proofs.Common.{ℕ, ◌≤◌, List, length, ap, sym, ◌∙◌, subst, arith}
-use Rattle.script_grammar.specs.Tree.{Stmts}
 use Rattle.session_trial_laws.proofs.Valid.{generated_has_all, generated_is_short}
 use Rattle.session_words.specs.Asked as asked
 use Rattle.session_specs.specs.Answer.{most_bytes}

@@ -1,0 +1,15 @@
+-- In which order the files of a command are begun: this project's own choice.
+use Rattle.std.specs.Prelude.{◌≡◌, ℕ, List, reverse}
+use Rattle.std.specs.List.{range_with_len}
+use Rattle.session_words.specs.declared.options.Order.{Order}
+use Rattle.session_words.specs.declared.options.Order.TheVariants as order
+
+-- the numbers below so many, rising
+abbrev pub rising : ℕ → List ℕ
+rising count = range_with_len 0 count
+
+-- the numbers of the first files stand in the order that the command asks for; where it asks for the larger ones first nothing is said here
+abbrev pub IsBegunIn : Order → ℕ → List ℕ → Type 0
+IsBegunIn order.First count numbers = numbers ≡ rising count
+IsBegunIn order.Large count numbers = Unit {0}
+IsBegunIn order.Reverse count numbers = numbers ≡ reverse (rising count)

@@ -1,11 +1,12 @@
 //! One command of the program, from its words to the bytes that the sink takes.
 //!
 //! It stands on `session_words`, which reads the words of every command, on `session_outside`, which reads files and writes output, on
-//! `helper_tasks`, by whose workers files are worked on side by side, on `parse_script`, which reads the tokens and the script of
-//! a file, here by the handler of `parse_handlers` that keeps trees, on `early_errors`, which finds the early errors of kept
-//! trees, on `parse_attach_bodies`, which puts bodies into their places, on `compile_eager`, which compiles a script with all its
-//! functions, and on `script_image`, which prints it; for images on `session_images`, and for generated texts on
-//! `session_trial`. Its answer is that of the definitions of `session_specs`. Only the program stands on it.
+//! `compile_tally`, on which compiles are counted, on `helper_tasks`, by whose workers files are worked on side by side, on
+//! `parse_script`, which reads the tokens and the script of a file, here by the handler of `parse_handlers` that keeps trees, on
+//! `early_errors`, which finds the early errors of kept trees, on `parse_attach_bodies`, which puts bodies into their places, on
+//! `compile_eager`, which compiles a script with all its functions, and on `script_image`, which prints it; for images on
+//! `session_images`, and for generated texts on `session_trial`. Its answer is that of the definitions of `session_specs`. Only the
+//! program stands on it.
 //!
 //! `work` says what words ask for. `source`, `listing` and `printing` are the steps of the way of one file of source text,
 //! `image` is that of an image, `file_order`, `workers` and `files` those of all files of a command, and `trial` that of a
@@ -32,10 +33,11 @@ mod work;
 mod workers;
 
 pub use command::run;
+pub use compile_tally::{Sheet, Tally, Ticks};
 pub use helper_tasks::{Gate, MeetGate, OpenGate};
 pub use session_outside::{
-    FileShelf, FirmShelf, FirmSink, MapShelf, OutSink, Sheet, Shelf, ShelfRefusal, Sink,
-    SinkRefusal, Tally, VecSink,
+    FileShelf, FirmShelf, FirmSink, MapShelf, OutSink, Shelf, ShelfRefusal, Sink, SinkRefusal,
+    VecSink,
 };
 pub use session_words::{Command, FileJob, Options, Order, Want, WordsFault, read_words};
 pub use status::Status;

@@ -3,5 +3,4 @@ pub mod Sink
 pub mod Files
 pub mod MapShelves
 pub mod OpenFiles
-pub mod Tally
 pub mod Loops

@@ -1,5 +1,4 @@
-//! The outside of the program: where files come from, where output goes, and what a command's work is
-//! counted on.
+//! The outside of the program: where files come from, and where output goes.
 //!
 //! It stands on no crate of this project; the command stands on it, and so does whoever runs one over
 //! files in memory. `Shelf` and `Sink` are traits whose contracts say what each call gives, takes and
@@ -17,7 +16,6 @@ mod memory_sink;
 mod reading;
 mod shelf;
 mod sink;
-mod tally;
 mod writing;
 
 pub use host::{FileShelf, OutSink};
@@ -26,5 +24,4 @@ pub use memory_sink::{FirmSink, VecSink};
 pub use reading::{read_file, read_files};
 pub use shelf::{Shelf, ShelfRefusal};
 pub use sink::{Sink, SinkRefusal};
-pub use tally::{Sheet, Tally};
 pub use writing::write_bytes;

@@ -37,12 +37,12 @@ use Rattle.compile_eager.specs.declared.compiling.Compiled.{Compiled}
 use Rattle.compile_eager.specs.Compiling.{Knows, IsAt, AreAt, Made, sited_at}
 use Rattle.emit_limit_laws.specs.FullNames.{FullFunction}
 use Rattle.emit_limit_laws.proofs.StartsBehind.{start_behind}
-use Rattle.compile_eager.specs.Sorted.{NamesView, names_in}
+use Rattle.compile_numbers.specs.Sorted.{NamesView, names_in}
 use Rattle.compile_eager.proofs.Atoms.{scopes_within, name_within, closed_within}
 use Rattle.compile_eager.proofs.Bodies.{has_body}
 use Rattle.compile_eager.proofs.Found.{same_start, starts_there, all_inside, found_at}
 use Rattle.compile_eager.proofs.Shown.{same_closed}
-use Rattle.compile_eager.proofs.Sorting.{closed_inside}
+use Rattle.compile_numbers.proofs.Sorting.{closed_inside}
 
 no_bodies : ℕ → Stmts
 no_bodies n = no_stmts

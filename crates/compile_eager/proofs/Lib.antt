@@ -5,10 +5,8 @@ pub mod Shown
 pub mod Entries
 pub mod Functions
 pub mod Instructions
-pub mod Places
 pub mod Renumbering
 pub mod Rows
 pub mod Scripts
 pub mod Showing
-pub mod Sorting
 pub mod ShownFlags

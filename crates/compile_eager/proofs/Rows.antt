@@ -10,7 +10,7 @@ use Rattle.compile_specs.specs.Eager.{Site, AllSites, no_sites, more_sites, site
 use Rattle.compile_eager.specs.declared.compiling.Compiled.{Compiled}
 use Rattle.compile_eager.specs.Compiles.{AreCompiledAt}
 use Rattle.compile_eager.specs.Compiling.{IsAt, AreAt, Knows, Made, MadeAll}
-use Rattle.compile_eager.specs.Sorted.{NamesView}
+use Rattle.compile_numbers.specs.Sorted.{NamesView}
 use Rattle.compile_eager.proofs.Found.{starts_there}
 
 regroup : {X : Type 0} (xs ys zs : List X) → (xs ++ ys) ++ zs ≡ xs ++ (ys ++ zs)

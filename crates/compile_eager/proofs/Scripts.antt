@@ -34,7 +34,7 @@ use Rattle.compile_eager.specs.declared.compiling.Compiled.{Compiled}
 use Rattle.compile_eager.specs.declared.compiling.Script.{Script}
 use Rattle.compile_eager.specs.Compiles.{IsOf, IsCompiled, AreCompiledAt}
 use Rattle.compile_eager.specs.Compiling.{Knows, AreAt, MadeAll}
-use Rattle.compile_eager.specs.Sorted.{NamesView, AreSorted}
+use Rattle.compile_numbers.specs.Sorted.{NamesView, AreSorted}
 use Rattle.compile_eager.proofs.Atoms.{scopes_within}
 use Rattle.compile_eager.proofs.Found.{all_directly, all_behind_none, found_at}
 use Rattle.compile_eager.proofs.Functions.{ExtentsOf}

@@ -18,7 +18,7 @@ use Rattle.compile_specs.specs.Eager.{Site, AllSites, sites_in}
 use Rattle.compile_eager.specs.declared.compiling.Compiled.{Compiled}
 use Rattle.compile_eager.specs.Compiles.{IsCompiledAt, AreCompiledAt}
 use Rattle.emit_limit_laws.specs.FullNames.{FullNames}
-use Rattle.compile_eager.specs.Sorted.{NamesView, AreSorted}
+use Rattle.compile_numbers.specs.Sorted.{NamesView, AreSorted}
 
 -- ---- of the script
 

@@ -4,4 +4,3 @@ pub mod Flags
 pub mod Numbers
 pub mod Renumbered
 pub mod ShownAs
-pub mod Sorted

@@ -6,7 +6,7 @@ ghost use Rattle.compile_specs.specs.Eager.{Site};
 ghost use Rattle.compile_eager.specs.Compiles.{IsCompiled, IsOf};
 ghost use Rattle.compile_eager.specs.Compiling.{AreAt, IsAt, Knows, Made, MadeAll};
 
-use crate::closed::ClosedNames;
+use compile_numbers::ClosedNames;
 use emit_functions::function;
 use emit_stmts::scripts::top as emit_top;
 use parse_track::region::ClosedAt;

@@ -9,7 +9,8 @@ ghost use Rattle.compile_eager.specs.Numbers.{to_show};
 ghost use Rattle.compile_eager.specs.ShownAs.{HaveNumbers, IsNumbered, IsShownAs, AreShownAs, entry_of};
 
 use crate::compiling::{Compiled, Script};
-use crate::numbering::{numbers_of, renumber_code};
+use crate::numbering::renumber_code;
+use compile_numbers::numbers_of;
 use std::alloc::{AllocError, Global};
 use stencil_data::{Entry, FunctionStencil, LazyRecord, MergedStencil, Text};
 

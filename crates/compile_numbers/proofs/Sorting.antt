@@ -9,7 +9,7 @@ use Rattle.track_renaming_laws.specs.Renaming.{renamed_bound}
 use Rattle.track_renaming_laws.specs.Texts.{text_at}
 use Rattle.compile_specs.specs.Shown.{is_start, closed_of}
 use Rattle.scope_closed_laws.specs.Handed.{is_top, closed_at_top}
-use Rattle.compile_eager.specs.Sorted.{name_of, names_at_top, names_at}
+use Rattle.compile_numbers.specs.Sorted.{name_of, names_at_top, names_at}
 
 map_filtered_by : {A B C : Type 0} (f : A → C) (g : B → C) (h : A → B) (keep : Bool) (x : A) (xs : List A) (ys : List B) → f x ≡ g (h x) → map f xs ≡ map g ys → map f (cond keep (x ∷ xs) xs) ≡ map g (cond keep (h x ∷ ys) ys)
 map_filtered_by {C} f g h true x xs ys one rest = ap₂ (λ (y : C) (l : List C). y ∷ l) one rest

@@ -3,7 +3,7 @@
 ghost use Rattle.std.specs.Prelude.{◌≡◌, ◌++◌, ◌∷◌, [], ℕ, false, cond, nat_eq, IfOk, OnOk};
 ghost use Rattle.std.specs.Ordering.{nat_cmp};
 ghost use Rattle.std.specs.BTreeMap.{get};
-ghost use Rattle.compile_eager.specs.Sorted.{AreSorted, Takes, names_in, names_or};
+ghost use Rattle.compile_numbers.specs.Sorted.{AreSorted, Takes, names_in, names_or};
 
 use parse_track::region::ClosedAt;
 use std::alloc::{AllocError, Global};
@@ -20,7 +20,7 @@ pub struct ClosedNames {
 }
 
 impl Model for ClosedNames {
-    ghost use Rattle.compile_eager.specs.Sorted.{NamesView};
+    ghost use Rattle.compile_numbers.specs.Sorted.{NamesView};
 
     ghost Value = { NamesView };
 

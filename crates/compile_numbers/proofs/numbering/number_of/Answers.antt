@@ -2,8 +2,8 @@ use Rattle.std.proofs.Common.{◌≡◌, ◌+◌, ◌<◌, ◌≤◌, ◌^◌, �
 use Rattle.std.specs.List.{filter}
 use Rattle.std.proofs.lemmas.List.Sorted.{IsPartitionPoint-from_clause}
 use Rattle.std.proofs.lemmas.Grind.{common_steps}
-use Rattle.compile_eager.proofs.Places.{parted, place_of, number_is}
-use Rattle.compile_eager.proofs.numbering.number_of.Goals as goal
+use Rattle.compile_numbers.proofs.Places.{parted, place_of, number_is}
+use Rattle.compile_numbers.proofs.numbering.number_of.Goals as goal
 
 pub returns : goal.returns
 returns c = λ rising few.

@@ -112,4 +112,4 @@ kept_script file script h =
 -- ---- the known words are among the texts
 
 pub knows_names : (file : FileTokens) → IsSound file → KnowsNames file.texts.items
-knows_names file sound = names_known file.texts.items file.known sound.few sound.words
+knows_names file sound = let few = sound.few in names_known file.texts.items file.known (omega (arith, few)) sound.words

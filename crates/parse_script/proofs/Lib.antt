@@ -1,3 +1,5 @@
+pub mod FewTexts
+pub mod FileTexts
 pub mod ReadLemmas
 pub mod TextLemmas
 pub mod TokenLemmas

@@ -1,6 +1,7 @@
 -- The tokens that the scanner answers are those of the file, as a parser takes them.
 use Rattle.std.proofs.Common.{◌≡◌, ℕ, zero, suc, ◌^◌, ◌<◌, ◌≤◌, List, [], ◌∷◌, ◌++◌, map, length, drop, filter, Bool, true, false, refl, sym, ◌∙◌, ap, subst, arith, slice_index_or, length-append, length-drop}
 use Rattle.std.specs.Prelude.{Option, Some, None, ◌||◌, ◌&&◌, slice_get, nat_eq, nat_le, nat_lt, if◌then◌else◌}
+use Rattle.std.specs.List.{AllByRecursion}
 use Rattle.std.proofs.lemmas.Bool.{eqb-true, eq-eqb}
 use Rattle.std.proofs.lemmas.Option.{get_or_from_slice_get}
 use Rattle.unit_text.specs.declared.Point.{Point}
@@ -20,6 +21,7 @@ use Rattle.script_scanner.specs.Stands.{HasValue, StandsFor, StandFor, is_last, 
 use Rattle.script_scanner.specs.Tokens.{Value, Text, Number, Nothing, Piece, Lexed, Front, IsBlank, IsToken, IsNeither, front_of, front_at, token_at, then_tokens, tokens_within, tokens, last_token, part, without_first_line, braces_after}
 use Rattle.script_scanner.proofs.KindLemmas.{IsText, IsNumber, IsNothing, Suits, PieceSuits, token_suits}
 use Rattle.script_scanner.specs.Lexemes.{text_in, number_in, lexeme_of, lexemes}
+use Rattle.parse_script.specs.Tokens.{AtomWithin}
 
 -- Each token has a value that suits its kind.
 
@@ -209,31 +211,38 @@ get_within [] i text h = absurd (cc)
 get_within (t ∷ texts) zero text h = omega arith
 get_within (t ∷ texts) (suc i) text h = omega (arith, get_within texts i text h)
 
-value_within : (texts : List (List ℕ)) (v : Value) (n : ℕ) → length texts < 2 ^ 32 → IsText v → HasValue texts v n → n < 2 ^ 32
-value_within texts (Text units) n few h has = omega (arith, few, get_within texts n units has)
-value_within texts (Number value) n few h has = absurd h
-value_within texts Nothing n few h has = absurd h
+value_within : (texts : List (List ℕ)) (v : Value) (n : ℕ) → IsText v → HasValue texts v n → n < length texts
+value_within texts (Text units) n h has = get_within texts n units has
+value_within texts (Number value) n h has = absurd h
+value_within texts Nothing n h has = absurd h
 
 has_no_atom : (b : Bool) → b ≡ false → b ≡ true → ⊥
 has_no_atom b none some = let e = sym none ∙ some in cc
 
-atom_fits : (texts : List (List ℕ)) (k : Kind) (v : Value) (n : ℕ) → length texts < 2 ^ 32 → Carries k v → HasValue texts v n → has_atom k ≡ true → n < 2 ^ 32
-atom_fits texts kind.Name v n few h has some = value_within texts v n few h has
-atom_fits texts kind.Number v n few h has some = absurd (cc)
-atom_fits texts kind.Str v n few h has some = value_within texts v n few h has
-atom_fits texts kind.TemplateWhole v n few h has some = value_within texts v n few h has
-atom_fits texts kind.TemplateHead v n few h has some = value_within texts v n few h has
-atom_fits texts kind.TemplateMiddle v n few h has some = value_within texts v n few h has
-atom_fits texts kind.TemplateTail v n few h has some = value_within texts v n few h has
-atom_fits texts (kind.Word i) v n few h has some = value_within texts v n few h has
-atom_fits texts (kind.Mark i) v n few h has some = absurd (cc)
-atom_fits texts kind.Bad v n few h has some = absurd (cc)
-atom_fits texts kind.End v n few h has some = absurd (cc)
+atom_within : (texts : List (List ℕ)) (k : Kind) (v : Value) (n : ℕ) → Carries k v → HasValue texts v n → has_atom k ≡ true → n < length texts
+atom_within texts kind.Name v n h has some = value_within texts v n h has
+atom_within texts kind.Number v n h has some = absurd (cc)
+atom_within texts kind.Str v n h has some = value_within texts v n h has
+atom_within texts kind.TemplateWhole v n h has some = value_within texts v n h has
+atom_within texts kind.TemplateHead v n h has some = value_within texts v n h has
+atom_within texts kind.TemplateMiddle v n h has some = value_within texts v n h has
+atom_within texts kind.TemplateTail v n h has some = value_within texts v n h has
+atom_within texts (kind.Word i) v n h has some = value_within texts v n h has
+atom_within texts (kind.Mark i) v n h has some = absurd (cc)
+atom_within texts kind.Bad v n h has some = absurd (cc)
+atom_within texts kind.End v n h has some = absurd (cc)
+
+atoms_within : (texts : List (List ℕ)) (ts : List Token) (ls : List Lexed) → AllCarry ls → StandFor texts ts ls → AllByRecursion (AtomWithin (length texts)) ts
+atoms_within texts [] [] all stand = tt
+atoms_within texts [] (x ∷ ls) all stand = absurd stand
+atoms_within texts (t ∷ ts) [] all stand = absurd stand
+atoms_within texts (t ∷ ts) (x ∷ ls) all stand =
+    (λ some. atom_within texts x.kind x.value t.value all.0 stand.0.value (ap has_atom (sym stand.0.kind) ∙ some), atoms_within texts ts ls all.1 stand.1)
 
 atom_at : (texts : List (List ℕ)) (ts : List Token) (ls : List Lexed) → length texts < 2 ^ 32 → AllCarry ls → StandFor texts ts ls → (k : ℕ) (d : Token) → k < length ts → HasAtom (slice_index_or ts k d)
 atom_at texts [] ls few all stand k d l = absurd (omega (arith, l))
 atom_at texts (t ∷ ts) [] few all stand k d l = absurd stand
-atom_at texts (t ∷ ts) (x ∷ ls) few all stand zero d l = λ some. atom_fits texts x.kind x.value t.value few all.0 stand.0.value (ap has_atom (sym stand.0.kind) ∙ some)
+atom_at texts (t ∷ ts) (x ∷ ls) few all stand zero d l = λ some. let within = atom_within texts x.kind x.value t.value all.0 stand.0.value (ap has_atom (sym stand.0.kind) ∙ some) in omega (arith, few, within)
 atom_at texts (t ∷ ts) (x ∷ ls) few all stand (suc k) d l = atom_at texts ts ls few all.1 stand.1 k d (omega (arith, l))
 
 -- Only the last token ends all.
@@ -274,7 +283,7 @@ filter_few p (x ∷ ps) = by (p x) (filter_few p ps)
     by true h = omega (arith, h)
     by false h = omega (arith, h)
 
-tokens_few : (ps : List Point) (to : ℕ) → length (tokens ps 0 to) ≤ suc (length ps)
+pub tokens_few : (ps : List Point) (to : ℕ) → length (tokens ps 0 to) ≤ suc (length ps)
 tokens_few ps to =
     let text = without_first_line 0 (part 0 to ps) in
     let a = few_within (suc (length text)) to [] false text in
@@ -288,7 +297,7 @@ as_many texts [] (l ∷ ls) h = absurd h
 as_many texts (t ∷ ts) [] h = absurd h
 as_many texts (t ∷ ts) (l ∷ ls) h = ap suc (as_many texts ts ls h.1)
 
-tokens_carry : (ps : List Point) (to : ℕ) → AllCarry (tokens ps 0 to)
+pub tokens_carry : (ps : List Point) (to : ℕ) → AllCarry (tokens ps 0 to)
 tokens_carry ps to = let text = without_first_line 0 (part 0 to ps) in all_carry (suc (length text)) to [] false text
 
 -- The scanned tokens of a file.
@@ -309,3 +318,7 @@ file_scanned ps to texts ts few short stand one = record {
   inner = λ k d. subst (λ (xs : List Token). suc k < length xs → ends_all (slice_index_or xs k d).kind ≡ false) (sym one.split) (inner_at one.front one.last one.others k d);
   last = λ k d. subst (λ (xs : List Token). suc k ≡ length xs → ends_all (slice_index_or xs k d).kind ≡ true) (sym one.split) (last_at one.front one.last one.ends k d);
 }
+
+pub file_atoms : (ps : List Point) (to : ℕ) (texts made_texts : List (List ℕ)) (ts : List Token) → StandFor texts ts (tokens ps 0 to) → made_texts ≡ texts → AllByRecursion (AtomWithin (length made_texts)) ts
+file_atoms ps to texts made_texts ts stand made_same =
+    subst (λ (xs : List (List ℕ)). AllByRecursion (AtomWithin (length xs)) ts) (sym made_same) (atoms_within texts ts (tokens ps 0 to) (tokens_carry ps to) stand)

@@ -1,27 +1,35 @@
 -- The tokens of a file as the grammar of scripts sees them.
-use Rattle.std.specs.Prelude.{ℕ, ◌≡◌, ◌≤◌, List, map, length, ◌<◌, ◌^◌, IsUtf8}
+use Rattle.std.specs.Prelude.{ℕ, true, ◌≡◌, ◌≤◌, List, map, length, ◌<◌, ◌^◌, IsUtf8}
+use Rattle.std.specs.List.{AllByRecursion}
+use Rattle.script_grammar.specs.declared.token.Token.{Token}
 use Rattle.script_grammar.specs.Lexeme.{Lexeme, lexeme_of}
 use Rattle.parser_atoms.specs.Places.{AreWithoutEquals}
 use Rattle.script_scanner.specs.Lexemes.{lexemes}
 use Rattle.script_scanner.specs.Stands.{HasOneLast}
 use Rattle.grammar_start_laws.specs.Own.{TokensRise}
 use Rattle.script_grammar.specs.NameTokens.{NamesAreFull}
-use Rattle.parse_exprs.specs.Source.{IsScanned}
+use Rattle.parse_exprs.specs.Source.{has_atom, IsScanned}
 use Rattle.track_atoms.specs.Known.{HasWords, known_atoms}
 use Rattle.parse_script.specs.declared.file_tokens.FileTokens.{FileTokens}
 
 abbrev pub tokens_in : FileTokens → List Lexeme
 tokens_in file = map (lexeme_of file.known.get file.known.set file.texts.items) file.tokens.items
 
+-- the atom that the token has, if it is of a kind that has one, is the index of one of so many texts
+abbrev pub AtomWithin : ℕ → Token → Type 0
+AtomWithin count t = has_atom t.kind ≡ true → t.value < count
+
 -- What is known of the tokens of a file: as many as a parser takes, the last of them End or Bad and no other, from rising
--- offsets on, without empty names; the texts are fewer than 2^32 and have no equals, and the known words are the first of them.
+-- offsets on, without empty names; the texts are fewer than 2^31 and have no equals, each atom of a token is the index of one of
+-- them, and the known words are the first of them.
 pub record IsSound (file : FileTokens) : Type 0 where
   pub scanned : IsScanned file.tokens.items
   pub last : HasOneLast file.tokens.items
   pub rise : TokensRise 0 (tokens_in file)
   pub names : NamesAreFull (tokens_in file)
   pub apart : AreWithoutEquals file.texts.items
-  pub few : length file.texts.items < 2 ^ 32
+  pub few : length file.texts.items < 2 ^ 31
+  pub atoms : AllByRecursion (AtomWithin (length file.texts.items)) file.tokens.items
   pub words : HasWords file.texts.items file.known
   pub fixed : file.known ≡ known_atoms
 

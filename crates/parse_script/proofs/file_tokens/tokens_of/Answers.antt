@@ -6,7 +6,8 @@ use Rattle.grammar_start_laws.proofs.Rising.{lexemes_rise}
 use Rattle.scan_laws.proofs.FullNames.{names_are_full}
 use Rattle.track_atoms.specs.Known.{HasWords}
 use Rattle.track_atoms.proofs.Interning.{words_kept}
-use Rattle.parse_script.proofs.TokenLemmas.{KnowsWords, file_tokens, file_scanned}
+use Rattle.parse_script.proofs.FewTexts.{file_texts_few}
+use Rattle.parse_script.proofs.TokenLemmas.{KnowsWords, file_tokens, file_scanned, file_atoms}
 use Rattle.parse_script.proofs.file_tokens.tokens_of.Goals as goal
 
 pub returns-clause-tokens : goal.returns-clause-tokens
@@ -22,7 +23,8 @@ returns-clause-sound c = record {
   rise = subst (TokensRise 0) (sym (returns-clause-tokens c)) (lexemes_rise c.args.bytes.now);
   names = subst NamesAreFull (sym (returns-clause-tokens c)) (names_are_full c.args.bytes.now);
   apart = subst AreWithoutEquals (sym c.into_texts-texts.ensures.list) c.into_texts-texts.ensures.apart;
-  few = subst (λ (ts : List (List ℕ)). length ts < 2 ^ 32) (sym c.into_texts-texts.ensures.list) (subst (λ (ts : List (List ℕ)). length ts < 2 ^ 32) c.atoms-2.view_is c.atoms-2.invariant.few);
+  few = file_texts_few c.deref.result.now (length c.args.bytes.now) c.known_words.new.atoms c.scan.new.atoms c.into_texts-texts.result.items c.in_ok-tokens.ensures.gains c.into_texts-texts.ensures.apart c.in_ok-known.ensures.few (omega (arith, ap length c.deref.ensures.value, c.in_ok-points.ensures.few, c.requires)) c.into_texts-texts.ensures.list;
+  atoms = file_atoms c.deref.result.now (length c.args.bytes.now) c.scan.new.atoms c.into_texts-texts.result.items c.in_ok-tokens.tokens.items c.in_ok-tokens.ensures.tokens c.into_texts-texts.ensures.list;
   words = subst (λ (ts : List (List ℕ)). HasWords ts c.in_ok-known.known) (sym c.into_texts-texts.ensures.list) (words_kept c.known_words.new.atoms c.scan.new.atoms c.in_ok-known.known c.in_ok-tokens.ensures.keeps c.in_ok-known.ensures.words);
   fixed = c.in_ok-known.ensures.fixed;
 }

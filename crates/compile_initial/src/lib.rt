@@ -14,7 +14,18 @@ ghost use Rattle.std.specs.Prelude.{◌≡◌, ◌≤◌, ℕ, List, length, IfO
 ghost use Rattle.compile_first_pass.specs.Passes.{IsSyntaxOf};
 ghost use Rattle.compile_initial.specs.Initial.{IsInitialOf};
 
+mod chains;
+mod records;
+#[cfg(test)]
+mod tests;
+
+use crate::chains::chains_of;
+use crate::records::{around_of, records_of};
 use compile_first_pass::SyntaxScript;
+use compile_numbers::ClosedNames;
+use compile_script::{CompiledScript, compile_script};
+use parse_handlers::Full;
+use parse_top::read_top;
 use std::alloc::{AllocError, Global};
 use stencil_data::{Chain, InitialParts};
 
@@ -43,5 +54,30 @@ pub fn initial(alloc: Global, script: SyntaxScript, size: u32) -> Result<Initial
     requires { (bytes : List ℕ) × IsSyntaxOf bytes script × (size ≡ length bytes) × (length bytes ≤ 16777215) }
     ensures { IfOk result (λ made. (bytes : List ℕ) → IsSyntaxOf bytes script → size ≡ length bytes → IsInitialOf bytes made) }
 {
-    Err(AllocError)
+    let SyntaxScript {
+        file,
+        functions,
+        closed,
+    } = script;
+    let closed = ClosedNames::of(alloc, &closed)?;
+    let top = read_top(alloc, &file, Full::new(alloc))?;
+    let CompiledScript { stencil, inside } = compile_script(
+        alloc,
+        &top,
+        size,
+        closed.of_script(),
+        &file.texts,
+    )?;
+    let chains = chains_of(alloc, inside)?;
+    let records = records_of(alloc, &functions, &closed)?;
+    let around = around_of(alloc, &functions)?;
+    Ok(InitialStencil {
+        parts: InitialParts {
+            texts: file.texts,
+            top: stencil,
+            records,
+        },
+        chains,
+        around,
+    })
 }

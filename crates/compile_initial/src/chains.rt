@@ -1,0 +1,18 @@
+//! The chains that a script hands down.
+
+ghost use Rattle.std.specs.Prelude.{◌≡◌, map, IfOk};
+
+use scope_inner::InnerSite;
+use std::alloc::{AllocError, Global};
+use stencil_data::Chain;
+
+/// The chains at functions, in their order.
+pub(crate) fn chains_of(alloc: Global, inside: Vec<InnerSite>) -> Result<Vec<Chain>, AllocError>
+    ensures { IfOk result (λ chains. chains.items ≡ map (λ s. s.chain) inside.entry.items) }
+{
+    let mut chains = Vec::new(alloc);
+    for site in inside {
+        chains.push(site.chain)?;
+    }
+    Ok(chains)
+}

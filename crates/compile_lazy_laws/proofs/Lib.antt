@@ -1,5 +1,6 @@
 mod Forests
 mod Numbers
+mod Valid
 pub mod Outermost
 mod Entries
 pub mod Merging

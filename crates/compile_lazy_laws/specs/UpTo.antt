@@ -1,5 +1,5 @@
 -- What is shown of a script where its functions are taken one after another, in order of number. This project's own choice.
-use Rattle.std.specs.Prelude.{ℕ, zero, suc, ◌×◌, if◌then◌else◌, List, [], ◌∷◌, map, Option, None}
+use Rattle.std.specs.Prelude.{ℕ, zero, suc, if◌then◌else◌, List, [], ◌∷◌, map, Option, None}
 use Rattle.stencil_data.specs.declared.functions.Extent.{Extent}
 use Rattle.stencil_data.specs.Named.{NamedFunction, NamedMerged}
 use Rattle.bytecode_buf.specs.Command.{Command}

@@ -1,5 +1,6 @@
 pub mod FewTexts
 pub mod FileTexts
 pub mod ReadLemmas
+pub mod SmallTexts
 pub mod TextLemmas
 pub mod TokenLemmas

@@ -6,6 +6,7 @@ use Rattle.script_grammar.specs.Lexeme.{Lexeme, lexeme_of}
 use Rattle.parser_atoms.specs.Places.{AreWithoutEquals}
 use Rattle.script_scanner.specs.Lexemes.{lexemes}
 use Rattle.script_scanner.specs.Stands.{HasOneLast}
+use Rattle.bytecode_buf.specs.InRange.{TextsSmall}
 use Rattle.grammar_start_laws.specs.Own.{TokensRise}
 use Rattle.script_grammar.specs.NameTokens.{NamesAreFull}
 use Rattle.parse_exprs.specs.Source.{has_atom, IsScanned}
@@ -20,8 +21,8 @@ abbrev pub AtomWithin : ℕ → Token → Type 0
 AtomWithin count t = has_atom t.kind ≡ true → t.value < count
 
 -- What is known of the tokens of a file: as many as a parser takes, the last of them End or Bad and no other, from rising
--- offsets on, without empty names; the texts are fewer than 2^31 and have no equals, each atom of a token is the index of one of
--- them, and the known words are the first of them.
+-- offsets on, without empty names; the texts are fewer than 2^31, each of fewer than 2^32 units, and have no equals, each atom of
+-- a token is the index of one of them, and the known words are the first of them.
 pub record IsSound (file : FileTokens) : Type 0 where
   pub scanned : IsScanned file.tokens.items
   pub last : HasOneLast file.tokens.items
@@ -29,6 +30,7 @@ pub record IsSound (file : FileTokens) : Type 0 where
   pub names : NamesAreFull (tokens_in file)
   pub apart : AreWithoutEquals file.texts.items
   pub few : length file.texts.items < 2 ^ 31
+  pub small : TextsSmall file.texts.items
   pub atoms : AllByRecursion (AtomWithin (length file.texts.items)) file.tokens.items
   pub words : HasWords file.texts.items file.known
   pub fixed : file.known ≡ known_atoms

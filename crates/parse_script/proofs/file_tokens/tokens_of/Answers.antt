@@ -1,4 +1,4 @@
-use Rattle.std.proofs.Common.{ℕ, ◌<◌, ◌^◌, List, length, refl, sym, ap, subst, arith}
+use Rattle.std.proofs.Common.{ℕ, ◌<◌, ◌^◌, List, length, refl, sym, ◌∙◌, ap, subst, arith}
 use Rattle.parser_atoms.specs.Places.{AreWithoutEquals}
 use Rattle.grammar_start_laws.specs.Own.{TokensRise}
 use Rattle.script_grammar.specs.NameTokens.{NamesAreFull}
@@ -7,6 +7,7 @@ use Rattle.scan_laws.proofs.FullNames.{names_are_full}
 use Rattle.track_atoms.specs.Known.{HasWords}
 use Rattle.track_atoms.proofs.Interning.{words_kept}
 use Rattle.parse_script.proofs.FewTexts.{file_texts_few}
+use Rattle.parse_script.proofs.SmallTexts.{file_texts_small}
 use Rattle.parse_script.proofs.TokenLemmas.{KnowsWords, file_tokens, file_scanned, file_atoms}
 use Rattle.parse_script.proofs.file_tokens.tokens_of.Goals as goal
 
@@ -24,6 +25,7 @@ returns-clause-sound c = record {
   names = subst NamesAreFull (sym (returns-clause-tokens c)) (names_are_full c.args.bytes.now);
   apart = subst AreWithoutEquals (sym c.into_texts-texts.ensures.list) c.into_texts-texts.ensures.apart;
   few = file_texts_few c.deref.result.now (length c.args.bytes.now) c.known_words.new.atoms c.scan.new.atoms c.into_texts-texts.result.items c.in_ok-tokens.ensures.gains c.into_texts-texts.ensures.apart c.in_ok-known.ensures.few (omega (arith, ap length c.deref.ensures.value, c.in_ok-points.ensures.few, c.requires)) c.into_texts-texts.ensures.list;
+  small = file_texts_small c.args.bytes.now c.deref.result.now c.known_words.new.atoms c.scan.new.atoms c.into_texts-texts.result.items c.in_ok-known.known (c.deref.ensures.value ∙ c.in_ok-points.ensures.value) c.in_ok-known.ensures.words c.in_ok-known.ensures.fixed c.in_ok-known.ensures.few c.in_ok-tokens.ensures.gains c.into_texts-texts.ensures.list c.requires;
   atoms = file_atoms c.deref.result.now (length c.args.bytes.now) c.scan.new.atoms c.into_texts-texts.result.items c.in_ok-tokens.tokens.items c.in_ok-tokens.ensures.tokens c.into_texts-texts.ensures.list;
   words = subst (λ (ts : List (List ℕ)). HasWords ts c.in_ok-known.known) (sym c.into_texts-texts.ensures.list) (words_kept c.known_words.new.atoms c.scan.new.atoms c.in_ok-known.known c.in_ok-tokens.ensures.keeps c.in_ok-known.ensures.words);
   fixed = c.in_ok-known.ensures.fixed;

@@ -1,0 +1,6 @@
+pub mod Filled
+pub mod HollowPrint
+pub mod HollowProper
+pub mod Hollowing
+pub mod Skipping
+pub mod Standing

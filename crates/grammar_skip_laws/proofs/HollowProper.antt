@@ -20,7 +20,7 @@ use Rattle.grammar_skip_laws.proofs.Filled.{filled, filled_operands, filled_args
 
 -- What a tree keeps: how loosely its parts bind, how they begin and how they end.
 
-empty : ℕ → Body
+abbrev empty : ℕ → Body
 empty n = tree.BracedBody no_stmts
 
 are_empty : AreBraced empty
@@ -151,7 +151,7 @@ module _ (chosen : ℕ → Bool) where
 
   keeps_nearest : (s : Stmt) (o : MaybeStmt) → ElseIsNearest s o → ElseIsNearest (hollow_stmt chosen s) (hollow_else chosen o)
   keeps_nearest s no_stmt h = h
-  keeps_nearest s (some_stmt t) h = takes_hollow chosen braced s ∙ h
+  keeps_nearest s (some_stmt t) h = takes_same s ∙ h
 
   has_body : (c : Bool) (form : FuncForm) (x : Body) → ProperBody whole form x → ProperBody whole form (hollow_body chosen c x)
   has_body true form (tree.BracedBody items) h = tt
@@ -176,10 +176,10 @@ module _ (chosen : ℕ → Bool) where
     has_expr (tree.Func at f) h = (keeps_expression at f h.0, has_function f h.1)
     has_expr (tree.Paren at inner) h = has_expr inner h
     has_expr (tree.Chain head tails) h = (rank_le head h.0, has_expr head h.1, keeps_tails tails h.2, has_tails tails h.3)
-    has_expr (tree.New at callee args) h = (subst (λ x. rank (hollow chosen callee) ≤ x) (sym (callee_hollow chosen braced args)) (rank_le callee h.0), has_expr callee h.1, has_args args h.2)
+    has_expr (tree.New at callee args) h = (subst (λ x. rank (hollow chosen callee) ≤ x) (sym (callee_same args)) (rank_le callee h.0), has_expr callee h.1, has_args args h.2)
     has_expr (tree.Unary at op of is_word) h = (h.0, rank_le of h.1, has_expr of h.2)
     has_expr (tree.Update at op prefix of) h = (h.0, rank_le of h.1, has_expr of h.2)
-    has_expr (tree.Binary first rest) h = (keeps_operands rest h.0, subst (λ x. x < no_level) (sym (level_hollow chosen braced rest)) h.1, subst (λ x. rank (hollow chosen first) ≤ first_rank x) (sym (level_hollow chosen braced rest)) (rank_le first h.2), has_expr first h.3, subst (λ x. ProperOperands whole x (hollow_operands chosen rest)) (sym (level_hollow chosen braced rest)) (has_operands (operands_level rest) rest h.4))
+    has_expr (tree.Binary first rest) h = (keeps_operands rest h.0, subst (λ x. x < no_level) (sym (level_same rest)) h.1, subst (λ x. rank (hollow chosen first) ≤ first_rank x) (sym (level_same rest)) (rank_le first h.2), has_expr first h.3, subst (λ x. ProperOperands whole x (hollow_operands chosen rest)) (sym (level_same rest)) (has_operands (operands_level rest) rest h.4))
     has_expr (tree.Cond test then_value else_value) h = (rank_le test h.0, has_expr test h.1, rank_le then_value h.2, has_expr then_value h.3, rank_le else_value h.4, has_expr else_value h.5)
     has_expr (tree.Assign op target value) h = (h.0, rank_le target h.1, has_expr target h.2, rank_le value h.3, has_expr value h.4)
     has_expr (tree.Comma es) h = (keeps_two es h.0, has_exprs es h.1)
@@ -244,8 +244,8 @@ module _ (chosen : ℕ → Bool) where
 
     pub has_init : (a0 : Init) → ProperInit whole a0 → ProperInit whole (hollow_init chosen a0)
     has_init tree.NoInit h = tt
-    has_init (tree.ValueInit e) h = (free_hollow chosen braced e ∙ h.0, has_expr e h.1)
-    has_init (tree.BindsInit decl bs) h = (keeps_binds bs h.0, binds_free_hollow chosen braced bs ∙ h.1, has_binds bs h.2)
+    has_init (tree.ValueInit e) h = (free_same e ∙ h.0, has_expr e h.1)
+    has_init (tree.BindsInit decl bs) h = (keeps_binds bs h.0, binds_free_same bs ∙ h.1, has_binds bs h.2)
 
     pub has_each : (a0 : Each) → ProperEach whole a0 → ProperEach whole (hollow_each chosen a0)
     has_each (tree.TargetEach e) h = (rank_le e h.0, has_expr e h.1)
@@ -261,7 +261,7 @@ module _ (chosen : ℕ → Bool) where
 
     pub has_else : (a0 : Bool) (a1 : MaybeStmt) → ProperElse whole a0 a1 → ProperElse whole a0 (hollow_else chosen a1)
     has_else inside no_stmt h = tt
-    has_else inside (some_stmt s) h = (statement_hollow chosen braced s ∙ h.0, has_stmt inside s h.1)
+    has_else inside (some_stmt s) h = (statement_same s ∙ h.0, has_stmt inside s h.1)
 
     pub has_stmt : (a0 : Bool) (a1 : Stmt) → ProperStmt whole a0 a1 → ProperStmt whole a0 (hollow_stmt chosen a1)
     has_stmt inside (tree.Block items) h = has_stmts inside items h
@@ -269,17 +269,17 @@ module _ (chosen : ℕ → Bool) where
     has_stmt inside (tree.Debugger semi) h = tt
     has_stmt inside (tree.Binding decl bs semi) h = (keeps_binds bs h.0, has_binds bs h.1)
     has_stmt inside (tree.Value e semi) h = (brace_same e ∙ h.0, function_same e ∙ h.1, has_expr e h.2)
-    has_stmt inside (tree.If test then_stmt else_stmt) h = (has_expr test h.0, statement_hollow chosen braced then_stmt ∙ h.1, has_stmt inside then_stmt h.2, keeps_nearest then_stmt else_stmt h.3, has_else inside else_stmt h.4)
-    has_stmt inside (tree.Do body test semi) h = (statement_hollow chosen braced body ∙ h.0, has_stmt inside body h.1, has_expr test h.2)
-    has_stmt inside (tree.While test body) h = (has_expr test h.0, statement_hollow chosen braced body ∙ h.1, has_stmt inside body h.2)
-    has_stmt inside (tree.For init test update body) h = (has_init init h.0, has_option test h.1, has_option update h.2, statement_hollow chosen braced body ∙ h.3, has_stmt inside body h.4)
-    has_stmt inside (tree.ForIn each over body) h = (has_each each h.0, has_expr over h.1, statement_hollow chosen braced body ∙ h.2, has_stmt inside body h.3)
+    has_stmt inside (tree.If test then_stmt else_stmt) h = (has_expr test h.0, statement_same then_stmt ∙ h.1, has_stmt inside then_stmt h.2, keeps_nearest then_stmt else_stmt h.3, has_else inside else_stmt h.4)
+    has_stmt inside (tree.Do body test semi) h = (statement_same body ∙ h.0, has_stmt inside body h.1, has_expr test h.2)
+    has_stmt inside (tree.While test body) h = (has_expr test h.0, statement_same body ∙ h.1, has_stmt inside body h.2)
+    has_stmt inside (tree.For init test update body) h = (has_init init h.0, has_option test h.1, has_option update h.2, statement_same body ∙ h.3, has_stmt inside body h.4)
+    has_stmt inside (tree.ForIn each over body) h = (has_each each h.0, has_expr over h.1, statement_same body ∙ h.2, has_stmt inside body h.3)
     has_stmt inside (tree.Continue at label semi) h = tt
     has_stmt inside (tree.Break at label semi) h = tt
     has_stmt inside (tree.Return value semi) h = (h.0, has_option value h.1)
     has_stmt inside (tree.Throw value semi) h = has_expr value h
-    has_stmt inside (tree.Switch of cs) h = (has_expr of h.0, subst (λ x. x ≤ 1) (sym (defaults_hollow chosen braced cs)) h.1, has_clauses inside cs h.2)
-    has_stmt inside (tree.Label name body) h = (statement_hollow chosen braced body ∙ h.0, has_stmt inside body h.1)
+    has_stmt inside (tree.Switch of cs) h = (has_expr of h.0, subst (λ x. x ≤ 1) (sym (defaults_same cs)) h.1, has_clauses inside cs h.2)
+    has_stmt inside (tree.Label name body) h = (statement_same body ∙ h.0, has_stmt inside body h.1)
     has_stmt inside (tree.Try body param handler) h = (has_stmts inside body h.0, has_stmts inside handler h.1)
     has_stmt inside (tree.Declared f) h = (keeps_declaration f h.0, has_function f h.1)
 

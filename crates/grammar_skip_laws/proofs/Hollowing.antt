@@ -3,7 +3,7 @@ use Rattle.std.proofs.Common.{if◌then◌else◌, ◌≡◌, ◌∙◌, ℕ, su
 use Rattle.script_grammar.specs.declared.token.Kind.TheVariants as kind
 use Rattle.script_grammar.specs.declared.token.mark.TheConstants as mark
 use Rattle.script_grammar.specs.Lexeme.{Lexeme}
-use Rattle.script_grammar.specs.Pieces.{Piece, At, Gap, Pass, Slot, Exactly, nothing, Is, AllAre, IsBalanced, Fits, mark_piece, from, glue, until, ending_at}
+use Rattle.script_grammar.specs.Pieces.{Piece, At, Gap, Pass, Slot, Exactly, nothing, Is, AllAre, IsBalanced, Fits, may_omit, mark_piece, from, glue, until, ending_at}
 use Rattle.script_grammar.specs.Tree.{Function}
 use Rattle.scope_analysis.specs.Functions.{Inner}
 use Rattle.grammar_parser_laws.proofs.Friendly.{first_of}
@@ -50,6 +50,73 @@ pub data Hollows (chosen : ℕ → Bool) : List Inner → List Piece → List Pi
   one : (p : Piece) (is : List Inner) (ps qs : List Piece) → Hollows chosen is ps qs → Hollows chosen is (p ∷ ps) (p ∷ qs)
   other : (i : Inner) (is : List Inner) (ps qs : List Piece) → is_hollow chosen i.func ≡ false → Hollows chosen is ps qs → Hollows chosen (i ∷ is) ps qs
   hole : (i : Inner) (b : BracedPlaces i.func) (is : List Inner) (ps qs all left : List Piece) → is_hollow chosen i.func ≡ true → all ≡ all_places b ++ ps → left ≡ left_places b ++ qs → Hollows chosen is ps qs → Hollows chosen (i ∷ is) all left
+
+-- ---- what else is asked of the first or the last place
+
+from_place : (n : ℕ) (start : ℕ) (p : Piece) (ps : List Piece) → HeadPlaces start (p ∷ ps) → HeadPlaces start (from n (p ∷ ps))
+from_place n start (At s) ps h = record { at = λ w m f. back w m f }
+  where
+    back : (w : List Lexeme) (m : Lexeme) → Fits (from n (At s ∷ ps)) w m → HeadAt start w
+    back [] m f = absurd f
+    back (t ∷ w) m f = h.at (t ∷ w) m (record { kind = f.0.kind; content = f.0.content; starts = f.0.starts.1; ends = f.0.ends; line = f.0.line }, f.1)
+from_place n start (Gap e) ps h = h
+from_place n start Pass ps h = h
+
+glue_place : (start : ℕ) (p : Piece) (ps : List Piece) → HeadPlaces start (p ∷ ps) → HeadPlaces start (glue (p ∷ ps))
+glue_place start (At s) ps h = record { at = λ w m f. back w m f }
+  where
+    back : (w : List Lexeme) (m : Lexeme) → Fits (glue (At s ∷ ps)) w m → HeadAt start w
+    back [] m f = absurd f
+    back (t ∷ w) m f = h.at (t ∷ w) m (record { kind = f.0.kind; content = f.0.content; starts = f.0.starts; ends = f.0.ends; line = λ _. f.0.line refl }, f.1)
+glue_place start (Gap e) ps h = h
+glue_place start Pass ps h = h
+
+abbrev from_first : ℕ → Piece → Piece
+from_first n (At s) = At (record s { starts = n ∷ s.starts })
+from_first n (Gap e) = Gap e
+from_first n Pass = Pass
+
+from_is : (n : ℕ) (p : Piece) (ps : List Piece) → from n (p ∷ ps) ≡ from_first n p ∷ ps
+from_is n (At s) ps = refl
+from_is n (Gap e) ps = refl
+from_is n Pass ps = refl
+
+abbrev glue_first : Piece → Piece
+glue_first (At s) = At (record s { glued = true })
+glue_first (Gap e) = Gap e
+glue_first Pass = Pass
+
+glue_is : (p : Piece) (ps : List Piece) → glue (p ∷ ps) ≡ glue_first p ∷ ps
+glue_is (At s) ps = refl
+glue_is (Gap e) ps = refl
+glue_is Pass ps = refl
+
+abbrev with_first : {f : Function} (b : BracedPlaces f) (p : Piece) → HeadPlaces (start_of f) (p ∷ b.more) → BracedPlaces f
+with_first b p h = record { first = p; more = b.more; inner = b.inner; ends = b.ends; depth = b.depth; head = h; nested = b.nested; end = b.end }
+
+until_append : (n : ℕ) (a : List Piece) (p : Piece) (ps : List Piece) → until n (a ++ p ∷ ps) ≡ a ++ until n (p ∷ ps)
+until_append n [] p ps = refl
+until_append n (a ∷ []) p ps = refl
+until_append n (a ∷ b ∷ c) p ps = ap (λ x. a ∷ x) (until_append n (b ∷ c) p ps)
+
+abbrev with_end : {f : Function} (b : BracedPlaces f) (n : ℕ) → BracedPlaces f
+with_end b n = record { first = b.first; more = b.more; inner = b.inner; ends = n ∷ b.ends; depth = b.depth; head = b.head; nested = b.nested; end = λ m a. b.end m a.1 }
+
+all_until : {f : Function} (b : BracedPlaces f) (n : ℕ) → until n (all_places b) ≡ all_places (with_end b n)
+all_until b n =
+    let a = (b.first ∷ b.more) ++ (mark_piece mark.OPEN_BRACE b.depth ∷ b.inner) in
+    let split : (c : Piece) → (b.first ∷ b.more) ++ (mark_piece mark.OPEN_BRACE b.depth ∷ (b.inner ++ c ∷ [])) ≡ a ++ c ∷ [] = λ c. sym (append_assoc (b.first ∷ b.more) (mark_piece mark.OPEN_BRACE b.depth ∷ b.inner) (c ∷ [])) in
+    ap (until n) (split (closing b.ends b.depth)) ∙ until_append n a (closing b.ends b.depth) [] ∙ sym (split (closing (n ∷ b.ends) b.depth))
+
+left_until : {f : Function} (b : BracedPlaces f) (n : ℕ) → until n (left_places b) ≡ left_places (with_end b n)
+left_until b n =
+    let a = (b.first ∷ b.more) ++ (mark_piece mark.OPEN_BRACE b.depth ∷ []) in
+    let split : (c : Piece) → (b.first ∷ b.more) ++ (mark_piece mark.OPEN_BRACE b.depth ∷ c ∷ []) ≡ a ++ c ∷ [] = λ c. sym (append_assoc (b.first ∷ b.more) (mark_piece mark.OPEN_BRACE b.depth ∷ []) (c ∷ [])) in
+    ap (until n) (split (closing b.ends b.depth)) ∙ until_append n a (closing b.ends b.depth) [] ∙ sym (split (closing (n ∷ b.ends) b.depth))
+
+pub append_none : (xs : List Piece) → xs ++ [] ≡ xs
+append_none [] = refl
+append_none (x ∷ xs) = ap (λ y. x ∷ y) (append_none xs)
 
 -- ---- put together
 
@@ -105,47 +172,6 @@ module _ {chosen : ℕ → Bool} where
 
   -- ---- what else is asked of the first or the last place
 
-  from_place : (n : ℕ) (start : ℕ) (p : Piece) (ps : List Piece) → HeadPlaces start (p ∷ ps) → HeadPlaces start (from n (p ∷ ps))
-  from_place n start (At s) ps h = record { at = λ w m f. back w m f }
-    where
-      back : (w : List Lexeme) (m : Lexeme) → Fits (from n (At s ∷ ps)) w m → HeadAt start w
-      back [] m f = absurd f
-      back (t ∷ w) m f = h.at (t ∷ w) m (record { kind = f.0.kind; content = f.0.content; starts = f.0.starts.1; ends = f.0.ends; line = f.0.line }, f.1)
-  from_place n start (Gap e) ps h = h
-  from_place n start Pass ps h = h
-
-  glue_place : (start : ℕ) (p : Piece) (ps : List Piece) → HeadPlaces start (p ∷ ps) → HeadPlaces start (glue (p ∷ ps))
-  glue_place start (At s) ps h = record { at = λ w m f. back w m f }
-    where
-      back : (w : List Lexeme) (m : Lexeme) → Fits (glue (At s ∷ ps)) w m → HeadAt start w
-      back [] m f = absurd f
-      back (t ∷ w) m f = h.at (t ∷ w) m (record { kind = f.0.kind; content = f.0.content; starts = f.0.starts; ends = f.0.ends; line = λ _. f.0.line refl }, f.1)
-  glue_place start (Gap e) ps h = h
-  glue_place start Pass ps h = h
-
-  from_first : ℕ → Piece → Piece
-  from_first n (At s) = At (record s { starts = n ∷ s.starts })
-  from_first n (Gap e) = Gap e
-  from_first n Pass = Pass
-
-  from_is : (n : ℕ) (p : Piece) (ps : List Piece) → from n (p ∷ ps) ≡ from_first n p ∷ ps
-  from_is n (At s) ps = refl
-  from_is n (Gap e) ps = refl
-  from_is n Pass ps = refl
-
-  glue_first : Piece → Piece
-  glue_first (At s) = At (record s { glued = true })
-  glue_first (Gap e) = Gap e
-  glue_first Pass = Pass
-
-  glue_is : (p : Piece) (ps : List Piece) → glue (p ∷ ps) ≡ glue_first p ∷ ps
-  glue_is (At s) ps = refl
-  glue_is (Gap e) ps = refl
-  glue_is Pass ps = refl
-
-  with_first : {f : Function} (b : BracedPlaces f) (p : Piece) → HeadPlaces (start_of f) (p ∷ b.more) → BracedPlaces f
-  with_first b p h = record { first = p; more = b.more; inner = b.inner; ends = b.ends; depth = b.depth; head = h; nested = b.nested; end = b.end }
-
   pub both_from : {is : List Inner} {ps qs : List Piece} (n : ℕ) → Hollows chosen is ps qs → Hollows chosen is (from n ps) (from n qs)
   both_from n none = none
   both_from n (one p is ps qs h) = subst (λ x. Hollows chosen is x (from n (p ∷ qs))) (sym (from_is n p ps)) (subst (λ x. Hollows chosen is (from_first n p ∷ ps) x) (sym (from_is n p qs)) (one (from_first n p) is ps qs h))
@@ -162,11 +188,6 @@ module _ {chosen : ℕ → Bool} where
       hole i (with_first b (glue_first b.first) (subst (HeadPlaces (start_of i.func)) (glue_is b.first b.more) (glue_place (start_of i.func) b.first b.more b.head))) is ps qs (glue all) (glue left) e
       (ap glue f ∙ glue_is b.first _) (ap glue g ∙ glue_is b.first _) h
 
-  until_append : (n : ℕ) (a : List Piece) (p : Piece) (ps : List Piece) → until n (a ++ p ∷ ps) ≡ a ++ until n (p ∷ ps)
-  until_append n [] p ps = refl
-  until_append n (a ∷ []) p ps = refl
-  until_append n (a ∷ b ∷ c) p ps = ap (λ x. a ∷ x) (until_append n (b ∷ c) p ps)
-
   some_left : {is : List Inner} {p : Piece} {ps qs : List Piece} → Hollows chosen is (p ∷ ps) qs → qs ≡ [] → ⊥
   some_left (one p is ps qs h) e = absurd (cc)
   some_left (other i is ps qs f h) e = some_left h e
@@ -176,25 +197,6 @@ module _ {chosen : ℕ → Bool} where
   some_all (one p is ps qs h) e = absurd (cc)
   some_all (other i is ps qs f h) e = some_all h e
   some_all (hole i b is ps qs all left f g k h) e = absurd (let x = sym g ∙ e in cc)
-
-  with_end : {f : Function} (b : BracedPlaces f) (n : ℕ) → BracedPlaces f
-  with_end b n = record { first = b.first; more = b.more; inner = b.inner; ends = n ∷ b.ends; depth = b.depth; head = b.head; nested = b.nested; end = λ m a. b.end m a.1 }
-
-  all_until : {f : Function} (b : BracedPlaces f) (n : ℕ) → until n (all_places b) ≡ all_places (with_end b n)
-  all_until b n =
-      let a = (b.first ∷ b.more) ++ (mark_piece mark.OPEN_BRACE b.depth ∷ b.inner) in
-      let split : (c : Piece) → (b.first ∷ b.more) ++ (mark_piece mark.OPEN_BRACE b.depth ∷ (b.inner ++ c ∷ [])) ≡ a ++ c ∷ [] = λ c. sym (append_assoc (b.first ∷ b.more) (mark_piece mark.OPEN_BRACE b.depth ∷ b.inner) (c ∷ [])) in
-      ap (until n) (split (closing b.ends b.depth)) ∙ until_append n a (closing b.ends b.depth) [] ∙ sym (split (closing (n ∷ b.ends) b.depth))
-
-  left_until : {f : Function} (b : BracedPlaces f) (n : ℕ) → until n (left_places b) ≡ left_places (with_end b n)
-  left_until b n =
-      let a = (b.first ∷ b.more) ++ (mark_piece mark.OPEN_BRACE b.depth ∷ []) in
-      let split : (c : Piece) → (b.first ∷ b.more) ++ (mark_piece mark.OPEN_BRACE b.depth ∷ c ∷ []) ≡ a ++ c ∷ [] = λ c. sym (append_assoc (b.first ∷ b.more) (mark_piece mark.OPEN_BRACE b.depth ∷ []) (c ∷ [])) in
-      ap (until n) (split (closing b.ends b.depth)) ∙ until_append n a (closing b.ends b.depth) [] ∙ sym (split (closing (n ∷ b.ends) b.depth))
-
-  pub append_none : (xs : List Piece) → xs ++ [] ≡ xs
-  append_none [] = refl
-  append_none (x ∷ xs) = ap (λ y. x ∷ y) (append_none xs)
 
   pub both_until : {is : List Inner} {ps qs : List Piece} (n : ℕ) → Hollows chosen is ps qs → Hollows chosen is (until n ps) (until n qs)
   both_until n none = none
@@ -237,8 +239,8 @@ record Cut (limit : ℕ) (f : Function) (b : BracedPlaces f) (ps : List Piece) (
   others : Stand limit ps rest n
   left : (next : Lexeme) → Stand limit (left_places b) (left_of braced) next
 
-closed_at : (ends : List ℕ) (d limit : ℕ) (t : Lexeme) (next other : Lexeme) → Stand limit (closing ends d ∷ []) (t ∷ []) next → Stand limit (closing ends d ∷ []) (at_front t ∷ []) other
-closed_at ends d limit t next other h = (record { kind = h.0.kind; content = tt; starts = tt; ends = h.0.ends; line = λ _. refl }, h.1, tt)
+closed_at : (ends : List ℕ) (d limit : ℕ) (t : Lexeme) (next there : Lexeme) → Stand limit (closing ends d ∷ []) (t ∷ []) next → Stand limit (closing ends d ∷ []) (at_front t ∷ []) there
+closed_at ends d limit t next there h = (record { kind = h.0.kind; content = tt; starts = tt; ends = h.0.ends; line = λ _. refl }, h.1, tt)
 
 cut_close : (limit : ℕ) (f : Function) (b : BracedPlaces f) (ps : List Piece) (w : List Lexeme) (n : Lexeme) (first : Lexeme) (more : List Lexeme) (t : Lexeme) (inside : List Lexeme) (c rest : List Lexeme)
     → IsHead (first ∷ more) → first.start ≡ start_of f → w ≡ ((first ∷ more) ++ (t ∷ (inside ++ c))) ++ rest → Stand limit (b.first ∷ b.more) (first ∷ more) t → Is (record { kind = Exactly (kind.Mark mark.OPEN_BRACE); content = nothing; starts = []; ends = []; glued = false; depth = b.depth }) t
@@ -283,7 +285,7 @@ emptied chosen limit (one (At p) is ps qs h) (t ∷ w) n s =
     record { holes = r.holes; left = t ∷ r.left; leaves = keeps t r.holes w r.left r.leaves; places = r.places; first = refl; stand = (s.0, s.1, r.stand) }
 emptied chosen limit (one (Gap e) is ps qs h) w n s =
     let r = emptied chosen limit h w n s.1 in
-    record { holes = r.holes; left = r.left; leaves = r.leaves; places = r.places; first = r.first; stand = (s.0, r.stand) }
+    record { holes = r.holes; left = r.left; leaves = r.leaves; places = r.places; first = r.first; stand = (subst (λ x. may_omit e x ≡ true) (sym r.first) s.0, r.stand) }
 emptied chosen limit (one Pass is ps qs h) w n s =
     let r = emptied chosen limit h s.1 n s.4 in
     record {

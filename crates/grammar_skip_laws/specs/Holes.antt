@@ -72,7 +72,7 @@ has_braces (BracedBody items) = true
 has_braces (ShortBody value) = false
 
 abbrev pub is_hollow : (ℕ → Bool) → Function → Bool
-is_hollow chosen (function form start end name params comma bare body) = chosen start && has_braces body
+is_hollow chosen (function _ start _ _ _ _ _ body) = chosen start && has_braces body
 
 abbrev pub place_in : Function → Place
 place_in f = record { start = start_of f; end = end_of f }

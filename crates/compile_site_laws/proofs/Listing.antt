@@ -26,7 +26,7 @@ between before x after =
     let long = length-append before (x ∷ after) in
     slice_get-get_or (before ++ x ∷ after) (length before) x (omega (arith, long)) ∙ ap (λ y. Some y) (get_or-append_seam before x after x)
 
-mapped : {A B : Type 0} (f : A → B) (xs : List A) (k : ℕ) (x : A) → slice_get xs k ≡ Some x → slice_get (map f xs) k ≡ Some (f x)
+pub mapped : {A B : Type 0} (f : A → B) (xs : List A) (k : ℕ) (x : A) → slice_get xs k ≡ Some x → slice_get (map f xs) k ≡ Some (f x)
 mapped f xs k x e = slice_get-map f xs k ∙ ap (option_map f) e
 
 -- ---- sites
@@ -52,8 +52,8 @@ abbrev site_of : (Inner → List LinkView) → Inner → Site
 site_of chain f = record { inner = f; chain = chain f }
 
 module _ (top : List (List LinkView)) (all : List Site) where
-  hands_at : {around p q : ℕ} {chain : List LinkView} → p ≡ q → HandsDown top all around p chain → HandsDown top all around q chain
-  hands_at {around = around} {chain = chain} e h = subst (λ (k : ℕ). HandsDown top all around k chain) e h
+  hands_at : (around p q : ℕ) (chain : List LinkView) → p ≡ q → HandsDown top all around p chain → HandsDown top all around q chain
+  hands_at around p q chain e h = subst (λ (k : ℕ). HandsDown top all around k chain) e h
 
 -- a function hands down their chains to those directly in it
 hands_inside : (top : List (List LinkView)) (before after : List Site) (number : ℕ) (chain : Inner → List LinkView) (f : Inner) → suc (length before) ≡ number
@@ -90,8 +90,8 @@ module _ (around place at : ℕ) (chain : Inner → List LinkView) (f : Inner) (
         let some = length-append before (s ∷ u.all) in
         let long = u.long in
         let in_it = hands_inside top before ((u.all ++ v.all) ++ behind) at chain f e in
-        let after_it : HandsAll top whole around (suc place) rest chain = λ k g is. hands_at top whole (omega arith) (hands (suc k) g is) in (
-          record { brief = refl; chain = hands_at top whole (omega arith) (hands 0 f refl) },
+        let after_it : HandsAll top whole around (suc place) rest chain = λ k g is. hands_at top whole around (place + suc k) (suc place + k) (chain g) (omega arith) (hands (suc k) g is) in (
+          record { brief = refl; chain = hands_at top whole around (place + 0) place (chain f) (omega arith) (hands 0 f refl) },
           show_both (IsPlacedAt top whole) inside after u.all v.all
               (subst (λ (l : List Site). ShowAll (IsPlacedAt top l) inside u.all) inner
               (u.placed top (before ++ s ∷ []) (v.all ++ behind) (omega (arith, one, e))

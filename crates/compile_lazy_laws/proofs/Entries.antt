@@ -1,14 +1,14 @@
 -- The entries of functions that are taken one after another, and code in which functions have their numbers.
-use Rattle.std.proofs.Common.{◌≡◌, ◌∙◌, ℕ, zero, suc, Bool, true, false, if◌then◌else◌, List, [], ◌∷◌, length, map, Option, Some, None, refl, sym, ap, ap₂}
+use Rattle.std.proofs.Common.{◌≡◌, ◌∙◌, ℕ, zero, suc, Bool, false, List, [], ◌∷◌, length, map, Option, Some, None, refl, sym, ap, ap₂}
 use Rattle.std.specs.Prelude.{slice_get, slice_index_or}
 use Rattle.std.proofs.lemmas.Option.{none-some, same_Some}
 use Rattle.stencil_data.specs.declared.functions.Extent.{Extent}
-use Rattle.stencil_data.specs.Named.{NamedFunction, NamedRecord}
+use Rattle.stencil_data.specs.Named.{NamedFunction}
 use Rattle.bytecode_buf.specs.declared.opcode.Op.{Op}
 use Rattle.bytecode_buf.specs.declared.opcode.Op.TheVariants as op
 use Rattle.bytecode_buf.specs.Command.{Operand, Number, Command}
 use Rattle.parse_track.specs.ClosedNames.{Bound}
-use Rattle.compile_specs.specs.Shown.{Wanted, is_shown, numbers_of, record_of, renumbered, entry, extents_of}
+use Rattle.compile_specs.specs.Shown.{Wanted, numbers_of, record_of, renumbered, entry, extents_of}
 use Rattle.stencil_merge.specs.Functions.{named_inner_of}
 use Rattle.stencil_merge.specs.Instructions.{numbered_operand, numbered_commands}
 use Rattle.stencil_merge.specs.Merging.{filled_at}

@@ -2,7 +2,6 @@
 use Rattle.std.proofs.Common.{◌≡◌, ◌∙◌, ℕ, suc, ◌+◌, ◌≤◌, List, [], ◌∷◌, ◌++◌, map, length, refl, sym, ap, ap₂, subst, arith}
 use Rattle.std.proofs.lemmas.List.{map-append, length-map}
 use Rattle.script_grammar.specs.Tree.{Stmts, Function, function}
-use Rattle.stencil_data.specs.declared.functions.Extent.{Extent}
 use Rattle.stencil_data.specs.LinkView.{LinkView}
 use Rattle.stencil_data.specs.Named.{NamedFunction}
 use Rattle.bytecode_buf.specs.Command.{Command}

@@ -1,5 +1,5 @@
 -- The sites of functions that are placed, with the chains that are handed down to them.
-use Rattle.std.proofs.Common.{◌≡◌, ◌∙◌, ℕ, suc, ◌+◌, ◌<◌, Option, Some, option_map, List, [], ◌∷◌, ◌++◌, append_assoc, arith, length, length-append, map, refl, sym, ap, subst}
+use Rattle.std.proofs.Common.{◌≡◌, ◌∙◌, ℕ, suc, ◌+◌, Some, option_map, List, [], ◌∷◌, ◌++◌, append_assoc, arith, length, length-append, map, refl, sym, ap, subst}
 use Rattle.std.specs.Prelude.{slice_get}
 use Rattle.std.proofs.lemmas.Option.{slice_get-get_or, slice_get-map}
 use Rattle.std.proofs.Math.Seq.{get_or-append_seam}

@@ -1,5 +1,5 @@
 -- The functions of a list by their numbers are those that compiling the script comes to, each under the chain at its place.
-use Rattle.std.proofs.Common.{◌≡◌, ◌∙◌, ℕ, ◌+◌, Some, List, [], ◌++◌, append-nil, arith, map, refl, sym, subst}
+use Rattle.std.proofs.Common.{◌≡◌, ℕ, ◌+◌, Some, List, [], ◌++◌, append-nil, arith, refl, subst}
 use Rattle.std.specs.Prelude.{slice_get}
 use Rattle.script_grammar.specs.Shows.{ShowAll}
 use Rattle.script_grammar.specs.Tree.{Stmts}

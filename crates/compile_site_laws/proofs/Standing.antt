@@ -1,5 +1,5 @@
 -- Every function that compiling a script comes to stands well under the chain that it gets.
-use Rattle.std.proofs.Common.{ℕ, suc, ◌<◌, List, [], ◌∷◌, ◌++◌, arith, map}
+use Rattle.std.proofs.Common.{ℕ, suc, List, [], ◌∷◌, ◌++◌, arith, map}
 use Rattle.std.specs.Prelude.{Contains}
 use Rattle.std.specs.List.{All}
 use Rattle.std.proofs.lemmas.List.Elements.{All-contains_itself}

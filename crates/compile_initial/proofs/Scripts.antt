@@ -12,7 +12,7 @@ use Rattle.stencil_data.specs.declared.records.ClosedName.{ClosedName}
 use Rattle.stencil_data.specs.LinkView.{LinkView}
 use Rattle.stencil_data.specs.Named.{NamedRecord}
 use Rattle.stencil_data.specs.StandsFor.{named_closed, FunctionStandsFor, RecordsStandFor}
-use Rattle.stencil_data.specs.Views.{RecordView}
+use Rattle.stencil_data.specs.Views.{FunctionView, RecordView}
 use Rattle.script_scanner.specs.Lexemes.{lexemes}
 use Rattle.grammar_start_laws.specs.Own.{AllOf, stmts_at}
 use Rattle.grammar_start_laws.specs.Started.{started_stmts}
@@ -24,6 +24,7 @@ use Rattle.parse_handlers.specs.Kept.{IsBody}
 use Rattle.parse_script.specs.Tokens.{tokens_in}
 use Rattle.parse_script.proofs.FileTexts.{file_texts}
 use Rattle.parse_top.specs.Top.{ShowsTop}
+use Rattle.parse_track.specs.declared.region.ClosedAt.{ClosedAt}
 use Rattle.parse_track.specs.Notes.{closed_names}
 use Rattle.scope_analysis.specs.Closed.{inside_global}
 use Rattle.scope_analysis.specs.FunctionTree.{KnowsNames}
@@ -75,6 +76,11 @@ others_front : (ts us : List Lexeme) → OfEachNameToken IsNotThis (ts ++ us) �
 others_front [] us h = tt
 others_front (t ∷ ts) us h = (h.0, others_front ts us h.1)
 
+-- the records of functions as they were seen
+pub records_seen : (seen found : List FoundFunction) (closed : NamesView) (records : List RecordView) → seen ≡ found → (HaveNumbers (map start_at seen) → records ≡ map (record_at (map start_at seen) closed) seen)
+    → HaveNumbers (map start_at found) → records ≡ map (record_at (map start_at found) closed) found
+records_seen seen found closed records same h = subst (λ (fs : List FoundFunction). HaveNumbers (map start_at fs) → records ≡ map (record_at (map start_at fs) closed) fs) same h
+
 module _ (bytes : List ℕ) (script : SyntaxScript) (is : IsSyntaxOf bytes script) where
   abbrev pub texts : List (List ℕ)
   texts = script.file.texts.items
@@ -113,16 +119,33 @@ module _ (bytes : List ℕ) (script : SyntaxScript) (is : IsSyntaxOf bytes scrip
   knows : KnowsNames texts
   knows = let few = is.sound.few in knows_names texts script.file.known (omega (arith, few)) is.sound.words
 
-  -- its own statements can be compiled
-  pub can : (top : Vec Stmt Global) (seen : List Stmt) (names : List ClosedName) (closed : NamesView) → AreSorted script.closed.items closed → names ≡ closed.top → seen ≡ top.items → ShowsTop IsBody texts (tokens_in script.file) top
-      → CanBeCompiled texts bodies seen names is.items
-  can top seen names closed sorted given same shows = subst (λ (ss : List Stmt). CanBeCompiled texts bodies ss names is.items) (sym same) (record {
-    is = shows is.items bodies text ∙ script_is_own read.inner read.end is.items 0 read.script stands.rise;
-    within = script_within read.inner read.end is.items stands;
-    full = full.top;
-    closed_are = ap (λ (ns : List ClosedName). map (named_closed texts) (inside_global ns)) (given ∙ sorted.top) ∙ top_handed texts script.closed.items is.items is.closed sound;
-    knows = knows;
-  })
+  -- its own statements can be compiled, by what was called
+  module _ (top : Vec Stmt Global) (seen_closed : List ClosedAt) (closed : NamesView) (names : List ClosedName) (seen_top : List Stmt) (seen_texts : List (List ℕ))
+      (closed_same : seen_closed ≡ script.closed.items) (sorted : AreSorted seen_closed closed) (given : names ≡ closed.top) (top_same : seen_top ≡ top.items) (texts_same : seen_texts ≡ texts)
+      (shows : ShowsTop IsBody texts (tokens_in script.file) top) where
+    pub sorted_names : AreSorted script.closed.items closed
+    sorted_names = subst (λ (ats : List ClosedAt). AreSorted ats closed) closed_same sorted
+
+    can : CanBeCompiled texts bodies top.items names is.items
+    can = record {
+      is = shows is.items bodies text ∙ script_is_own read.inner read.end is.items 0 read.script stands.rise;
+      within = script_within read.inner read.end is.items stands;
+      full = full.top;
+      closed_are = ap (λ (ns : List ClosedName). map (named_closed texts) (inside_global ns)) (given ∙ sorted_names.top) ∙ top_handed texts script.closed.items is.items is.closed sound;
+      knows = knows;
+    }
+
+    asked : CanBeCompiled seen_texts bodies seen_top names is.items
+    asked = subst (λ (ts : List (List ℕ)). CanBeCompiled ts bodies seen_top names is.items) (sym texts_same) (subst (λ (ss : List Stmt). CanBeCompiled texts bodies ss names is.items) (sym top_same) can)
+
+    pub asks : (bs : ℕ → Stmts) × (t : Stmts) × CanBeCompiled seen_texts bs seen_top names t
+    asks = (bodies, is.items, asked)
+
+    pub compiled : (stencil : FunctionView) (inside : List InnerSite) (end : ℕ) → ((bs : ℕ → Stmts) (t : Stmts) → CanBeCompiled seen_texts bs seen_top names t → IsCompiledScript seen_texts stencil inside t end)
+        → end ≡ length bytes → IsCompiledScript texts stencil inside is.items (length bytes)
+    compiled stencil inside end made size =
+        subst (IsCompiledScript texts stencil inside is.items) size
+        (subst (λ (ts : List (List ℕ)). IsCompiledScript ts stencil inside is.items end) texts_same (made bodies is.items asked))
 
   -- ---- its functions
 
@@ -168,11 +191,10 @@ module _ (bytes : List ℕ) (script : SyntaxScript) (is : IsSyntaxOf bytes scrip
       subst (λ (starts : List ℕ). RecordsStandFor texts (map (record_at (map start_at found) closed) found) (map (shown.record_of starts (closed_names is.items)) (map (λ (s : Site). (compiled_at s).part) sited.all))) starts_are
       (records_stand texts i script.closed.items closed is.items (record { texts_are = refl; sound = sound; full = full; sorted = sorted; closed_are = is.closed }) (map start_at found) top_chains sited.all found sited.all listed at_sites)
 
-  pub initial_is : (made : InitialStencil) (end : ℕ) (inside : List InnerSite) (closed : NamesView) → AreSorted script.closed.items closed → end ≡ length bytes → made.parts.texts ≡ texts
-      → IsCompiledScript texts made.parts.top inside is.items end → made.chains.items ≡ map (λ (s : InnerSite). s.chain) inside
+  pub initial_is : (made : InitialStencil) (inside : List InnerSite) (closed : NamesView) → AreSorted script.closed.items closed → made.parts.texts ≡ texts
+      → IsCompiledScript texts made.parts.top inside is.items (length bytes) → made.chains.items ≡ map (λ (s : InnerSite). s.chain) inside
       → (HaveNumbers (map start_at found) → made.parts.records ≡ map (record_at (map start_at found) closed) found) → made.around.items ≡ map around_at found → IsInitialOf bytes made
-  initial_is made end inside closed sorted size texts_are compiled chains records around =
-      let top : IsCompiledScript texts made.parts.top inside is.items (length bytes) = subst (IsCompiledScript texts made.parts.top inside is.items) size compiled in
+  initial_is made inside closed sorted texts_are top chains records around =
       let kept : made.parts.records ≡ map (record_at (map start_at found) closed) found = records numbered in
       record {
         items = is.items;

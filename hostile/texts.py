@@ -2,6 +2,10 @@
 
 MOST_BYTES = 16_777_215
 
+# An operator of each level of precedence: a tree that is eleven nodes deeper, none of which counts for the depth. A conditional, a
+# postfix operator and a member make it three deeper again.
+OPERATORS = "a||b&&c|d^e&f==g<h<<i+j*k**"
+
 # What stands before and after, n times, and what in the middle. Each form is a script at depth 1.
 NESTED = {
     "parentheses": ("(", "x", ")"),
@@ -36,6 +40,10 @@ NESTED = {
     "switches": ("switch(a){case 0:", "", "}"),
     "tries": ("try{", "", "}catch(e){}"),
     "handlers": ("try{}catch(e){", "", "}"),
+    "operators in parentheses": (OPERATORS + "(", "x", ")"),
+    "operators in objects": (OPERATORS + "{a:", "x", "}"),
+    "operators in initializers": (OPERATORS + "function(a=", "x", "){}"),
+    "operators around members": (OPERATORS + "(", "x", ").a++?b:c"),
 }
 
 

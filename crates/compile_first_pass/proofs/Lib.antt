@@ -1,0 +1,4 @@
+pub mod FileLemmas
+pub mod PassLemmas
+pub mod SkimLemmas
+pub mod TokenStarts

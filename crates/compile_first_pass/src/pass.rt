@@ -1,0 +1,148 @@
+//! The pass: from the bytes of a file to its functions.
+
+ghost use Rattle.std.specs.Prelude.{◌≡◌, ◌≤◌, ℕ, List, length, map, IfOk};
+ghost use Rattle.script_grammar.specs.Interpretation.{Interpretation};
+ghost use Rattle.script_grammar.specs.Lexeme.{lexeme_of};
+ghost use Rattle.script_grammar.specs.Tree.{Stmts};
+ghost use Rattle.session_specs.specs.Sources as source;
+ghost use Rattle.parse_script.specs.Tokens.{AreTokensOf, IsSound};
+ghost use Rattle.compile_first_pass.specs.Passes.{IsFirstPass, IsSkimmedFile};
+
+use crate::skim::{SkimmedScript, Skims, skim};
+use early_script_errors::check_told;
+use parse_early_handler::early::{first_of_bodies, sooner};
+use parse_exprs::place::ParseFault;
+use parse_function_list::{FoundFunction, functions_of};
+use parse_script::{FileTokens, read_script, tokens_of};
+use parse_track::region::ClosedAt;
+use script_grammar::token::Token;
+use std::alloc::{AllocError, Global};
+use unit_text::DecodeFault;
+
+/// A script without errors, read without trees.
+#[derive(Drop)]
+pub struct SyntaxScript {
+    /// The tokens of its file.
+    pub file: FileTokens,
+    /// Its functions in order of number, from 1.
+    pub functions: Vec<FoundFunction>,
+    /// The names that inner functions close over.
+    pub closed: Vec<ClosedAt>,
+}
+
+/// Why a file of source text is no script without errors: the first of these that stands.
+#[derive(Clone, Copy, Debug)]
+pub enum SourceFault {
+    /// The bytes are not UTF-8.
+    BadUtf8 {
+        /// The length of their longest front that is UTF-8, in bytes.
+        offset: u32,
+    },
+    /// The text is no script: none goes on with some token of it, and none before it is too deep.
+    Unexpected {
+        /// Where the token starts, in bytes.
+        offset: u32,
+    },
+    /// Some token of the text is too deep, and scripts go on with all before it.
+    TooDeep {
+        /// Where the token starts, in bytes.
+        offset: u32,
+    },
+    /// The script has an early error of ECMA-262, and no token of it is too deep.
+    Early {
+        /// Where the first of them stands, in bytes.
+        offset: u32,
+        /// The number of its rule, 1 to 14.
+        rule: u8,
+    },
+}
+
+/// What a first pass over a file comes to.
+#[derive(Drop)]
+pub enum FirstPass {
+    Script(SyntaxScript),
+    Refused(SourceFault),
+}
+
+/// The offset where the token of this number starts; 0 after the last one.
+pub fn start_of(tokens: &[Token], token: u32) -> u32
+    ensures { (get : ℕ) (set : ℕ) (texts : List (List ℕ)) → result ≡ source.start_of (map (lexeme_of get set texts) tokens.now) token }
+{
+    match tokens.get(token as usize) {
+        None => 0,
+        Some(token) => token.start,
+    }
+}
+
+/// Checks the script of a file that was taken apart.
+fn check_skimmed(
+    alloc: Global,
+    file: FileTokens,
+    script: SkimmedScript,
+) -> Result<FirstPass, AllocError>
+    requires sound { IsSound file }
+    requires skimmed { (items : Stmts) × IsSkimmedFile file script items }
+    ensures { IfOk result (λ pass. (bytes : List ℕ) → AreTokensOf file (length bytes) bytes → IsFirstPass bytes pass) }
+{
+    let SkimmedScript { top, bodies } = script;
+    let listed = functions_of(alloc, top.found, bodies.found)?;
+    let first = first_of_bodies(top.errors, &bodies.errors);
+    let first = sooner(first, listed.late);
+    let checked = check_told(alloc, file.known, &top.told, bodies.told, first)?;
+    if let Some(early) = checked.early {
+        return Ok(FirstPass::Refused(SourceFault::Early {
+            offset: early.offset,
+            rule: early.rule,
+        }));
+    }
+    Ok(FirstPass::Script(SyntaxScript {
+        file,
+        functions: listed.functions,
+        closed: checked.closed,
+    }))
+}
+
+/// The pass over the tokens of a file.
+fn pass_over<H: Skims + Drop>(
+    alloc: Global,
+    handler: H,
+    file: FileTokens,
+) -> Result<FirstPass, AllocError>
+    requires { IsSound file }
+    ensures { IfOk result (λ pass. (bytes : List ℕ) → AreTokensOf file (length bytes) bytes → IsFirstPass bytes pass) }
+{
+    match read_script(alloc, &file, handler) {
+        Ok(script) => {
+            let skimmed = skim::<H>(alloc, script)?;
+            Ok(check_skimmed(alloc, file, skimmed)?)
+        }
+        Err(ParseFault::Unexpected { token }) => {
+            let offset = start_of(&file.tokens, token);
+            Ok(FirstPass::Refused(SourceFault::Unexpected { offset }))
+        }
+        Err(ParseFault::TooDeep { token }) => {
+            let offset = start_of(&file.tokens, token);
+            Ok(FirstPass::Refused(SourceFault::TooDeep { offset }))
+        }
+        Err(ParseFault::NoMemory) => Err(AllocError),
+    }
+}
+
+/// Reads the script of a file without trees, by this handler: its functions and its closed names, or why there is none.
+/// Takes time and memory in proportion to the bytes.
+pub fn first_pass<H: Skims + Drop>(
+    alloc: Global,
+    handler: H,
+    bytes: &[u8],
+) -> Result<FirstPass, AllocError>
+    requires { length bytes.now ≤ 16777215 }
+    ensures { IfOk result (IsFirstPass bytes.now) }
+{
+    match tokens_of(alloc, bytes) {
+        Ok(file) => Ok(pass_over(alloc, handler, file)?),
+        Err(DecodeFault::BadUtf8 { offset }) => {
+            Ok(FirstPass::Refused(SourceFault::BadUtf8 { offset }))
+        }
+        Err(DecodeFault::NoMemory) => Err(AllocError),
+    }
+}

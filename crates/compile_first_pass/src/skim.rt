@@ -1,0 +1,103 @@
+//! What a first pass keeps of bodies.
+
+ghost use Rattle.std.specs.Prelude.{List, IfOk};
+ghost use Rattle.script_grammar.specs.Interpretation.{Interpretation};
+ghost use Rattle.script_grammar.specs.Shows.{ShowAll};
+ghost use Rattle.script_grammar.specs.Tree.{Stmts};
+ghost use Rattle.compile_first_pass.specs.Skims.{IsSkimmed, AreSkimmed, SkimsScript};
+
+use parse_bodies::whole::Script;
+use parse_early_handler::{BodyErrors, EarlyErrorHandler};
+use parse_function_list::FoundBody;
+use parse_handlers::{Syntax, SyntaxBody};
+use parse_pair_handler::{Both, Pair};
+use parse_track_handler::{Piece, Telling};
+use script_grammar::handler::Handler;
+use std::alloc::{AllocError, Global};
+
+/// What is kept of the statements of a script or of a function's body.
+#[derive(Drop)]
+pub struct Skimmed {
+    /// What they tell a track.
+    pub told: Piece,
+    /// The functions directly in them.
+    pub found: SyntaxBody,
+    /// Their first early error of a rule that looks at no region.
+    pub errors: BodyErrors,
+}
+
+/// A handler whose nodes of bodies have all that a first pass asks for.
+pub trait Skims: Handler {
+    /// Takes the node of a body apart.
+    fn apart(body: Self::B) -> Skimmed
+        ensures { (i : Interpretation) (items : Stmts) → Self.shows_body i body items → IsSkimmed i result items };
+}
+
+impl Skims for Both<Telling, Both<Syntax, EarlyErrorHandler>> {
+    fn apart(body: Pair<Piece, Pair<SyntaxBody, BodyErrors>>) -> Skimmed {
+        let Pair {
+            first: told,
+            second: others,
+        } = body;
+        let Pair {
+            first: found,
+            second: errors,
+        } = others;
+        Skimmed {
+            told,
+            found,
+            errors,
+        }
+    }
+}
+
+/// Bodies in the order of the source, taken apart.
+#[derive(Drop)]
+pub(crate) struct SkimmedBodies {
+    pub told: Vec<Piece>,
+    pub found: Vec<FoundBody>,
+    pub errors: Vec<BodyErrors>,
+}
+
+/// A script and the bodies of its functions, taken apart.
+#[derive(Drop)]
+pub(crate) struct SkimmedScript {
+    pub top: Skimmed,
+    pub bodies: SkimmedBodies,
+}
+
+/// Takes the bodies apart.
+fn skim_bodies<H: Skims>(alloc: Global, bodies: Vec<H::B>) -> Result<SkimmedBodies, AllocError>
+    ensures { IfOk result (λ made. AreSkimmed H.shows_body bodies.items made.told.items made.found.items made.errors.items) }
+{
+    let mut told = Vec::new(alloc);
+    let mut found = Vec::new(alloc);
+    let mut errors = Vec::new(alloc);
+    for body in bodies {
+        let skimmed = H::apart(body);
+        told.push(skimmed.told)?;
+        found.push(FoundBody {
+            found: skimmed.found,
+            strict: skimmed.errors.strict,
+        })?;
+        errors.push(skimmed.errors)?;
+    }
+    Ok(SkimmedBodies {
+        told,
+        found,
+        errors,
+    })
+}
+
+/// Takes a script apart.
+pub(crate) fn skim<H: Skims>(
+    alloc: Global,
+    script: Script<H::B>,
+) -> Result<SkimmedScript, AllocError>
+    ensures { IfOk result (λ made. (i : Interpretation) (top : Stmts) (all : List Stmts) → H.shows_body i script.top top → ShowAll (H.shows_body i) script.bodies.items all → SkimsScript i made top all) }
+{
+    let Script { top, bodies } = script;
+    let top = H::apart(top);
+    let bodies = skim_bodies::<H>(alloc, bodies)?;
+    Ok(SkimmedScript { top, bodies })
+}

@@ -17,12 +17,13 @@ use Rattle.compile_specs.specs.Shown as shown
 use Rattle.compile_specs.specs.Shown.{Wanted, closed_of, numbers_of, with_numbers, record_of, is_shown, extents_of, starts_of}
 use Rattle.compile_eager.specs.declared.compiling.Compiled.{Compiled}
 use Rattle.compile_eager.specs.declared.compiling.Script.{Script}
-use Rattle.compile_eager.specs.Compiles.{AreCompiledAt, IsCompiled, Shows}
-use Rattle.compile_eager.specs.Flags.{wanted_flags, shown_flags}
+use Rattle.compile_eager.specs.Compiles.{AreCompiledAt, IsCompiled}
+use Rattle.compile_wanted.specs.Shows.{Shows}
+use Rattle.compile_wanted.specs.Flags.{wanted_flags, shown_flags}
 use Rattle.emit_limit_laws.specs.Offsets.{OffsetsRise, site_starts}
 use Rattle.compile_eager.specs.Renumbered.{renumbered_command}
 use Rattle.compile_eager.specs.ShownAs.{HaveNumbers, IsNumbered, IsShownAs, AreShownAs, all_shown, more_shown, record_view, entry_of}
-use Rattle.compile_eager.proofs.ShownFlags.{shown_by_flags}
+use Rattle.compile_wanted.proofs.ShownFlags.{shown_by_flags}
 
 -- ---- one after another
 

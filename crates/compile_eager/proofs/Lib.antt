@@ -8,5 +8,3 @@ pub mod Instructions
 pub mod Renumbering
 pub mod Rows
 pub mod Scripts
-pub mod Showing
-pub mod ShownFlags

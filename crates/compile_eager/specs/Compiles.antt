@@ -3,10 +3,8 @@ use Rattle.std.specs.Prelude.{◌≡◌, ℕ, ◌+◌, ◌^◌, ◌<◌, List, [
 use Rattle.script_grammar.specs.declared.tree.Stmt.{Stmt}
 use Rattle.script_grammar.specs.Lexeme.{Lexeme}
 use Rattle.script_grammar.specs.Tree.{Stmts}
-use Rattle.stencil_data.specs.Named.{NamedMerged}
-use Rattle.stencil_data.specs.StandsFor.{ClosedWithin, FunctionStandsFor, MergedStandsFor, named_closed}
-use Rattle.stencil_data.specs.MergedView.{MergedView}
-use Rattle.bytecode_buf.specs.Command.{Command, ShowsCommands}
+use Rattle.stencil_data.specs.StandsFor.{ClosedWithin, FunctionStandsFor, named_closed}
+use Rattle.bytecode_buf.specs.Command.{ShowsCommands}
 use Rattle.parse_track.specs.declared.region.ClosedAt.{ClosedAt}
 use Rattle.parse_track.specs.ClosedNames.{Bound}
 use Rattle.parse_track.specs.Notes.{closed_names}
@@ -18,7 +16,7 @@ use Rattle.scope_analysis.specs.FunctionTree.{KnowsNames}
 use Rattle.emit_stmts.specs.Functions.{start_of, top_script}
 use Rattle.emit_stmts.specs.ScriptCode.{script_in}
 use Rattle.compile_specs.specs.Eager.{Site, AreFunctions, compiled_at}
-use Rattle.compile_specs.specs.Shown.{Wanted, IsShown, closed_of}
+use Rattle.compile_specs.specs.Shown.{closed_of}
 use Rattle.script_grammar.specs.NameTokens.{OfEachNameToken, IsNotThis}
 use Rattle.emit_limit_laws.specs.Limits.{ScriptStands}
 use Rattle.compile_eager.specs.declared.compiling.Compiled.{Compiled}
@@ -67,11 +65,3 @@ pub record IsCompiled (texts : List (List ℕ)) (items : Stmts) (end : ℕ) (scr
   -- their numbers fit 32 bits
   pub few : length all + 1 < 2 ^ 32
   pub each : AreCompiledAt texts (closed_names items) script.functions.items all
-
--- ---- what is shown
-
--- the stencil stands for what is shown of the script where these functions are wanted
-pub record Shows (want : Wanted) (items : Stmts) (end : ℕ) (merged : MergedView) : Type 0 where
-  pub named : NamedMerged (List Command)
-  pub shown : IsShown want items end named
-  pub stands : MergedStandsFor ShowsCommands merged named

@@ -14,5 +14,6 @@ mod compiling;
 mod merging;
 mod numbering;
 
+pub use compile_wanted::Wanted;
 pub use compiling::{Compiled, Script, compile_script};
-pub use merging::{Wanted, merged};
+pub use merging::merged;

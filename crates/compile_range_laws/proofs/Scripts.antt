@@ -32,7 +32,8 @@ use Rattle.emit_limit_laws.specs.Limits.{ScriptStands}
 use Rattle.emit_limit_laws.proofs.EveryFunction.{every_stands}
 use Rattle.emit_limit_laws.specs.Offsets.{OffsetsRise, site_starts}
 use Rattle.emit_limit_laws.proofs.RisingSites.{sites_rise, sites_numbered}
-use Rattle.compile_eager.specs.Compiles.{IsOf, Shows}
+use Rattle.compile_eager.specs.Compiles.{IsOf}
+use Rattle.compile_wanted.specs.Shows.{Shows}
 use Rattle.compile_eager.proofs.Found.{same_start}
 use Rattle.compile_eager.proofs.Shown.{same_closed}
 use Rattle.stencil_xdr_laws.specs.Sizes as sizes

@@ -17,7 +17,8 @@ use Rattle.session_words.specs.Asked.{Wanted}
 use Rattle.session_specs.specs.Answer.{IsWritten, file_line, to_show}
 use Rattle.session_specs.specs.Sources.{IsLeastOf}
 use Rattle.parse_track.specs.declared.region.ClosedAt.{ClosedAt}
-use Rattle.compile_eager.specs.Compiles.{IsOf, Shows}
+use Rattle.compile_eager.specs.Compiles.{IsOf}
+use Rattle.compile_wanted.specs.Shows.{Shows}
 use Rattle.compile_session.specs.Listed.{is_listed, listed_text}
 
 -- ---- the least number that is missing

@@ -11,11 +11,11 @@ use Rattle.script_image.specs.ScriptLines.{instruction_count, listed_merged}
 use Rattle.script_image.proofs.Stands.{commands_as_listed}
 use Rattle.session_trial.specs.Generated.{generated}
 use Rattle.compile_specs.specs.Shown.{IsShown}
+use Rattle.compile_wanted.specs.Shows.{Shows}
 use Rattle.session_words.specs.Asked as asked
 use Rattle.session_specs.specs.Answer.{counts_text, numbers_text, to_show}
 use Rattle.session_specs.specs.Refusals.{Refusal}
 use Rattle.session_specs.specs.Sources.{HasAll, IsSource, IsScript, IsRefused, Source}
-use Rattle.compile_eager.specs.Compiles as eager
 use Rattle.compile_session.specs.Files.{SettlesWork}
 use Rattle.compile_session.proofs.SourceLemmas.{same_valid, one_shown, sources_equal}
 
@@ -37,7 +37,7 @@ abbrev pub trial_text : ℕ → ℕ → ℕ → ℕ → ℕ → List ℕ
 trial_text number size bytes functions count = codes "trial " ++ numbers_text number size ++ decimal bytes ++ codes " bytes, " ++ counts_text functions count
 
 pub trial_settles : (number size workers : ℕ) (held : List ℕ → List ℕ) (text bytes : List ℕ) (items : Stmts) (functions count : ℕ) (shown : MergedView) → bytes ≡ generated number size → HasAll bytes asked.All items functions
-    → (s : eager.Shows (to_show asked.All) items (length bytes) shown) → ((named : NamedMerged (List Listed)) → MergedStandsFor ShowsListed shown named → count ≡ instruction_count named) → text ≡ trial_text number size (length bytes) functions count
+    → (s : Shows (to_show asked.All) items (length bytes) shown) → ((named : NamedMerged (List Listed)) → MergedStandsFor ShowsListed shown named → count ≡ instruction_count named) → text ≡ trial_text number size (length bytes) functions count
     → SettlesWork (asked.Trial number size workers) held text false
 trial_settles number size workers held text bytes items functions count shown is has s counted printed = record {
   is = ((items, functions, all, (s.named, is_shown, line)), refl);

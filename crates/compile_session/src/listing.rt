@@ -6,9 +6,9 @@ ghost use Rattle.stencil_data.specs.StandsFor.{MergedStandsFor};
 ghost use Rattle.bytecode_buf.specs.Command.{Listed};
 ghost use Rattle.script_image.specs.Listed.{ShowsListed};
 ghost use Rattle.session_specs.specs.Answer as answer;
-ghost use Rattle.compile_eager.specs.Numbers.{to_show};
+ghost use Rattle.compile_wanted.specs.Numbers.{to_show};
 ghost use Rattle.session_words.specs.Asked as asked;
-ghost use Rattle.compile_eager.specs.Compiles.{Shows};
+ghost use Rattle.compile_wanted.specs.Shows.{Shows};
 ghost use Rattle.compile_session.specs.Answers.{IsMissing, IsScriptOf};
 ghost use Rattle.compile_session.specs.Listed.{listed_text};
 

@@ -2,7 +2,8 @@ use Rattle.std.proofs.Common.{List, ℕ, subst}
 use Rattle.compile_specs.specs.Shown.{Wanted}
 use Rattle.session_words.specs.Asked as asked
 use Rattle.session_specs.specs.Answer as answer
-use Rattle.compile_eager.specs.Compiles.{IsCompiled, Shows}
+use Rattle.compile_eager.specs.Compiles.{IsCompiled}
+use Rattle.compile_wanted.specs.Shows.{Shows}
 use Rattle.compile_session.proofs.ListingLemmas.{of_seen}
 use Rattle.compile_session.proofs.listing.stencil_of.Goals as goal
 

@@ -1,7 +1,7 @@
 -- Which functions are wanted, as the code is told it.
 use Rattle.compile_specs.specs.Shown as shown
-use Rattle.compile_eager.specs.declared.merging.Wanted.{Wanted}
-use Rattle.compile_eager.specs.declared.merging.Wanted.TheVariants as wanted
+use Rattle.compile_wanted.specs.declared.flags.Wanted.{Wanted}
+use Rattle.compile_wanted.specs.declared.flags.Wanted.TheVariants as wanted
 
 abbrev pub to_show : Wanted → shown.Wanted
 to_show wanted.All = shown.All

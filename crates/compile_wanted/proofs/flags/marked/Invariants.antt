@@ -1,6 +1,6 @@
 use Rattle.std.proofs.Common.{◌≡◌, ℕ, ◌+◌, ◌<◌, false, nat_eq, take, length, get_or}
 use Rattle.std.specs.List.{list_any}
-use Rattle.compile_eager.proofs.merging.marked.Given as goal
+use Rattle.compile_wanted.proofs.flags.marked.Given as goal
 
 abbrev pub invariant-loop-number : goal.invariant-loop-number
 invariant-loop-number l =

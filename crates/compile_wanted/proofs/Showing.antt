@@ -2,7 +2,7 @@
 use Rattle.std.proofs.Common.{◌≡◌, ℕ, zero, suc, ◌+◌, ◌<◌, ◌≤◌, Bool, false, ◌&&◌, ◌||◌, nat_le, List, [], ◌∷◌, length, take, drop, get_or, Option, refl, sym, ◌∙◌, ap, ap₂, arith, drop-cons, get_or-take}
 use Rattle.std.proofs.Math.ListN.{set}
 use Rattle.std.proofs.lemmas.List.{take-set, drop-set}
-use Rattle.compile_eager.specs.Flags.{any_within, shown_flags, reaches}
+use Rattle.compile_wanted.specs.Flags.{any_within, shown_flags, reaches}
 
 -- the flags from `left` on are those that are shown, and the least end of a wanted function there is this one
 pub record Shown (old : List Bool) (ends : List ℕ) (now : List Bool) (least : Option ℕ) (left : ℕ) : Type 0 where

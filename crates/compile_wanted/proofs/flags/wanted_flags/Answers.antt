@@ -1,9 +1,9 @@
 use Rattle.std.proofs.Common.{◌∙◌, ap, sym}
-use Rattle.compile_eager.specs.declared.merging.Wanted.{Wanted}
-use Rattle.compile_eager.specs.Flags.{wanted_flags}
-use Rattle.compile_eager.specs.Numbers.{to_show}
-use Rattle.compile_eager.proofs.ShownFlags.{all_wanted}
-use Rattle.compile_eager.proofs.merging.wanted_flags.Goals as goal
+use Rattle.compile_wanted.specs.declared.flags.Wanted.{Wanted}
+use Rattle.compile_wanted.specs.Flags.{wanted_flags}
+use Rattle.compile_wanted.specs.Numbers.{to_show}
+use Rattle.compile_wanted.proofs.ShownFlags.{all_wanted}
+use Rattle.compile_wanted.proofs.flags.wanted_flags.Goals as goal
 
 pub returns-in_ok-vec-in-All : goal.returns-in_ok-vec-in-All
 returns-in_ok-vec-in-All c =

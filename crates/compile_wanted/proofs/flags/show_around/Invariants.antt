@@ -1,5 +1,5 @@
-use Rattle.compile_eager.proofs.Showing.{Shown}
-use Rattle.compile_eager.proofs.merging.show_around.Given as goal
+use Rattle.compile_wanted.proofs.Showing.{Shown}
+use Rattle.compile_wanted.proofs.flags.show_around.Given as goal
 
 abbrev pub invariant-loop-left : goal.invariant-loop-left
 invariant-loop-left l = Shown l.initial.flags l.ends l.flags l.least l.left

@@ -7,7 +7,7 @@ use Rattle.std.proofs.lemmas.Bool.{lt-leb, le-ltb, lt-ltb}
 use Rattle.std.proofs.lemmas.List.Folds.{list_any-append}
 use Rattle.stencil_data.specs.declared.functions.Extent.{Extent}
 use Rattle.compile_specs.specs.Shown.{Wanted, All, Numbers, wants, number_of, is_within, is_shown}
-use Rattle.compile_eager.specs.Flags.{wanted_flags, any_within, shown_flags}
+use Rattle.compile_wanted.specs.Flags.{wanted_flags, any_within, shown_flags}
 use Rattle.emit_limit_laws.specs.Offsets.{OffsetsRise}
 
 -- ---- numbers

@@ -1,7 +1,7 @@
 use Rattle.std.proofs.Common.{◌-◌, Bool, ap, arith}
 use Rattle.std.proofs.Math.ListN.{set}
-use Rattle.compile_eager.proofs.Showing.{show_next}
-use Rattle.compile_eager.proofs.merging.show_around.Goals as goal
+use Rattle.compile_wanted.proofs.Showing.{show_next}
+use Rattle.compile_wanted.proofs.flags.show_around.Goals as goal
 
 pub loop-left-preserved : goal.loop-left-preserved
 loop-left-preserved c =

@@ -1,6 +1,5 @@
 -- The records of functions that were found, each at its site.
-use Rattle.std.proofs.Common.{◌≡◌, ◌∙◌, ℕ, ◌+◌, ◌<◌, ◌^◌, List, [], ◌∷◌, length, map, Option, option_map, refl, sym, ap, ap₂, subst, arith}
-use Rattle.std.proofs.lemmas.List.{length-map}
+use Rattle.std.proofs.Common.{◌≡◌, ◌∙◌, ℕ, List, [], ◌∷◌, map, Option, option_map, refl, sym, ap, ap₂, subst}
 use Rattle.script_grammar.specs.Interpretation.{Interpretation}
 use Rattle.script_grammar.specs.Shows.{ShowAll}
 use Rattle.script_grammar.specs.Tree.{Function, function, Stmts}
@@ -11,13 +10,12 @@ use Rattle.stencil_data.specs.Named.{NamedClosed, NamedRecord}
 use Rattle.stencil_data.specs.StandsFor.{text_at, named_closed, RecordStandsFor, RecordsStandFor}
 use Rattle.grammar_start_laws.specs.Own.{AllOf}
 use Rattle.parse_track.specs.declared.region.ClosedAt.{ClosedAt}
-use Rattle.parse_track.specs.ClosedNames.{Bound}
 use Rattle.parse_track.specs.Notes.{closed_names}
 use Rattle.parse_track.specs.Scopes.{bounds_of}
 use Rattle.track_renaming_laws.specs.Renaming.{renamed_bound}
 use Rattle.track_renaming_laws.specs.Texts as track
 use Rattle.scope_analysis.specs.Closed.{closed_over}
-use Rattle.scope_analysis.specs.Functions.{Inner, inner_function}
+use Rattle.scope_analysis.specs.Functions.{Inner}
 use Rattle.scope_analysis.specs.Scopes.{function_scopes}
 use Rattle.scope_closed_laws.specs.Handed as handed
 use Rattle.scope_closed_laws.specs.Sound.{IsSound}
@@ -35,7 +33,7 @@ use Rattle.compile_function.proofs.Shown.{same_closed}
 use Rattle.compile_numbers.specs.Sorted.{NamesView, AreSorted, names_in}
 use Rattle.compile_numbers.proofs.Sorting.{closed_inside}
 use Rattle.parse_function_list.specs.declared.list.FoundFunction.{FoundFunction}
-use Rattle.parse_function_list.specs.Placed.{Brief, Placed, brief_of, directly_in, placed_of}
+use Rattle.parse_function_list.specs.Placed.{Brief, brief_of, directly_in, placed_of}
 use Rattle.parse_function_list.specs.Placed as placed
 use Rattle.compile_site_laws.specs.Around.{IsPlacedAt}
 use Rattle.compile_initial.specs.Records.{start_at, record_at}

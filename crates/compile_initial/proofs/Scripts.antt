@@ -13,7 +13,6 @@ use Rattle.stencil_data.specs.LinkView.{LinkView}
 use Rattle.stencil_data.specs.Named.{NamedRecord}
 use Rattle.stencil_data.specs.StandsFor.{named_closed, FunctionStandsFor, RecordsStandFor}
 use Rattle.stencil_data.specs.Views.{FunctionView, RecordView}
-use Rattle.script_scanner.specs.Lexemes.{lexemes}
 use Rattle.grammar_start_laws.specs.Own.{AllOf, stmts_at}
 use Rattle.grammar_start_laws.specs.Started.{started_stmts}
 use Rattle.grammar_start_laws.proofs.WholeTrees.{script_is_own}
@@ -39,12 +38,11 @@ use Rattle.parser_atoms.specs.Places.{AreWithoutEquals}
 use Rattle.emit_stmts.specs.Functions.{start_of, top_script}
 use Rattle.emit_limit_laws.specs.FullNames.{FullNames}
 use Rattle.emit_limit_laws.specs.Limits.{ScriptStands}
-use Rattle.emit_limit_laws.specs.Offsets.{OffsetsRise}
 use Rattle.emit_limit_laws.proofs.Files.{file_stands}
 use Rattle.emit_limit_laws.proofs.FullScripts.{full_names}
 use Rattle.emit_limit_laws.proofs.RisingSites.{sites_rise, sites_numbered}
 use Rattle.emit_limit_laws.proofs.Scripts.{script_within}
-use Rattle.session_specs.specs.Sources.{IsRead, IsValid}
+use Rattle.session_specs.specs.Sources.{IsRead}
 use Rattle.compile_specs.specs.Counted.{HasFunctions}
 use Rattle.compile_specs.specs.Eager.{Site, compiled_at}
 use Rattle.compile_specs.specs.Shown as shown
@@ -63,7 +61,7 @@ use Rattle.compile_initial.specs.declared.Around.{Around}
 use Rattle.compile_initial.specs.declared.InitialStencil.{InitialStencil}
 use Rattle.compile_initial.specs.Initial.{AreAround, HasTextsOf, IsInitialOf}
 use Rattle.compile_initial.specs.Records.{HaveNumbers, start_at, record_at, around_at}
-use Rattle.compile_initial.proofs.Listed.{Knows, part_starts, starts_listed, records_stand}
+use Rattle.compile_initial.proofs.Listed.{part_starts, starts_listed, records_stand}
 use Rattle.compile_initial.proofs.Standing.{AllAfter, all_after, all_around}
 
 -- ---- tokens
@@ -155,7 +153,7 @@ module _ (bytes : List ℕ) (script : SyntaxScript) (is : IsSyntaxOf bytes scrip
   abbrev pub top_chains : List (List LinkView)
   top_chains = (top_script is.items (length bytes)).chains
 
-  sited : PlacedSites is.items (length bytes) is.placed.0
+  pub sited : PlacedSites is.items (length bytes) is.placed.0
   sited = placed_sites is.items (length bytes) is.placed.0 is.placed.1
 
   abbrev pub i : Interpretation

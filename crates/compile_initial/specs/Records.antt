@@ -1,5 +1,5 @@
 -- What is kept of each function that was found. This project's own choice.
-use Rattle.std.specs.Prelude.{◌≡◌, ℕ, ◌+◌, ◌^◌, ◌<◌, List, length}
+use Rattle.std.specs.Prelude.{ℕ, ◌+◌, ◌^◌, ◌<◌, List, length}
 use Rattle.stencil_data.specs.Views.{RecordView}
 use Rattle.compile_specs.specs.Shown.{numbers_of}
 use Rattle.emit_limit_laws.specs.Offsets.{OffsetsRise}

@@ -1,6 +1,6 @@
 //! A script with functions in functions, before any of them is compiled.
 
-ghost use Rattle.std.specs.Prelude.{ℕ, List, ◌≡◌, ◌≤◌, length};
+ghost use Rattle.std.specs.Prelude.{◌≤◌, length, IfOk};
 ghost use Rattle.compile_first_pass.specs.Passes.{IsSyntaxOf};
 
 use crate::{InitialStencil, initial};
@@ -9,26 +9,32 @@ use parse_early_handler::EarlyErrorHandler;
 use parse_handlers::Syntax;
 use parse_pair_handler::Both;
 use parse_track_handler::Telling;
-use std::alloc::{AllocError, Global};
+use std::alloc::Global;
 use std::test::Fail;
 use stencil_data::FuncKind;
 
 const SCRIPT: &[u8] =
     b"function f(a, b) { return () => a; } var g = function h(c) { return function () { return c + h; }; };";
 
-// What the script is before any of its functions is compiled.
-fn initial_of(alloc: Global, bytes: &[u8]) -> Result<InitialStencil, Fail>
+fn script_of(alloc: Global, bytes: &[u8]) -> Result<SyntaxScript, Fail>
     requires { length bytes.now ≤ 16777215 }
+    ensures { IfOk result (IsSyntaxOf bytes.now) }
 {
     let others = Both::new(alloc, Syntax::new(alloc), EarlyErrorHandler::new());
     let handler = Both::new(alloc, Telling::new(alloc), others);
     match first_pass(alloc, handler, bytes)? {
-        FirstPass::Script(script) => {
-            let made = initial(alloc, script, bytes.len() as u32)?;
-            Ok(made)
-        }
+        FirstPass::Script(script) => Ok(script),
         FirstPass::Refused(_) => Err(Fail::from("refused")),
     }
+}
+
+// What the script is before any of its functions is compiled.
+fn initial_of(alloc: Global, bytes: &[u8]) -> Result<InitialStencil, Fail>
+    requires { length bytes.now ≤ 16777215 }
+{
+    let script = script_of(alloc, bytes)?;
+    let made = initial(alloc, script, bytes.len() as u32)?;
+    Ok(made)
 }
 
 // The text of an atom.

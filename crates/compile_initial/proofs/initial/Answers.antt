@@ -14,8 +14,8 @@ pub returns : goal.returns
 returns c = λ bytes is size.
     let sorted = sorted_names bytes c.args.script is c.in_ok-top.top c.deref.result.now c.in_ok-closed.closed c.of_script.result.now c.deref-2.result.now c.deref-3.result.now c.deref.ensures.value c.in_ok-closed.ensures c.of_script.ensures c.deref-2.ensures.value c.deref-3.ensures.value c.in_ok-top.ensures in
     let top = compiled bytes c.args.script is c.in_ok-top.top c.deref.result.now c.in_ok-closed.closed c.of_script.result.now c.deref-2.result.now c.deref-3.result.now c.deref.ensures.value c.in_ok-closed.ensures c.of_script.ensures c.deref-2.ensures.value c.deref-3.ensures.value c.in_ok-top.ensures
-    c.in_ok-compile_script.field-stencil c.in_ok-compile_script.field-inside.items c.args.size c.in_ok-compile_script.ensures size in
-    initial_is bytes c.args.script is (record { parts = record { texts = c.args.script.file.texts.items; top = c.in_ok-compile_script.field-stencil; records = c.in_ok-records.records.items }; chains = c.in_ok-chains.chains; around = c.in_ok-around.around })
-    c.in_ok-compile_script.field-inside.items c.in_ok-closed.closed sorted refl top c.in_ok-chains.ensures
+    c.in_ok-stencil.field-0.stencil c.in_ok-stencil.field-0.inside.items c.args.size c.in_ok-stencil.ensures size in
+    initial_is bytes c.args.script is (record { parts = record { texts = c.args.script.file.texts.items; top = c.in_ok-stencil.field-0.stencil; records = c.in_ok-records.records.items }; chains = c.in_ok-chains.chains; around = c.in_ok-around.around })
+    c.in_ok-stencil.field-0.inside.items c.in_ok-closed.closed sorted refl top c.in_ok-chains.ensures
     (records_seen c.deref-4.result.now c.args.script.functions.items c.in_ok-closed.closed c.in_ok-records.records.items c.deref-4.ensures.value c.in_ok-records.ensures)
     (c.in_ok-around.ensures ∙ ap (map around_at) c.deref-5.ensures.value)

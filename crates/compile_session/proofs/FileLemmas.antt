@@ -1,37 +1,32 @@
 -- One file: what is printed is its answer.
-use Rattle.std.proofs.Common.{◌≡◌, ℕ, true, false, List, length, Option, Some, Vec, refl, sym, ◌∙◌, subst}
+use Rattle.std.proofs.Common.{◌≡◌, ℕ, true, false, List, [], ◌++◌, length, Option, Some, None, Vec, ap, refl, sym, ◌∙◌, subst, codes}
+use Rattle.std.specs.Fmt.{decimal}
 use Rattle.std.specs.declared.alloc.Global.{Global}
 use Rattle.session_outside.specs.Loops.{IsWholeBehind}
 use Rattle.session_words.specs.declared.options.Command.{Command}
 use Rattle.session_words.specs.declared.options.Command.TheVariants as command
-use Rattle.session_words.specs.Asked.{Job, Wanted}
+use Rattle.session_words.specs.Asked.{Job, Wanted, All}
 use Rattle.session_specs.specs.Answer.{IsWritten, most_bytes}
 use Rattle.session_specs.specs.Refusals.{refusal_line}
-use Rattle.session_specs.specs.Sources.{IsScript, IsRefused}
+use Rattle.session_specs.specs.Sources.{IsScript, IsRefused, IsSource, IsLeastOf, HasAll, LacksFunction, missing}
+use Rattle.compile_first_pass.specs.declared.pass.SourceFault.{SourceFault}
+use Rattle.compile_first_pass.specs.declared.pass.SourceFault.TheVariants as fault
+use Rattle.compile_first_pass.specs.declared.pass.SyntaxScript.{SyntaxScript}
+use Rattle.compile_first_pass.specs.Passes.{IsSyntaxOf}
+use Rattle.compile_first_pass.specs.Passes as pass
 use Rattle.compile_session.specs.declared.answer.FileAnswer.{FileAnswer}
 use Rattle.compile_session.specs.declared.refusal.Refusal.{Refusal}
-use Rattle.compile_session.specs.declared.source.SourceScript.{SourceScript}
+use Rattle.compile_session.specs.declared.trees.ScriptTrees.{ScriptTrees}
+use Rattle.compile_session.specs.declared.trees.SourceTrees.{SourceTrees}
+use Rattle.compile_session.specs.declared.trees.SourceTrees.TheVariants as trees
 use Rattle.compile_session.specs.declared.source.SourceText.{SourceText}
 use Rattle.compile_session.specs.declared.source.SourceText.TheVariants as source
 use Rattle.compile_session.specs.Built.{is_built, is_source}
-use Rattle.compile_session.specs.Answers.{IsAnswerFor, IsScriptOf, IsSourceText, SettlesRead, refusal_of}
+use Rattle.compile_session.specs.Answers.{IsAnswerFor, IsMissing, IsScriptOf, IsSourceText, AreTreesOf, AreSourceTrees, SettlesRead, refusal_of}
+use Rattle.compile_session.specs.Listed.{is_listed}
 use Rattle.compile_session.proofs.SourceLemmas.{answers_source, settles_within}
 
--- ---- source text
-
-pub script_is : (want : Wanted) (file : List ℕ) (o : SourceText) (script : SourceScript) → IsSourceText want file o → o ≡ source.Script script → IsScriptOf want file script
-script_is want file o script comes is = subst (λ (x : SourceText). IsSourceText want file x) is comes
-
-pub answers_script : (c : Command) (want : Wanted) (name file : List ℕ) (o : SourceText) (script : SourceScript) (text : Vec ℕ Global) → is_source c ≡ true → IsSourceText want file o → o ≡ source.Script script
-    → ((is : IsScriptOf want file script) → IsWritten c want name (length file) is.items script.functions text.items) → IsAnswerFor c want name file (record { text = text; refused = false })
-answers_script c want name file o script text built comes is written =
-    let s = script_is want file o script comes is in
-    answers_source c want name file (record { text = text; refused = false }) (IsScript s.items script.functions) built s.has (written s, refl)
-
-pub answers_refused : (c : Command) (want : Wanted) (name file : List ℕ) (o : SourceText) (why : Refusal) (answer : FileAnswer) → is_source c ≡ true → IsSourceText want file o → o ≡ source.Refused why
-    → answer.text.items ≡ refusal_line name (refusal_of why) → answer.refused ≡ true → IsAnswerFor c want name file answer
-answers_refused c want name file o why answer built comes is printed is_refused =
-    answers_source c want name file answer (IsRefused (refusal_of why)) built (subst (λ (x : SourceText). IsSourceText want file x) is comes) (printed, is_refused)
+-- ---- commands
 
 -- a command that is built takes files as source text, or is one of the two that take images
 pub is_of_source : (c : Command) → is_built c ≡ true → (c ≡ command.Load → ⊥) → (c ≡ command.Verify → ⊥) → is_source c ≡ true
@@ -41,6 +36,72 @@ is_of_source command.Check b l v = refl
 is_of_source command.Save b l v = absurd (cc)
 is_of_source command.Load b l v = absurd (l refl)
 is_of_source command.Verify b l v = absurd (v refl)
+
+-- a command that lists takes files as source text
+pub is_of_listed : (c : Command) → is_listed c ≡ true → is_source c ≡ true
+is_of_listed command.Code h = refl
+is_of_listed command.Scopes h = refl
+is_of_listed command.Check h = absurd (cc)
+is_of_listed command.Save h = absurd (cc)
+is_of_listed command.Load h = absurd (cc)
+is_of_listed command.Verify h = absurd (cc)
+
+-- a command over source text lists, unless it only checks
+pub lists : (c : Command) → is_source c ≡ true → (c ≡ command.Check → ⊥) → is_listed c ≡ true
+lists command.Code b h = refl
+lists command.Scopes b h = refl
+lists command.Check b h = absurd (h refl)
+lists command.Save b h = absurd (cc)
+lists command.Load b h = absurd (cc)
+lists command.Verify b h = absurd (cc)
+
+-- ---- source text, read without trees
+
+-- why a file is no script without errors does not depend on what is wanted of it
+pub any_want : (want : Wanted) (file : List ℕ) (fault : SourceFault) → IsSource All file (IsRefused (pass.refusal_of fault)) → IsSource want file (IsRefused (pass.refusal_of fault))
+any_want want file (fault.BadUtf8 offset) h = h
+any_want want file (fault.Unexpected offset) h = h
+any_want want file (fault.TooDeep offset) h = h
+any_want want file (fault.Early offset rule) h = h
+
+pub has_wanted : (want : Wanted) (file : List ℕ) (script : SyntaxScript) (count : ℕ) (o : Option ℕ) → IsSyntaxOf file script → count ≡ length script.functions.items → IsMissing want count o → o ≡ None → IsScriptOf want file script
+has_wanted want file script count o s counted least none = record {
+  is = s;
+  present = subst (λ (n : ℕ). missing n want ≡ []) counted (subst (λ (x : Option ℕ). IsMissing want count x) none least);
+}
+
+pub lacks_one : (want : Wanted) (file : List ℕ) (script : SyntaxScript) (count : ℕ) (o : Option ℕ) (n : ℕ) → IsSyntaxOf file script → count ≡ length script.functions.items → IsMissing want count o → o ≡ Some n → LacksFunction file want n
+lacks_one want file script count o n s counted least some = record {
+  items = s.items;
+  count = length script.functions.items;
+  valid = s.valid;
+  least = subst (λ (m : ℕ). IsLeastOf (missing m want) n) counted (subst (λ (x : Option ℕ). IsMissing want count x) some least);
+}
+
+pub answers_checked : (want : Wanted) (name file : List ℕ) (o : SourceText) (script : SyntaxScript) (functions : ℕ) (text : Vec ℕ Global) → IsSourceText want file o → o ≡ source.Script script → functions ≡ length script.functions.items
+    → text.items ≡ name ++ codes ": ok, " ++ decimal functions ++ codes " functions\n" → IsAnswerFor command.Check want name file (record { text = text; refused = false })
+answers_checked want name file o script functions text comes is counted printed =
+    let s : IsScriptOf want file script = subst (λ (x : SourceText). IsSourceText want file x) is comes in
+    let has : HasAll file want s.is.items (length script.functions.items) = record { valid = s.is.valid; present = s.present } in
+    answers_source command.Check want name file (record { text = text; refused = false }) (IsScript s.is.items (length script.functions.items)) refl has
+    (printed ∙ ap (λ (n : ℕ). name ++ codes ": ok, " ++ decimal n ++ codes " functions\n") counted, refl)
+
+-- ---- source text with its trees
+
+pub trees_are : (want : Wanted) (file : List ℕ) (o : SourceTrees) (script : ScriptTrees) → AreSourceTrees want file o → o ≡ trees.Script script → AreTreesOf want file script
+trees_are want file o script comes is = subst (λ (x : SourceTrees). AreSourceTrees want file x) is comes
+
+pub answers_listed : (c : Command) (want : Wanted) (name file : List ℕ) (o : SourceTrees) (script : ScriptTrees) (text : Vec ℕ Global) → is_listed c ≡ true → AreSourceTrees want file o → o ≡ trees.Script script
+    → ((is : AreTreesOf want file script) → IsWritten c want name (length file) is.items script.functions text.items) → IsAnswerFor c want name file (record { text = text; refused = false })
+answers_listed c want name file o script text listed comes is written =
+    let s = trees_are want file o script comes is in
+    answers_source c want name file (record { text = text; refused = false }) (IsScript s.items script.functions) (is_of_listed c listed) s.has (written s, refl)
+
+-- ---- refused source text
+
+pub answers_refused : (c : Command) (want : Wanted) (name file : List ℕ) (why : Refusal) (answer : FileAnswer) → is_source c ≡ true → IsSource want file (IsRefused (refusal_of why))
+    → answer.text.items ≡ refusal_line name (refusal_of why) → answer.refused ≡ true → IsAnswerFor c want name file answer
+answers_refused c want name file why answer built comes printed is_refused = answers_source c want name file answer (IsRefused (refusal_of why)) built comes (printed, is_refused)
 
 -- ---- a file that was read whole
 

@@ -1,7 +1,6 @@
 -- What becomes of a script whose trees were kept.
-use Rattle.std.proofs.Common.{◌≡◌, ℕ, true, List, [], ◌∷◌, ◌++◌, map, Option, Some, None, Vec, refl, ap, sym, ◌∙◌, subst, arith, reverse, codes}
+use Rattle.std.proofs.Common.{◌≡◌, ℕ, true, List, [], ◌∷◌, ◌++◌, map, Option, Some, None, Vec, ap, sym, ◌∙◌, subst, arith, reverse}
 use Rattle.std.proofs.lemmas.List.{reverse-reverse}
-use Rattle.std.specs.Fmt.{decimal}
 use Rattle.std.specs.declared.alloc.Global.{Global}
 use Rattle.script_grammar.specs.declared.tree.Stmt.{Stmt}
 use Rattle.script_grammar.specs.Braced.{in_stmts}
@@ -35,17 +34,13 @@ use Rattle.early_script_errors.specs.Told as told
 use Rattle.early_errors.proofs.Own.{top_own, bodies_own}
 use Rattle.compile_eager.specs.Compiles.{AreSeated}
 use Rattle.compile_eager.specs.Compiles as eager
-use Rattle.session_words.specs.declared.options.Command.{Command}
-use Rattle.session_words.specs.declared.options.Command.TheVariants as command
 use Rattle.session_words.specs.Asked.{Wanted}
-use Rattle.session_specs.specs.Answer.{IsWritten}
 use Rattle.compile_specs.specs.Counted.{HasFunctions}
-use Rattle.session_specs.specs.Sources.{IsValid, HasAll, missing}
+use Rattle.session_specs.specs.Sources.{IsValid, HasAll}
 use Rattle.session_specs.specs.Sources as source
-use Rattle.compile_session.specs.Built.{is_source}
-use Rattle.compile_session.specs.Listed.{is_listed}
 use Rattle.compile_session.specs.Answers.{IsKeptScript, IsMissing}
-use Rattle.compile_session.proofs.OutcomeLemmas.{of_file, knows_names, names_of_text, script_read}
+use Rattle.compile_first_pass.proofs.FileLemmas.{of_file, names_of_text, script_read}
+use Rattle.compile_session.proofs.OutcomeLemmas.{knows_names}
 
 -- ---- what was found in the script
 
@@ -75,10 +70,6 @@ found_of file script items checked top bodies sound k top_is bodies_are early fu
 
 pub early_at : (file : FileTokens) (size : ℕ) (bytes : List ℕ) (items : Stmts) (checked : Checked) (e : Early) → AreTokensOf file size bytes → IsText (tokens_in file) items → IsFound file items checked → checked.early ≡ Some e → source.ErrorAt bytes e
 early_at file size bytes items checked e t text found is = record { items = items; read = script_read file size bytes items t text; first = sym found.early ∙ is }
-
-pub none_of : {A : Type 0} (o : Option A) → ((x : A) → o ≡ Some x → ⊥) → o ≡ None
-none_of None h = refl
-none_of (Some x) h = absurd (h x refl)
 
 pub valid_of : (file : FileTokens) (size : ℕ) (bytes : List ℕ) (items : Stmts) (checked : Checked) → AreTokensOf file size bytes → IsText (tokens_in file) items → IsFound file items checked → checked.early ≡ None → IsValid bytes items checked.functions
 valid_of file size bytes items checked t text found none = record { read = script_read file size bytes items t text; faultless = sym found.early ∙ none; functions = found.functions }
@@ -135,17 +126,3 @@ compiles file size bytes items checked top closed sound t text found none seated
       closed_are = ap (λ (cs : List ClosedAt). map (renamed_bound (text_at file.texts.items)) (bounds_of cs)) closed_is ∙ found.closed;
       knows = knows_names file sound;
     }
-
--- ---- what is printed
-
--- a command over source text lists, unless it only checks
-pub lists : (c : Command) → is_source c ≡ true → (c ≡ command.Check → ⊥) → is_listed c ≡ true
-lists command.Code b h = refl
-lists command.Scopes b h = refl
-lists command.Check b h = absurd (h refl)
-lists command.Save b h = absurd (cc)
-lists command.Load b h = absurd (cc)
-lists command.Verify b h = absurd (cc)
-
-pub checked_line : (c : Command) (want : Wanted) (name : List ℕ) (size : ℕ) (items : Stmts) (count : ℕ) (out : List ℕ) → c ≡ command.Check → out ≡ name ++ codes ": ok, " ++ decimal count ++ codes " functions\n" → IsWritten c want name size items count out
-checked_line c want name size items count out is printed = subst (λ (x : Command). IsWritten x want name size items count out) (sym is) printed

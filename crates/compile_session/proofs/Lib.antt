@@ -2,7 +2,6 @@ pub mod FaultLemmas
 pub mod FileLemmas
 pub mod FilesLemmas
 pub mod ImageLemmas
-pub mod InternLemmas
 pub mod KeptLemmas
 pub mod ListingLemmas
 pub mod OrderLemmas

@@ -1,12 +1,10 @@
 -- A file of source text is one thing, and one text is written for it.
 use Rattle.std.proofs.Common.{◌≡◌, ℕ, ◌+◌, ◌<◌, ◌≤◌, inl, inr, Bool, true, List, [], ◌++◌, length, Option, Some, None, map, ap, sym, ◌∙◌, subst, arith, Contains}
-use Rattle.std.specs.Str.{IsUtf8}
 use Rattle.std.proofs.lemmas.List.Elements.{All-contains}
 use Rattle.script_grammar.specs.Fault.{Refusal as Fault, Unexpected, TooDeep}
 use Rattle.script_grammar.specs.Tree.{Stmts}
 use Rattle.stencil_data.specs.Named.{NamedFunction, NamedMerged}
 use Rattle.bytecode_buf.specs.Command.{Command}
-use Rattle.parse_bodies.specs.Whole.{IsText}
 use Rattle.parse_track.specs.declared.region.Early.{Early}
 use Rattle.parse_track.specs.Notes.{early_error, closed_names}
 use Rattle.script_scanner.specs.Lexemes.{lexemes}
@@ -22,22 +20,17 @@ use Rattle.script_image.specs.ScriptLines.{code_text, scope_text, listed_merged}
 use Rattle.session_specs.specs.Answer.{IsWritten, IsOfSource, IsOf, FromSource, file_line, to_show, most_bytes}
 use Rattle.compile_specs.specs.Counted.{HasFunctions}
 use Rattle.session_specs.specs.Refusals as line
-use Rattle.session_specs.specs.Refusals.{Refusal, refusal_line}
+use Rattle.session_specs.specs.Refusals.{refusal_line}
 use Rattle.session_specs.specs.Sources.{Source, IsScript, IsRefused, IsSource, IsRead, IsValid, HasAll, FaultAt, ErrorAt, LacksFunction, IsLeastOf, missing}
 use Rattle.compile_session.specs.declared.answer.FileAnswer.{FileAnswer}
 use Rattle.compile_session.specs.Built.{is_source}
 use Rattle.compile_session.specs.Answers.{IsAnswerFor, Settles}
 use Rattle.compile_session.specs.Faulty.{IsFaulty}
 use Rattle.parse_script.proofs.TextLemmas.{one_text}
+use Rattle.compile_first_pass.proofs.FileLemmas.{text_of}
 use Rattle.compile_session.proofs.FaultLemmas.{text_no_fault, one_offset, one_kind}
 
 -- ---- one tree
-
-pub text_of : (file : List ℕ) (items : Stmts) → IsRead file items → IsText (lexemes file) items
-text_of file items r = record { inner = r.inner; end = r.end; split = r.split; ends = r.ends; script = r.script; shallow = r.shallow }
-
-pub read_of : (file : List ℕ) (items : Stmts) → IsUtf8 file → IsText (lexemes file) items → IsRead file items
-read_of file items utf8 t = record { utf8 = utf8; inner = t.inner; end = t.end; split = t.split; ends = t.ends; script = t.script; shallow = t.shallow }
 
 one_read : (file : List ℕ) (a b : Stmts) → IsRead file a → IsRead file b → a ≡ b
 one_read file a b h k = one_text (lexemes file) a b (text_of file a h) (text_of file b k)

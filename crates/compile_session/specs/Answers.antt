@@ -16,8 +16,13 @@ use Rattle.session_specs.specs.Answer.{IsOfFile, most_bytes}
 use Rattle.session_specs.specs.Refusals as line
 use Rattle.session_specs.specs.Sources.{IsSource, IsRefused, HasAll, IsLeastOf, missing}
 use Rattle.compile_eager.specs.Compiles.{IsOf}
+use Rattle.compile_first_pass.specs.declared.pass.SyntaxScript.{SyntaxScript}
+use Rattle.compile_first_pass.specs.Passes.{IsSyntaxOf}
+use Rattle.compile_first_pass.specs.Passes as pass
 use Rattle.compile_session.specs.declared.answer.FileAnswer.{FileAnswer}
-use Rattle.compile_session.specs.declared.source.SourceScript.{SourceScript}
+use Rattle.compile_session.specs.declared.trees.ScriptTrees.{ScriptTrees}
+use Rattle.compile_session.specs.declared.trees.SourceTrees.{SourceTrees}
+use Rattle.compile_session.specs.declared.trees.SourceTrees.TheVariants as trees
 use Rattle.compile_session.specs.declared.source.SourceText.{SourceText}
 use Rattle.compile_session.specs.declared.source.SourceText.TheVariants as source
 use Rattle.compile_session.specs.declared.refusal.Refusal.{Refusal}
@@ -26,10 +31,7 @@ use Rattle.compile_session.specs.declared.refusal.Refusal.TheVariants as refusal
 -- the refusal that the code's stands for
 abbrev pub refusal_of : Refusal → line.Refusal
 refusal_of refusal.TooLong = line.TooLong
-refusal_of (refusal.BadUtf8 offset) = line.BadUtf8 offset
-refusal_of (refusal.Unexpected offset) = line.Unexpected offset
-refusal_of (refusal.TooDeep offset) = line.TooDeep offset
-refusal_of (refusal.Early offset rule) = line.Early offset rule
+refusal_of (refusal.Source fault) = pass.refusal_of fault
 refusal_of (refusal.NoFunction number) = line.NoFunction number
 refusal_of refusal.NoImage = line.NoImage
 
@@ -38,17 +40,27 @@ abbrev pub IsMissing : Wanted → ℕ → Option ℕ → Type 0
 IsMissing want count None = missing count want ≡ []
 IsMissing want count (Some number) = IsLeastOf (missing count want) number
 
--- The script that a file is has these statements, and the functions that are wanted.
-pub record IsScriptOf (want : Wanted) (file : List ℕ) (script : SourceScript) : Type 0 where
-  pub items : Stmts
-  pub has : HasAll file want items script.functions
-  pub of : IsOf script.texts.items script.top.items script.closed.items items
-  pub long : script.size ≡ length file
+-- The script that a file is, read without trees, has the functions that are wanted.
+pub record IsScriptOf (want : Wanted) (file : List ℕ) (script : SyntaxScript) : Type 0 where
+  pub is : IsSyntaxOf file script
+  pub present : missing (length script.functions.items) want ≡ []
 
 -- what a file of source text is
 abbrev pub IsSourceText : Wanted → List ℕ → SourceText → Type 0
 IsSourceText want file (source.Script script) = IsScriptOf want file script
 IsSourceText want file (source.Refused why) = IsSource want file (IsRefused (refusal_of why))
+
+-- The trees are those of the script that a file is, which has the functions that are wanted.
+pub record AreTreesOf (want : Wanted) (file : List ℕ) (script : ScriptTrees) : Type 0 where
+  pub items : Stmts
+  pub has : HasAll file want items script.functions
+  pub of : IsOf script.texts.items script.top.items script.closed.items items
+  pub long : script.size ≡ length file
+
+-- what a file of source text is, with its trees
+abbrev pub AreSourceTrees : Wanted → List ℕ → SourceTrees → Type 0
+AreSourceTrees want file (trees.Script script) = AreTreesOf want file script
+AreSourceTrees want file (trees.Refused why) = IsSource want file (IsRefused (refusal_of why))
 
 -- kept trees stand for this script of the file, and for its bodies
 pub record IsKeptScript (file : FileTokens) (script : Script (Vec Stmt Global)) (items : Stmts) : Type 0 where

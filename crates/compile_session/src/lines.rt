@@ -4,9 +4,11 @@ ghost use Rattle.std.specs.Prelude.{◌≡◌, ◌++◌, codes, IfOk};
 ghost use Rattle.std.specs.Fmt.{decimal};
 ghost use Rattle.session_specs.specs.Answer.{file_line};
 ghost use Rattle.session_specs.specs.Refusals.{at_offset, refusal_line};
+ghost use Rattle.compile_first_pass.specs.Passes as pass;
 ghost use Rattle.compile_session.specs.Answers.{refusal_of};
 
 use crate::refusal::Refusal;
+use compile_first_pass::SourceFault;
 use script_image::append_decimal;
 use std::alloc::{AllocError, Global};
 
@@ -56,21 +58,32 @@ fn line_of_place(
     Ok(out)
 }
 
+/// The line that is printed for a file that is no script without errors.
+fn fault_text(alloc: Global, name: &str, fault: SourceFault) -> Result<Vec<u8>, AllocError>
+    ensures { IfOk result (λ text. text.items ≡ refusal_line name.now (pass.refusal_of fault)) }
+{
+    match fault {
+        SourceFault::BadUtf8 { offset } => line_of_place(alloc, name, offset, b": not UTF-8\n"),
+        SourceFault::Unexpected { offset } => {
+            line_of_place(alloc, name, offset, b": unexpected\n")
+        }
+        SourceFault::TooDeep { offset } => line_of_place(alloc, name, offset, b": too deep\n"),
+        SourceFault::Early { offset, rule } => {
+            let mut out = line_of_place(alloc, name, offset, b": early error ")?;
+            append_decimal(&mut out, u64::from(rule))?;
+            out.extend_from_slice(b"\n")?;
+            Ok(out)
+        }
+    }
+}
+
 /// The line that is printed for a refused file.
 pub(crate) fn refusal_text(alloc: Global, name: &str, why: Refusal) -> Result<Vec<u8>, AllocError>
     ensures { IfOk result (λ text. text.items ≡ refusal_line name.now (refusal_of why)) }
 {
     match why {
         Refusal::TooLong => line_of_file(alloc, name, b": too long\n"),
-        Refusal::BadUtf8 { offset } => line_of_place(alloc, name, offset, b": not UTF-8\n"),
-        Refusal::Unexpected { offset } => line_of_place(alloc, name, offset, b": unexpected\n"),
-        Refusal::TooDeep { offset } => line_of_place(alloc, name, offset, b": too deep\n"),
-        Refusal::Early { offset, rule } => {
-            let mut out = line_of_place(alloc, name, offset, b": early error ")?;
-            append_decimal(&mut out, u64::from(rule))?;
-            out.extend_from_slice(b"\n")?;
-            Ok(out)
-        }
+        Refusal::Source(fault) => fault_text(alloc, name, fault),
         Refusal::NoFunction { number } => {
             let mut out = line_of_file(alloc, name, b": no function ")?;
             append_decimal(&mut out, u64::from(number))?;

@@ -9,11 +9,11 @@ ghost use Rattle.session_specs.specs.Answer as answer;
 ghost use Rattle.compile_wanted.specs.Numbers.{to_show};
 ghost use Rattle.session_words.specs.Asked as asked;
 ghost use Rattle.compile_wanted.specs.Shows.{Shows};
-ghost use Rattle.compile_session.specs.Answers.{IsMissing, IsScriptOf};
+ghost use Rattle.compile_session.specs.Answers.{IsMissing, AreTreesOf};
 ghost use Rattle.compile_session.specs.Listed.{listed_text};
 
 use crate::lines::file_text;
-use crate::source::SourceScript;
+use crate::trees::ScriptTrees;
 use compile_eager::{Wanted, compile_script, merged};
 use script_image::{code_text, scope_text};
 use session_words::{Command, Want};
@@ -85,13 +85,13 @@ fn append_text(out: &mut Vec<u8>, command: Command, shown: &MergedStencil) -> Re
 /// The stencil of a script, in which the functions that are wanted are compiled, and those around them.
 pub(crate) fn stencil_of(
     alloc: Global,
-    script: SourceScript,
+    script: ScriptTrees,
     want: &Want,
 ) -> Result<MergedStencil, AllocError>
-    requires { (wanted : asked.Wanted) × (bytes : List ℕ) × IsScriptOf wanted bytes script }
-    ensures { IfOk result (λ merged. (wanted : asked.Wanted) (bytes : List ℕ) (is : IsScriptOf wanted bytes script) → Shows (answer.to_show (asked.wanted want.now)) is.items (length bytes) merged) }
+    requires { (wanted : asked.Wanted) × (bytes : List ℕ) × AreTreesOf wanted bytes script }
+    ensures { IfOk result (λ merged. (wanted : asked.Wanted) (bytes : List ℕ) (is : AreTreesOf wanted bytes script) → Shows (answer.to_show (asked.wanted want.now)) is.items (length bytes) merged) }
 {
-    let SourceScript {
+    let ScriptTrees {
         top,
         closed,
         texts,

@@ -1,122 +1,43 @@
-//! What a file of source text is: a script without errors, or refused.
+//! What a file of source text is, read without trees: a script without errors, or refused.
 
-ghost use Rattle.std.specs.Prelude.{◌≡◌, ℕ, ◌≤◌, List, length, map, IfOk};
-ghost use Rattle.script_grammar.specs.Lexeme.{lexeme_of};
-ghost use Rattle.script_grammar.specs.Tree.{Stmts};
+ghost use Rattle.std.specs.Prelude.{ℕ, ◌≤◌, List, length, IfOk};
 ghost use Rattle.session_specs.specs.Answer.{most_bytes};
-ghost use Rattle.session_specs.specs.Sources as source;
 ghost use Rattle.session_words.specs.Asked as asked;
-ghost use Rattle.compile_session.specs.Answers.{IsKeptScript, IsSourceText};
-ghost use Rattle.parse_script.specs.Tokens.{AreTokensOf, IsSound};
+ghost use Rattle.compile_first_pass.specs.Passes.{IsSyntaxOf};
+ghost use Rattle.compile_session.specs.Answers.{IsSourceText};
 
 use crate::listing::missing_of;
 use crate::refusal::Refusal;
-use early_errors::check_script;
-use parse_attach_bodies::seat::seat_script;
-use parse_bodies::whole::Script;
-use parse_exprs::place::ParseFault;
-use parse_handlers::Full;
-use parse_script::{FileTokens, read_script, tokens_of};
-use parse_track::region::ClosedAt;
-use script_grammar::token::Token;
-use script_grammar::tree::Stmt;
+use compile_first_pass::{FirstPass, SyntaxScript, first_pass};
+use parse_early_handler::EarlyErrorHandler;
+use parse_handlers::Syntax;
+use parse_pair_handler::Both;
+use parse_track_handler::Telling;
 use session_words::Want;
 use std::alloc::{AllocError, Global};
-use stencil_data::Text;
-use unit_text::DecodeFault;
 
-/// A script without errors.
-#[derive(Drop)]
-pub struct SourceScript {
-    /// Its statements, with the bodies of all functions in their places.
-    pub top: Vec<Stmt>,
-    /// The names that inner functions close over.
-    pub closed: Vec<ClosedAt>,
-    /// The texts that atoms index.
-    pub texts: Vec<Text>,
-    /// How many functions it has, at all depths.
-    pub functions: usize,
-    /// How long its text is, in bytes.
-    pub size: u32,
-}
-
-/// What a file of source text is: a script, of which all functions that are wanted are there, or why it is refused.
+/// What a file of source text is: a script without errors, of which all functions that are wanted are there, or why it is
+/// refused.
 #[derive(Drop)]
 pub enum SourceText {
-    Script(SourceScript),
+    Script(SyntaxScript),
     Refused(Refusal),
 }
 
-/// The offset where the token of this number starts.
-fn start_of(tokens: &[Token], token: u32) -> u32
-    ensures { (get : ℕ) (set : ℕ) (texts : List (List ℕ)) → result ≡ source.start_of (map (lexeme_of get set texts) tokens.now) token }
-{
-    match tokens.get(token as usize) {
-        None => 0,
-        Some(token) => token.start,
-    }
+/// The handlers of a first pass: for what a script tells of its names, for its functions, and for its early errors of the rules
+/// that look at no region.
+fn first_handlers(alloc: Global) -> Both<Telling, Both<Syntax, EarlyErrorHandler>> {
+    let others = Both::new(alloc, Syntax::new(alloc), EarlyErrorHandler::new());
+    Both::new(alloc, Telling::new(alloc), others)
 }
 
-/// What the script is that has these trees and is so many bytes long.
-fn kept_source(
-    alloc: Global,
-    want: &Want,
-    size: u32,
-    script: Script<Vec<Stmt>>,
-    file: FileTokens,
-) -> Result<SourceText, AllocError>
-    requires sound { IsSound file }
-    requires tokens { (bytes : List ℕ) × AreTokensOf file size bytes }
-    requires kept { (items : Stmts) × IsKeptScript file script items }
-    ensures { IfOk result (λ text. (bytes : List ℕ) → AreTokensOf file size bytes → IsSourceText (asked.wanted want.now) bytes text) }
+/// What a script without errors is, where these functions are wanted.
+fn script_text(want: &Want, script: SyntaxScript) -> SourceText
+    ensures { (bytes : List ℕ) → IsSyntaxOf bytes script → IsSourceText (asked.wanted want.now) bytes result }
 {
-    let Script {
-        mut top,
-        mut bodies,
-    } = script;
-    let checked = check_script(alloc, file.known, &top, &bodies)?;
-    if let Some(early) = checked.early {
-        return Ok(SourceText::Refused(Refusal::Early {
-            offset: early.offset,
-            rule: early.rule,
-        }));
-    }
-    if let Some(number) = missing_of(want, checked.functions) {
-        return Ok(SourceText::Refused(Refusal::NoFunction { number }));
-    }
-    bodies.reverse();
-    seat_script(&mut top, &mut bodies);
-    Ok(SourceText::Script(SourceScript {
-        top,
-        closed: checked.closed,
-        texts: file.texts,
-        functions: checked.functions,
-        size,
-    }))
-}
-
-/// What a file with these tokens is, which is so many bytes long.
-fn script_source(
-    alloc: Global,
-    want: &Want,
-    size: u32,
-    file: FileTokens,
-) -> Result<SourceText, AllocError>
-    requires sound { IsSound file }
-    requires tokens { (bytes : List ℕ) × AreTokensOf file size bytes }
-    ensures { IfOk result (λ text. (bytes : List ℕ) → AreTokensOf file size bytes → IsSourceText (asked.wanted want.now) bytes text) }
-{
-    match read_script(alloc, &file, Full::new(alloc)) {
-        Ok(script) => Ok(kept_source(alloc, want, size, script, file)?),
-        Err(ParseFault::Unexpected { token }) => {
-            let offset = start_of(&file.tokens, token);
-            Ok(SourceText::Refused(Refusal::Unexpected { offset }))
-        }
-        Err(ParseFault::TooDeep { token }) => {
-            let offset = start_of(&file.tokens, token);
-            Ok(SourceText::Refused(Refusal::TooDeep { offset }))
-        }
-        Err(ParseFault::NoMemory) => Err(AllocError),
+    match missing_of(want, script.functions.len()) {
+        None => SourceText::Script(script),
+        Some(number) => SourceText::Refused(Refusal::NoFunction { number }),
     }
 }
 
@@ -129,11 +50,9 @@ pub(crate) fn read_source(
     requires short { length bytes.now ≤ most_bytes }
     ensures { IfOk result (IsSourceText (asked.wanted want.now) bytes.now) }
 {
-    match tokens_of(alloc, bytes) {
-        Ok(file) => Ok(script_source(alloc, want, bytes.len() as u32, file)?),
-        Err(DecodeFault::BadUtf8 { offset }) => {
-            Ok(SourceText::Refused(Refusal::BadUtf8 { offset }))
-        }
-        Err(DecodeFault::NoMemory) => Err(AllocError),
+    let pass = first_pass(alloc, first_handlers(alloc), bytes)?;
+    match pass {
+        FirstPass::Script(script) => Ok(script_text(want, script)),
+        FirstPass::Refused(fault) => Ok(SourceText::Refused(Refusal::Source(fault))),
     }
 }

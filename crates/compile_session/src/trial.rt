@@ -7,12 +7,12 @@ ghost use Rattle.session_specs.specs.Answer as answer;
 ghost use Rattle.session_specs.specs.Answer.{most_bytes};
 ghost use Rattle.session_specs.specs.Sources.{HasAll};
 ghost use Rattle.session_words.specs.Asked as asked;
-ghost use Rattle.compile_session.specs.Answers.{IsScriptOf};
+ghost use Rattle.compile_session.specs.Answers.{AreTreesOf};
 ghost use Rattle.compile_session.specs.Files.{SettlesWork};
 
 use crate::answer::FileAnswer;
 use crate::listing::stencil_of;
-use crate::source::{SourceScript, SourceText, read_source};
+use crate::trees::{ScriptTrees, SourceTrees, read_trees};
 use script_image::{append_decimal, instructions};
 use session_trial::generated_text;
 use session_words::Want;
@@ -74,15 +74,15 @@ fn trial_line(
 }
 
 /// The script that a text is, where it is one.
-fn script_in(alloc: Global, bytes: &[u8]) -> Result<SourceScript, AllocError>
+fn script_in(alloc: Global, bytes: &[u8]) -> Result<ScriptTrees, AllocError>
     requires short { length bytes.now ≤ most_bytes }
     requires script { (items : Stmts) × (count : ℕ) × HasAll bytes.now asked.All items count }
-    ensures { IfOk result (IsScriptOf asked.All bytes.now) }
+    ensures { IfOk result (AreTreesOf asked.All bytes.now) }
 {
-    let source = read_source(alloc, &Want::All, bytes)?;
-    match source {
-        SourceText::Script(script) => Ok(script),
-        SourceText::Refused(_) => unreachable!(),
+    let trees = read_trees(alloc, &Want::All, bytes)?;
+    match trees {
+        SourceTrees::Script(script) => Ok(script),
+        SourceTrees::Refused(_) => unreachable!(),
     }
 }
 

@@ -4,8 +4,10 @@ use Rattle.parse_handlers.specs.Kept.{IsBody}
 use Rattle.parse_script.specs.Reading.{under}
 use Rattle.parse_script.specs.Tokens.{tokens_in}
 use Rattle.parse_script.proofs.ReadLemmas.{read_unexpected, read_too_deep}
-use Rattle.compile_session.proofs.OutcomeLemmas.{starts_same, fault_of, kept_script}
-use Rattle.compile_session.proofs.source.script_source.Goals as goal
+use Rattle.compile_first_pass.proofs.FileLemmas.{fault_of}
+use Rattle.compile_first_pass.proofs.TokenStarts.{starts_same}
+use Rattle.compile_session.proofs.OutcomeLemmas.{kept_script}
+use Rattle.compile_session.proofs.trees.script_source.Goals as goal
 
 pub kept_source-requires-clause-kept : goal.kept_source-requires-clause-kept
 kept_source-requires-clause-kept c = kept_script c.args.file c.in-Ok.script c.in-Ok.ensures

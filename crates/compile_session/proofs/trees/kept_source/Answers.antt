@@ -4,8 +4,9 @@ use Rattle.compile_eager.specs.Compiles.{AreSeated}
 use Rattle.std.proofs.lemmas.List.{with_items_is}
 use Rattle.script_grammar.specs.Tree.{Stmts}
 use Rattle.session_words.specs.Asked as asked
-use Rattle.compile_session.proofs.KeptLemmas.{IsFound, found_of, early_at, none_of, missing_at, has_all, seated_script, compiles}
-use Rattle.compile_session.proofs.source.kept_source.Goals as goal
+use Rattle.compile_first_pass.proofs.PassLemmas.{none_of}
+use Rattle.compile_session.proofs.KeptLemmas.{IsFound, found_of, early_at, missing_at, has_all, seated_script, compiles}
+use Rattle.compile_session.proofs.trees.kept_source.Goals as goal
 
 pub returns-in-Some : goal.returns-in-Some
 returns-in-Some c = λ bytes t.

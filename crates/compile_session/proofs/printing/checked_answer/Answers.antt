@@ -1,0 +1,18 @@
+use Rattle.std.proofs.Common.{arith, refl, subst}
+use Rattle.session_words.specs.declared.options.Command.TheVariants as command
+use Rattle.session_words.specs.Asked as asked
+use Rattle.compile_session.specs.declared.source.SourceText.{SourceText}
+use Rattle.compile_session.specs.Answers.{IsSourceText}
+use Rattle.compile_session.proofs.FileLemmas.{answers_checked, answers_refused}
+use Rattle.compile_session.proofs.printing.checked_answer.Goals as goal
+
+pub returns-in_ok-text-in-Script : goal.returns-in_ok-text-in-Script
+returns-in_ok-text-in-Script c =
+    answers_checked (asked.wanted c.args.want.now) c.args.name.now c.args.bytes.now c.in_ok-source.source c.in-Script.script c.len-functions.result _ c.in_ok-source.ensures c.in-Script.is
+    (let e = c.len-functions.ensures in let o = c.in-Script.script.functions.ok.0 in omega (arith, e, o)) c.in_ok-text-in-Script.ensures
+
+pub returns-in_ok-answer-in-Refused : goal.returns-in_ok-answer-in-Refused
+returns-in_ok-answer-in-Refused c =
+    let want = asked.wanted c.args.want.now in
+    answers_refused command.Check want c.args.name.now c.args.bytes.now c.in-Refused.why c.in_ok-answer-in-Refused.answer refl
+    (subst (λ (x : SourceText). IsSourceText want c.args.bytes.now x) c.in-Refused.is c.in_ok-source.ensures) c.in_ok-answer-in-Refused.ensures.text c.in_ok-answer-in-Refused.ensures.refused

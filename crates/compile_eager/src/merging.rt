@@ -122,7 +122,8 @@ pub fn merged(
     texts: Vec<Text>,
     wanted: Wanted<'_>,
 ) -> Result<MergedStencil, AllocError>
-    ensures { IfOk result (λ merged. (items : Stmts) (end : ℕ) → IsCompiled texts.items items end script → Shows (to_show wanted.entry) items end merged) }
+    ensures shows { IfOk result (λ merged. (items : Stmts) (end : ℕ) → IsCompiled texts.items items end script → Shows (to_show wanted.entry) items end merged) }
+    ensures texts { IfOk result (λ merged. merged.texts ≡ texts.items) }
 {
     let Script { mut top, functions } = script;
     let starts = starts_of(alloc, &functions)?;

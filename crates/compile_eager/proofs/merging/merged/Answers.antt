@@ -7,8 +7,8 @@ use Rattle.compile_eager.specs.ShownAs.{HaveNumbers, IsNumbered, AreShownAs}
 use Rattle.compile_eager.proofs.Entries.{shows}
 use Rattle.compile_eager.proofs.merging.merged.Goals as goal
 
-pub returns : goal.returns
-returns c = λ items end compiled.
+pub returns-clause-shows : goal.returns-clause-shows
+returns-clause-shows c = λ items end compiled.
     shows (to_show c.args.wanted) items end c.args.script c.args.texts.items c.in_ok-starts.starts.items c.in_ok-flags.flags.items c.number.new.stencil c.in_ok-records.records.items c.in_ok-records.entries.items compiled
     (c.in_ok-starts.ensures ∙ ap (map (λ (f : Compiled). f.stencil.extent.start)) c.deref.ensures.value)
     (c.in_ok-flags.ensures

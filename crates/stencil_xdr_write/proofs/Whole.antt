@@ -16,7 +16,7 @@ use Rattle.script_image.specs.Listed.{listed_script, listed_entry, listed_stenci
 use Rattle.stencil_xdr_read.specs.Reading.{Each}
 use Rattle.stencil_xdr_read.proofs.Anew.{all_each}
 use Rattle.stencil_xdr_read.proofs.Items.{WholeEntry}
-use Rattle.stencil_xdr_laws.specs.Bytes.{IsOfBytes}
+use Rattle.stencil_xdr_laws.specs.Bytes.{IsOfBytes, EntryOfBytes, CodesOfBytes}
 use Rattle.stencil_xdr_laws.specs.Pieces.{pieces, image_of}
 use Rattle.stencil_xdr_laws.proofs.HeldCode.{are_bytes, instructions_held}
 use Rattle.stencil_xdr_laws.proofs.Pieces.{image_of_pieces}
@@ -80,3 +80,12 @@ entry_fits (entry.Compiled f) h = h.fits
 
 pub entries_fit : (es : List Entry) → All EntryHolds es → All EntryFits es
 entries_fit es h = λ k d more. entry_fits _ (h k d more)
+
+-- ---- bytes
+
+entry_of_bytes : (e : Entry) → EntryHolds e → EntryOfBytes e
+entry_of_bytes entry.Lazy h = tt
+entry_of_bytes (entry.Compiled f) h = h.bytes
+
+pub codes_of_bytes : (m : MergedView) → PartsFit m → CodesOfBytes m
+codes_of_bytes m parts = record { top = parts.top.bytes; entries = λ k d more. entry_of_bytes _ (parts.entries k d more) }

@@ -1,19 +1,26 @@
 -- What is written is the image.
-use Rattle.std.proofs.Common.{◌≡◌, ℕ, suc, ◌+◌, ◌-◌, ◌/◌, ◌%◌, ◌<◌, ◌≤◌, List, [], ◌∷◌, ◌++◌, length, flat_map, Option, Some, refl, sym, ◌∙◌, ap, ap₂, subst, slice_get, append_assoc, append-nil, arith}
+use Rattle.std.proofs.Common.{◌≡◌, ℕ, suc, ◌+◌, ◌-◌, ◌/◌, ◌%◌, ◌^◌, ◌<◌, ◌≤◌, List, [], ◌∷◌, ◌++◌, length, flat_map, Option, Some, refl, sym, ◌∙◌, ap, ap₂, subst, slice_get, append_assoc, append-nil, arith}
 use Rattle.std.specs.Prelude.{All, IfOk, Result, Ok, Err}
 use Rattle.std.proofs.lemmas.Grind.{flat_map-append}
 use Rattle.stencil_data.specs.MergedView.{MergedView}
-use Rattle.stencil_data.specs.StandsFor.{text_at}
+use Rattle.stencil_data.specs.StandsFor.{text_at, MergedStandsFor}
 use Rattle.bytecode_buf.specs.Bytes.{le_bytes}
-use Rattle.bytecode_buf.specs.InRange.{InRange}
+use Rattle.stencil_data.specs.Named.{NamedMerged}
+use Rattle.bytecode_buf.specs.Command.{Command, ShowsCommands}
+use Rattle.bytecode_buf.specs.InRange.{InRange, TextsSmall}
 use Rattle.parser_atoms.specs.Places.{AreWithoutEquals}
 use Rattle.stencil_xdr_specs.specs.Image.{Item, Bytes, Atom, list, named, firsts, place_in, item_bytes, text_bytes, magic, IsImageOf}
-use Rattle.stencil_xdr_specs.specs.Widths.{TextFits}
+use Rattle.stencil_xdr_specs.specs.Widths.{TextFits, NumbersFit}
 use Rattle.script_image.specs.Listed.{listed_stencil}
+use Rattle.script_image.specs.ScriptLines.{listed_merged}
+use Rattle.script_image.proofs.Stands.{stencil_is, commands_as_listed}
+use Rattle.session_image_specs.specs.Images.{IsImage}
 use Rattle.stencil_xdr_read.specs.Reading.{Each}
 use Rattle.stencil_xdr_read.proofs.Firsts.{firsts_without_equals}
 use Rattle.stencil_xdr_read.proofs.Items.{flat_both}
 use Rattle.stencil_xdr_laws.specs.Pieces.{image_of}
+use Rattle.stencil_xdr_laws.specs.Sizes.{MergedSmall}
+use Rattle.stencil_xdr_laws.proofs.HasImage.{small_value_has_image}
 use Rattle.stencil_xdr_laws.proofs.OneImage.{image_as_listed}
 use Rattle.stencil_xdr_write.specs.Named.{NumberingView, HasNumber, AreRight, IsNumbered, NumbersMore}
 use Rattle.stencil_xdr_write.specs.Numbers.{unit_items, text_items, PartsFit, place_of, number_or, number_at, numbered_bytes, bytes_with}
@@ -21,7 +28,7 @@ use Rattle.stencil_xdr_write.specs.Whole.{stencil_items}
 use Rattle.stencil_xdr_write.specs.Writes.{WriterView, Writes, writes_both}
 use Rattle.stencil_xdr_write.proofs.MoreFirsts.{place_at}
 use Rattle.stencil_xdr_write.proofs.Naming.{placed_text}
-use Rattle.stencil_xdr_write.proofs.Whole.{items_whole, image_whole, entries_fit}
+use Rattle.stencil_xdr_write.proofs.Whole.{items_whole, image_whole, entries_fit, codes_of_bytes}
 
 -- ---- numbers, byte by byte
 
@@ -94,13 +101,23 @@ is_listed m bytes start end parts none more is =
     apart : AreWithoutEquals end.atoms
     apart = subst AreWithoutEquals (sym n.firsts) (firsts_without_equals (named m.texts (stencil_items m)))
 
+numbers_fit : (m : MergedView) → All TextFits m.texts → PartsFit m → NumbersFit m
+numbers_fit m texts parts = record { texts = texts; top = parts.top.fits; records = parts.records; entries = entries_fit m.entries parts.entries }
+
 -- for a stencil in range they are its image
 pub is_image : (m : MergedView) (bytes : List ℕ) → InRange m → All TextFits m.texts → PartsFit m → bytes ≡ image_of (listed_stencil m) → IsImageOf m bytes
 is_image m bytes range texts parts is = record {
   range = range;
-  widths = record { texts = texts; top = parts.top.fits; records = parts.records; entries = entries_fit m.entries parts.entries };
+  widths = numbers_fit m texts parts;
   is = is ∙ sym (image_as_listed m range);
 }
+
+-- for a stencil of small texts that stands for a small script they are the image of the script
+pub is_script_image : (m : MergedView) (bytes : List ℕ) → length m.texts < 2 ^ 32 - 1 → All TextFits m.texts → PartsFit m → bytes ≡ image_of (listed_stencil m) → TextsSmall m.texts
+    → (named : NamedMerged (List Command)) → MergedStandsFor ShowsCommands m named → MergedSmall named → IsImage named bytes
+is_script_image m bytes few texts parts is short named stands small =
+    subst (IsImage named) (sym (is ∙ ap image_of (stencil_is m (listed_merged named) (commands_as_listed m named stands))))
+    (small_value_has_image m named stands (codes_of_bytes m parts) small (omega (arith, few)) short (numbers_fit m texts parts))
 
 -- from what a last call answers to what is answered in all
 pub if_ok_then : {T E : Type 0} {P Q : T → Type 0} (r : Result T E) → IfOk r P → ((x : T) → P x → Q x) → IfOk r Q

@@ -4,7 +4,7 @@ use Rattle.stencil_data.specs.MergedView.{MergedView}
 use Rattle.stencil_xdr_specs.specs.Widths.{TextFits}
 use Rattle.stencil_xdr_write.specs.Named.{IsNumbered}
 use Rattle.stencil_xdr_write.specs.Numbers.{bytes_with}
-use Rattle.stencil_xdr_write.proofs.Written.{if_ok_then, is_listed, is_image}
+use Rattle.stencil_xdr_write.proofs.Written.{if_ok_then, is_listed, is_image, is_script_image}
 use Rattle.stencil_xdr_write.proofs.image.numbered_image.Goals as goal
 
 pub returns-clause-listed : goal.returns-clause-listed
@@ -21,3 +21,9 @@ returns-clause-image c =
     let same : c.deref.result.now ≡ c.args.merged.now.texts = c.deref.ensures.value ∙ ap (λ (m : MergedView). m.texts) c.merged.view_is in
     if_ok_then c.write_by.result (returns-clause-listed c) (λ bytes is range.
     is_image c.args.merged.now bytes.items range (subst (All TextFits) same c.in_ok-numbering.ensures.fit) c.in_ok-hand_stencil.ensures.fit is)
+
+pub returns-clause-script : goal.returns-clause-script
+returns-clause-script c =
+    let same : c.deref.result.now ≡ c.args.merged.now.texts = c.deref.ensures.value ∙ ap (λ (m : MergedView). m.texts) c.merged.view_is in
+    if_ok_then c.write_by.result (returns-clause-listed c) (λ bytes is.
+    is_script_image c.args.merged.now bytes.items c.requires.few (subst (All TextFits) same c.in_ok-numbering.ensures.fit) c.in_ok-hand_stencil.ensures.fit is)

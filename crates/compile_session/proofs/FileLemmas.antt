@@ -33,7 +33,7 @@ pub is_of_source : (c : Command) → is_built c ≡ true → (c ≡ command.Load
 is_of_source command.Code b l v = refl
 is_of_source command.Scopes b l v = refl
 is_of_source command.Check b l v = refl
-is_of_source command.Save b l v = absurd (cc)
+is_of_source command.Save b l v = refl
 is_of_source command.Load b l v = absurd (l refl)
 is_of_source command.Verify b l v = absurd (v refl)
 
@@ -46,14 +46,14 @@ is_of_listed command.Save h = absurd (cc)
 is_of_listed command.Load h = absurd (cc)
 is_of_listed command.Verify h = absurd (cc)
 
--- a command over source text lists, unless it only checks
-pub lists : (c : Command) → is_source c ≡ true → (c ≡ command.Check → ⊥) → is_listed c ≡ true
-lists command.Code b h = refl
-lists command.Scopes b h = refl
-lists command.Check b h = absurd (h refl)
-lists command.Save b h = absurd (cc)
-lists command.Load b h = absurd (cc)
-lists command.Verify b h = absurd (cc)
+-- a command over source text lists, unless it only checks or saves
+pub lists : (c : Command) → is_source c ≡ true → (c ≡ command.Check → ⊥) → (c ≡ command.Save → ⊥) → is_listed c ≡ true
+lists command.Code b h s = refl
+lists command.Scopes b h s = refl
+lists command.Check b h s = absurd (h refl)
+lists command.Save b h s = absurd (s refl)
+lists command.Load b h s = absurd (cc)
+lists command.Verify b h s = absurd (cc)
 
 -- ---- source text, read without trees
 
@@ -91,11 +91,11 @@ answers_checked want name file o script functions text comes is counted printed 
 pub trees_are : (want : Wanted) (file : List ℕ) (o : SourceTrees) (script : ScriptTrees) → AreSourceTrees want file o → o ≡ trees.Script script → AreTreesOf want file script
 trees_are want file o script comes is = subst (λ (x : SourceTrees). AreSourceTrees want file x) is comes
 
-pub answers_listed : (c : Command) (want : Wanted) (name file : List ℕ) (o : SourceTrees) (script : ScriptTrees) (text : Vec ℕ Global) → is_listed c ≡ true → AreSourceTrees want file o → o ≡ trees.Script script
+pub answers_trees : (c : Command) (want : Wanted) (name file : List ℕ) (o : SourceTrees) (script : ScriptTrees) (text : Vec ℕ Global) → is_source c ≡ true → AreSourceTrees want file o → o ≡ trees.Script script
     → ((is : AreTreesOf want file script) → IsWritten c want name (length file) is.items script.functions text.items) → IsAnswerFor c want name file (record { text = text; refused = false })
-answers_listed c want name file o script text listed comes is written =
+answers_trees c want name file o script text built comes is written =
     let s = trees_are want file o script comes is in
-    answers_source c want name file (record { text = text; refused = false }) (IsScript s.items script.functions) (is_of_listed c listed) s.has (written s, refl)
+    answers_source c want name file (record { text = text; refused = false }) (IsScript s.items script.functions) built s.has (written s, refl)
 
 -- ---- refused source text
 

@@ -7,6 +7,7 @@ pub mod ListingLemmas
 pub mod OrderLemmas
 pub mod OutcomeLemmas
 pub mod RunLemmas
+pub mod SavingLemmas
 pub mod SourceLemmas
 pub mod TrialLemmas
 pub mod WordLaws

@@ -17,6 +17,8 @@ use Rattle.compile_specs.specs.Shown as show
 use Rattle.compile_specs.proofs.Counts.{one_count}
 use Rattle.compile_specs.proofs.Sites.{one_functions}
 use Rattle.script_image.specs.ScriptLines.{code_text, scope_text, listed_merged}
+use Rattle.session_image_specs.specs.Images.{IsImage}
+use Rattle.stencil_xdr_laws.proofs.OneImage.{one_script_one_image}
 use Rattle.session_specs.specs.Answer.{IsWritten, IsOfSource, IsOf, FromSource, file_line, to_show, most_bytes}
 use Rattle.compile_specs.specs.Counted.{HasFunctions}
 use Rattle.session_specs.specs.Refusals as line
@@ -153,7 +155,8 @@ one_written word.Code want name size items count x y built h k =
 one_written word.Scopes want name size items count x y built h k =
     h.2 ∙ ap (λ (m : NamedMerged (List Command)). file_line name ++ scope_text (listed_merged m)) (one_shown (to_show want) items size h.0 k.0 h.1 k.1) ∙ sym k.2
 one_written word.Check want name size items count x y built h k = h ∙ sym k
-one_written word.Save want name size items count x y built h k = absurd (let e = built in cc)
+one_written word.Save want name size items count x y built h k =
+    one_script_one_image k.0 x y (subst (λ (m : NamedMerged (List Command)). IsImage m x) (one_shown (to_show want) items size h.0 k.0 h.1 k.1) h.2) k.2
 one_written word.Load want name size items count x y built h k = absurd h
 one_written word.Verify want name size items count x y built h k = absurd h
 

@@ -1,8 +1,9 @@
 -- What the calls for one file answer.
-use Rattle.std.specs.Prelude.{◌≡◌, ℕ, Bool, List, [], length, Option, Some, None, Vec}
+use Rattle.std.specs.Prelude.{◌≡◌, ℕ, ◌^◌, ◌<◌, Bool, List, [], length, Option, Some, None, Vec}
 use Rattle.std.specs.declared.alloc.Global.{Global}
 use Rattle.script_grammar.specs.declared.tree.Stmt.{Stmt}
 use Rattle.script_grammar.specs.Tree.{Stmts}
+use Rattle.bytecode_buf.specs.InRange.{TextsSmall}
 use Rattle.session_outside.specs.Loops.{IsWholeBehind}
 use Rattle.parse_bodies.specs.declared.whole.Script.{Script}
 use Rattle.parse_bodies.specs.Whole.{IsText}
@@ -50,12 +51,15 @@ abbrev pub IsSourceText : Wanted → List ℕ → SourceText → Type 0
 IsSourceText want file (source.Script script) = IsScriptOf want file script
 IsSourceText want file (source.Refused why) = IsSource want file (IsRefused (refusal_of why))
 
--- The trees are those of the script that a file is, which has the functions that are wanted.
+-- The trees are those of the script that a file is, which has the functions that are wanted. Its texts are small, and fewer than
+-- 2^31.
 pub record AreTreesOf (want : Wanted) (file : List ℕ) (script : ScriptTrees) : Type 0 where
   pub items : Stmts
   pub has : HasAll file want items script.functions
   pub of : IsOf script.texts.items script.top.items script.closed.items items
   pub long : script.size ≡ length file
+  pub small : TextsSmall script.texts.items
+  pub few : length script.texts.items < 2 ^ 31
 
 -- what a file of source text is, with its trees
 abbrev pub AreSourceTrees : Wanted → List ℕ → SourceTrees → Type 0

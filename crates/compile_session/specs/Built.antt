@@ -1,4 +1,4 @@
--- Which commands are built so far: all but `save` and `churn`, with any options. What words ask for is session_words' `asked_of`.
+-- Which commands are built so far: all but `churn`, with any options. What words ask for is session_words' `asked_of`.
 use Rattle.std.specs.Prelude.{◌≡◌, ℕ, Bool, true, false, if◌then◌else◌, List, [], Option, Some, None, Result, Ok, Err}
 use Rattle.session_words.specs.declared.options.Command.{Command}
 use Rattle.session_words.specs.declared.options.Command.TheVariants as command
@@ -12,7 +12,7 @@ abbrev pub is_built : Command → Bool
 is_built command.Code = true
 is_built command.Scopes = true
 is_built command.Check = true
-is_built command.Save = false
+is_built command.Save = true
 is_built command.Load = true
 is_built command.Verify = true
 
@@ -21,7 +21,7 @@ abbrev pub is_source : Command → Bool
 is_source command.Code = true
 is_source command.Scopes = true
 is_source command.Check = true
-is_source command.Save = false
+is_source command.Save = true
 is_source command.Load = false
 is_source command.Verify = false
 

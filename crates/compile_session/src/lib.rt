@@ -9,8 +9,8 @@
 //! which prints it, and on `stencil_xdr_write`, which writes its image; those over images on `session_images`, and that over
 //! generated texts on `session_trial`. Its answer is that of the definitions of `session_specs`. Only the program stands on it.
 //!
-//! `work` says what words ask for. `source` and `printing` are the steps of the way of one file of source text, with `trees` and
-//! `listing` where it is listed, `image` is that of an image, `file_order`, `workers` and `files` those of all files of a
+//! `work` says what words ask for. `source` and `printing` are the steps of the way of one file of source text, with `trees`,
+//! `listing` and `saving` where it is listed or saved, `image` is that of an image, `file_order`, `workers` and `files` those of all files of a
 //! command, and `trial` that of a generated text, each with the definition that it meets in specs/.
 //!
 //! The main contract is that of `run`: where all was done, the sink has taken the bytes of the definition's answer to the words
@@ -27,6 +27,7 @@ mod lines;
 mod listing;
 mod printing;
 mod refusal;
+mod saving;
 mod source;
 mod status;
 mod trees;

@@ -89,7 +89,8 @@ pub(crate) fn stencil_of(
     want: &Want,
 ) -> Result<MergedStencil, AllocError>
     requires { (wanted : asked.Wanted) × (bytes : List ℕ) × AreTreesOf wanted bytes script }
-    ensures { IfOk result (λ merged. (wanted : asked.Wanted) (bytes : List ℕ) (is : AreTreesOf wanted bytes script) → Shows (answer.to_show (asked.wanted want.now)) is.items (length bytes) merged) }
+    ensures shows { IfOk result (λ merged. (wanted : asked.Wanted) (bytes : List ℕ) (is : AreTreesOf wanted bytes script) → Shows (answer.to_show (asked.wanted want.now)) is.items (length bytes) merged) }
+    ensures texts { IfOk result (λ merged. merged.texts ≡ script.texts.items) }
 {
     let ScriptTrees {
         top,

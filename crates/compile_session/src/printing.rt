@@ -11,6 +11,7 @@ ghost use Rattle.compile_session.specs.Listed.{is_listed};
 use crate::answer::{FileAnswer, refused};
 use crate::lines::fine_text;
 use crate::listing::{listing_of, stencil_of};
+use crate::saving::saved_answer;
 use crate::source::{SourceText, read_source};
 use crate::trees::{ScriptTrees, SourceTrees, read_trees};
 use session_words::{Command, FileJob, Want};
@@ -100,6 +101,10 @@ pub(crate) fn source_answer(
     match job.command {
         Command::Check => {
             let answer = checked_answer(alloc, &job.want, name, bytes)?;
+            Ok(answer)
+        }
+        Command::Save => {
+            let answer = saved_answer(alloc, &job.want, name, bytes)?;
             Ok(answer)
         }
         _ => {

@@ -23,9 +23,8 @@ fn is_built(command: Command) -> bool
     ensures { result ≡ definition.is_built command }
 {
     match command {
-        Command::Code | Command::Scopes | Command::Check => true,
+        Command::Code | Command::Scopes | Command::Check | Command::Save => true,
         Command::Load | Command::Verify => true,
-        Command::Save => false,
     }
 }
 

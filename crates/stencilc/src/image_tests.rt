@@ -6,7 +6,7 @@ use compile_session::Status;
 use std::test::Fail;
 
 /// The image of the empty script.
-const EMPTY: [u8; 62] = [
+pub(crate) const EMPTY: [u8; 62] = [
     0x53, 0x54, 0x4E, 0x31, 0, 0, 0, 0, 0, 0, 0, 0, 0, 0, 0, 0, 0, 0, 0, 0, 0, 0, 1, 0, 0, 0, 0, 0,
     0, 0, 0, 0, 0, 0, 0, 0, 6, 0, 0, 0, 0, 0, 0, 0, 0x6F, 0, 0, 0, 0, 0x64, 0, 0, 0, 0, 0, 0, 0, 0,
     0, 0, 0, 0,

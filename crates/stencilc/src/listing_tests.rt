@@ -11,7 +11,7 @@ use std::test::Fail;
 use std::thread::Threads;
 
 /// The words of a command.
-fn words_of(alloc: Global, words: &[&str]) -> Result<Vec<String>, AllocError> {
+pub(crate) fn words_of(alloc: Global, words: &[&str]) -> Result<Vec<String>, AllocError> {
     let mut out = Vec::new(alloc);
     for word in words {
         out.push(String::from_str(alloc, word)?)?;
@@ -305,7 +305,7 @@ fn opens_no_file_behind_a_long_one(rt: HostRuntime) -> Result<(), Fail> {
 fn knows_no_other_command(rt: HostRuntime) -> Result<(), Fail> {
     let alloc = rt.alloc();
     let files = file(alloc, "a.js", SUM)?;
-    let (status, nothing) = prints(&rt, alloc, &["save", "a.js"], files, b"")?;
+    let (status, nothing) = prints(&rt, alloc, &["churn", "1", "2"], files, b"")?;
     assert!(rt; status == Status::BadWords);
     assert!(rt; nothing);
     Ok(())

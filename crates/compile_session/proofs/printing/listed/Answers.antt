@@ -11,4 +11,4 @@ pub returns : goal.returns
 returns c = λ bytes is.
     let want = asked.wanted c.args.job.now.want in
     written c.args.job.now.command want c.args.name.now (length bytes) is.items c.args.script.functions c.in_ok-shown.shown (file_line c.args.name.now) c.in_ok-text.text.items
-    c.requires.listed refl c.in_ok-text.ensures (c.in_ok-shown.ensures want bytes is)
+    c.requires.listed refl c.in_ok-text.ensures (c.in_ok-shown.ensures.shows want bytes is)

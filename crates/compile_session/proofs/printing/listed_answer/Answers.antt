@@ -2,7 +2,7 @@ use Rattle.std.proofs.Common.{subst}
 use Rattle.session_words.specs.Asked as asked
 use Rattle.compile_session.specs.declared.trees.SourceTrees.{SourceTrees}
 use Rattle.compile_session.specs.Answers.{AreSourceTrees}
-use Rattle.compile_session.proofs.FileLemmas.{answers_listed, answers_refused, is_of_listed, trees_are}
+use Rattle.compile_session.proofs.FileLemmas.{answers_trees, answers_refused, is_of_listed, trees_are}
 use Rattle.compile_session.proofs.printing.listed_answer.Goals as goal
 
 pub listed-requires-clause-script : goal.listed-requires-clause-script
@@ -10,7 +10,7 @@ listed-requires-clause-script c = (c.args.bytes.now, trees_are (asked.wanted c.a
 
 pub returns-in_ok-text-in-Script : goal.returns-in_ok-text-in-Script
 returns-in_ok-text-in-Script c =
-    answers_listed c.args.job.now.command (asked.wanted c.args.job.now.want) c.args.name.now c.args.bytes.now c.in_ok-trees.trees c.in-Script.script _ c.requires.listed c.in_ok-trees.ensures c.in-Script.is (c.in_ok-text-in-Script.ensures c.args.bytes.now)
+    answers_trees c.args.job.now.command (asked.wanted c.args.job.now.want) c.args.name.now c.args.bytes.now c.in_ok-trees.trees c.in-Script.script _ (is_of_listed c.args.job.now.command c.requires.listed) c.in_ok-trees.ensures c.in-Script.is (c.in_ok-text-in-Script.ensures c.args.bytes.now)
 
 pub returns-in_ok-answer-in-Refused : goal.returns-in_ok-answer-in-Refused
 returns-in_ok-answer-in-Refused c =

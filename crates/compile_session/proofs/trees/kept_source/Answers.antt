@@ -39,4 +39,6 @@ returns c = λ bytes t.
       has = has_all c.args.file c.args.size bytes items checked (asked.wanted c.args.want.now) c.missing_of.result t k.text found early c.missing_of.ensures (none_of c.missing_of.result c.in_default-missing_of.not-Some);
       of = compiles c.args.file c.args.size bytes items checked _ checked.closed.items c.requires.sound t k.text found early placed refl;
       long = t.long;
+      small = c.requires.sound.small;
+      few = c.requires.sound.few;
     }

@@ -21,5 +21,5 @@ returns c = λ workers held.
     let functions = c.in_ok-script.script.functions in
     let count = c.instructions-count.result in
     trial_settles c.args.number c.args.size workers held c.in_ok-line.line.items c.deref.result.now is.items functions count c.in_ok-shown.shown (c.deref.ensures.value ∙ c.in_ok-text.ensures) is.has
-    (c.in_ok-shown.ensures asked.All c.deref.result.now is) c.instructions-count.ensures
+    (c.in_ok-shown.ensures.shows asked.All c.deref.result.now is) c.instructions-count.ensures
     (c.in_ok-line.ensures ∙ ap (λ (n : ℕ). trial_text c.args.number c.args.size n functions count) ((let e = c.len.ensures in let o = c.in_ok-text.text.ok.0 in omega (arith, e, o)) ∙ ap length (sym c.deref.ensures.value)))

@@ -1,6 +1,8 @@
 pub mod Compiled
 pub mod Crowded
+pub mod ExtentTexts
 pub mod OwnTexts
 pub mod Reading
 pub mod Records
+pub mod TokenValues
 pub mod WrittenForms

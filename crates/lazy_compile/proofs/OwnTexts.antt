@@ -57,7 +57,7 @@ stands_right : (xs ys : List (List ℕ)) (t : List ℕ) → StandsIn ys t → St
 stands_right [] ys t h = h
 stands_right (x ∷ xs) ys t h = let r = stands_right xs ys t h in (suc r.0, r.1)
 
-either_at : (xs ys : List (List ℕ)) (t : List ℕ) (k : ℕ) → slice_get (xs ++ ys) k ≡ Some t → StandsIn xs t ⊎ StandsIn ys t
+pub either_at : (xs ys : List (List ℕ)) (t : List ℕ) (k : ℕ) → slice_get (xs ++ ys) k ≡ Some t → StandsIn xs t ⊎ StandsIn ys t
 either_at [] ys t k h = inr (k, h)
 either_at (x ∷ xs) ys t zero h = inl (0, h)
 either_at (x ∷ xs) ys t (suc k) h = elim (either_at xs ys t k h) [ inl a ↦ inl (suc a.0, a.1) | inr b ↦ inr b ]

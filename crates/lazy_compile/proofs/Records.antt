@@ -53,7 +53,7 @@ reader_start (function _ start _ _ _ _ _ _) = refl
 reader_end : (f : Function) → alone.end_of f ≡ (extent_of f).end
 reader_end (function _ _ end _ _ _ _ _) = refl
 
-is_in : (items : Stmts) (f : Inner) → IsFunctionOf items f → IsFunctionIn items f
+pub is_in : (items : Stmts) (f : Inner) → IsFunctionOf items f → IsFunctionIn items f
 is_in items f (site.directly f' c) = directly f' c
 is_in items f (site.inside around f' o c) = inside around f' (is_in items around o) c
 

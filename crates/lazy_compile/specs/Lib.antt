@@ -2,3 +2,4 @@ pub mod Alone
 pub mod Delazified
 pub mod Forms
 pub mod OwnTexts
+pub mod Texts

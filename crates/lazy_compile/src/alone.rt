@@ -6,6 +6,7 @@ ghost use Rattle.stencil_data.specs.LinkView.{LinkView};
 ghost use Rattle.compile_specs.specs.Eager.{Site};
 ghost use Rattle.lazy_compile.specs.Alone.{IsReadAlone};
 ghost use Rattle.lazy_compile.specs.Delazified.{CanBeDelazified};
+ghost use Rattle.lazy_compile.specs.Texts.{AreTextsOf};
 
 use crate::forms::form_of;
 use crate::own_texts::{own_closed, own_name};
@@ -33,7 +34,8 @@ pub(crate) fn read_alone(
     texts: &[Text],
 ) -> Result<FunctionAlone, AllocError>
     requires { (chain : List LinkView) × (items : Stmts) × (m : Site) × CanBeDelazified file.now lazy.now texts.now chain items m }
-    ensures { IfOk result (λ alone. (chain : List LinkView) (items : Stmts) (m : Site) → CanBeDelazified file.now lazy.now texts.now chain items m → IsReadAlone alone items m) }
+    ensures read { IfOk result (λ alone. (chain : List LinkView) (items : Stmts) (m : Site) → CanBeDelazified file.now lazy.now texts.now chain items m → IsReadAlone alone items m) }
+    ensures texts { IfOk result (λ alone. AreTextsOf file.now texts.now alone.texts.items) }
 {
     let mut atoms = Atoms::new(alloc);
     let known = known_words(alloc, &mut atoms)?;

@@ -15,6 +15,7 @@ ghost use Rattle.std.specs.Prelude.{IfOk};
 ghost use Rattle.script_grammar.specs.Tree.{Stmts};
 ghost use Rattle.compile_specs.specs.Eager.{Site};
 ghost use Rattle.lazy_compile.specs.Delazified.{CanBeDelazified, IsCompiledAlone};
+ghost use Rattle.lazy_compile.specs.Texts.{AreTextsOf};
 
 mod alone;
 mod chains;
@@ -49,7 +50,8 @@ pub fn delazify(
     chain: &Chain,
 ) -> Result<Delazified, AllocError>
     requires { (items : Stmts) × (m : Site) × CanBeDelazified file.now lazy.now texts.now chain.now items m }
-    ensures { IfOk result (λ made. (items : Stmts) (m : Site) → CanBeDelazified file.now lazy.now texts.now chain.now items m → IsCompiledAlone made m) }
+    ensures compiled { IfOk result (λ made. (items : Stmts) (m : Site) → CanBeDelazified file.now lazy.now texts.now chain.now items m → IsCompiledAlone made m) }
+    ensures texts { IfOk result (λ made. AreTextsOf file.now texts.now made.texts.items) }
 {
     let FunctionAlone {
         func,

@@ -12,7 +12,8 @@ use Rattle.bytecode_buf.specs.InRange.{TextsSmall}
 use Rattle.parse_track.specs.declared.region.ClosedAt.{ClosedAt}
 use Rattle.compile_specs.specs.Shown.{Wanted}
 use Rattle.emit_limit_laws.specs.Limits.{ScriptStands}
-use Rattle.compile_eager.specs.Compiles.{IsOf, Shows}
+use Rattle.compile_eager.specs.Compiles.{IsOf}
+use Rattle.compile_wanted.specs.Shows.{Shows}
 use Rattle.stencil_xdr_laws.specs.Sizes.{MergedSmall}
 use Rattle.session_image_specs.specs.Images.{IsImage}
 use Rattle.compile_range_laws.proofs.Scripts.{is_shown_small}

@@ -2,5 +2,6 @@ pub mod Filled
 pub mod HollowPrint
 pub mod HollowProper
 pub mod Hollowing
+pub mod SkippedText
 pub mod Skipping
 pub mod Standing

@@ -1,3 +1,4 @@
 pub mod Holes
 pub mod Hollow
 pub mod Skipped
+pub mod SkippedText

@@ -1,0 +1,6 @@
+pub mod BehindBlanks
+pub mod BehindParts
+pub mod BehindTokens
+pub mod Blanking
+pub mod Braces
+pub mod Readings

@@ -2,6 +2,6 @@ pub mod Filled
 pub mod HollowPrint
 pub mod HollowProper
 pub mod Hollowing
-pub mod SkippedText
+pub mod OneHead
 pub mod Skipping
 pub mod Standing

@@ -1,4 +1,3 @@
 pub mod Holes
 pub mod Hollow
 pub mod Skipped
-pub mod SkippedText

@@ -5,5 +5,6 @@
 //! `skipped` (`proofs/Skipping.antt`): where tokens are a function, those that are left without what stands between the
 //! braces of some functions directly in it are the same function with these bodies empty (`specs/Skipped.antt`), and none of them
 //! is deeper. With any other bodies in their places the two trees are one (`same_inside` of `proofs/Filled.antt`), so a parser
-//! that passes bodies over answers the same on both.
+//! that passes bodies over answers the same on both. Where a function's head ends in front of a brace is told by the tokens
+//! alone (`one_head` of `proofs/OneHead.antt`).
 #![tactic(auto)]

@@ -88,10 +88,11 @@ digits_numeral : (radix before room : ℕ) (is_decimal : Bool) → is_digit 0x7B
 digits_numeral radix before room is_decimal out c xs ds es fits_in =
     let front = digits_front radix out xs ds es in
     let n = more_digits radix (xs ++ 0x7B ∷ ds) in
-    let le : 1 + n ≤ suc (length xs) = let h = front.1 in omega (arith, h) in
-    (ap (λ m. literal radix before is_decimal m (take (1 + m) (c ∷ (xs ++ 0x7B ∷ es)))) front.0
-    ∙ ap (literal radix before is_decimal n) (take-append-le (1 + n) (c ∷ xs) (0x7B ∷ es) le ∙ sym (take-append-le (1 + n) (c ∷ xs) (0x7B ∷ ds) le)),
-    let h = front.1 in omega (arith, h, fits_in))
+    let le : 1 + n ≤ suc (length xs) = let h = front.1 in omega (arith, h) in (
+      ap (λ m. literal radix before is_decimal m (take (1 + m) (c ∷ (xs ++ 0x7B ∷ es)))) front.0
+          ∙ ap (literal radix before is_decimal n) (take-append-le (1 + n) (c ∷ xs) (0x7B ∷ es) le ∙ sym (take-append-le (1 + n) (c ∷ xs) (0x7B ∷ ds) le)),
+      let h = front.1 in omega (arith, h, fits_in),
+    )
 
 either_numeral : (room : ℕ) (b : Bool) (m n m_there n_there : Numeral) → NumeralFront room m m_there → NumeralFront room n n_there → NumeralFront room (cond b m n) (cond b m_there n_there)
 either_numeral room true m n m_there n_there h k = h
@@ -152,15 +153,175 @@ same_find p q [] h = refl
 same_find p q (m ∷ ms) h = ap (λ b. cond b (Some m) (find p ms)) h.0 ∙ ap (λ o. cond (q m) (Some m) o) (same_find p q ms h.1)
 
 single_marks : (c : ℕ) (ds es : List ℕ) → SameMarks (fits (c ∷ 0x7B ∷ es)) (fits (c ∷ 0x7B ∷ ds)) marks
-single_marks c ds es =
-    (refl, (refl, (refl, (refl, (refl, (refl, (refl, (refl,
-    (refl, (refl, (refl, (refl, (refl, (refl, (refl, (refl,
-    (refl, (refl, (refl, (refl, (refl, (refl, (refl, (refl,
-    (refl, (refl, (refl, (refl, (refl, (refl, (refl, (refl,
-    (question (c == 0x3F), (refl, (refl, (refl, (refl, (refl, (refl, (refl,
-    (refl, (refl, (refl, (refl, (refl, (refl, (refl, (refl,
-    (refl, (refl, (refl, (refl, (refl, (refl, (refl, (refl,
-    (refl, tt)))))))))))))))))))))))))))))))))))))))))))))))))))))))))
+single_marks c ds es = (
+  refl,
+  (
+    refl,
+    (
+      refl,
+      (
+        refl,
+        (
+          refl,
+          (
+            refl,
+            (
+              refl,
+              (
+                refl,
+                (
+                  refl,
+                  (
+                    refl,
+                    (
+                      refl,
+                      (
+                        refl,
+                        (
+                          refl,
+                          (
+                            refl,
+                            (
+                              refl,
+                              (
+                                refl,
+                                (
+                                  refl,
+                                  (
+                                    refl,
+                                    (
+                                      refl,
+                                      (
+                                        refl,
+                                        (
+                                          refl,
+                                          (
+                                            refl,
+                                            (
+                                              refl,
+                                              (
+                                                refl,
+                                                (
+                                                  refl,
+                                                  (
+                                                    refl,
+                                                    (
+                                                      refl,
+                                                      (
+                                                        refl,
+                                                        (
+                                                          refl,
+                                                          (
+                                                            refl,
+                                                            (
+                                                              refl,
+                                                              (
+                                                                refl,
+                                                                (
+                                                                  question (c == 0x3F),
+                                                                  (
+                                                                    refl,
+                                                                    (
+                                                                      refl,
+                                                                      (
+                                                                        refl,
+                                                                        (
+                                                                          refl,
+                                                                          (
+                                                                            refl,
+                                                                            (
+                                                                              refl,
+                                                                              (
+                                                                                refl,
+                                                                                (
+                                                                                  refl,
+                                                                                  (
+                                                                                    refl,
+                                                                                    (
+                                                                                      refl,
+                                                                                      (
+                                                                                        refl,
+                                                                                        (
+                                                                                          refl,
+                                                                                          (
+                                                                                            refl,
+                                                                                            (
+                                                                                              refl,
+                                                                                              (
+                                                                                                refl,
+                                                                                                (
+                                                                                                  refl,
+                                                                                                  (
+                                                                                                    refl,
+                                                                                                    (
+                                                                                                      refl,
+                                                                                                      (
+                                                                                                        refl,
+                                                                                                        (
+                                                                                                          refl,
+                                                                                                          (
+                                                                                                            refl,
+                                                                                                            (
+                                                                                                              refl,
+                                                                                                              (
+                                                                                                                refl,
+                                                                                                                (refl, tt),
+                                                                                                              ),
+                                                                                                            ),
+                                                                                                          ),
+                                                                                                        ),
+                                                                                                      ),
+                                                                                                    ),
+                                                                                                  ),
+                                                                                                ),
+                                                                                              ),
+                                                                                            ),
+                                                                                          ),
+                                                                                        ),
+                                                                                      ),
+                                                                                    ),
+                                                                                  ),
+                                                                                ),
+                                                                              ),
+                                                                            ),
+                                                                          ),
+                                                                        ),
+                                                                      ),
+                                                                    ),
+                                                                  ),
+                                                                ),
+                                                              ),
+                                                            ),
+                                                          ),
+                                                        ),
+                                                      ),
+                                                    ),
+                                                  ),
+                                                ),
+                                              ),
+                                            ),
+                                          ),
+                                        ),
+                                      ),
+                                    ),
+                                  ),
+                                ),
+                              ),
+                            ),
+                          ),
+                        ),
+                      ),
+                    ),
+                  ),
+                ),
+              ),
+            ),
+          ),
+        ),
+      ),
+    ),
+  ),
+)
   where
     question : (b : Bool) → ((b && false) && not (begins_with_digit es)) ≡ ((b && false) && not (begins_with_digit ds))
     question true = refl

@@ -133,13 +133,13 @@ reads_blank to from end braces ps ts r = by (nat_lt from end)
 
 -- ---- a token, and what is read behind it
 
-record AtToken (to : ℕ) (braces : List Brace) (after : Bool) (ps : List Point) (t : Lexed) (ts : List Lexed) : Type 0 where
-  piece : Piece
-  is : token_at (in_substitution braces) (codes_of ps) ≡ Some piece
-  first : lexed_at to after ps piece ≡ t
-  behind : Reads to (braces_after braces piece.kind) false (drop piece.length ps) ts
+pub record AtToken (to : ℕ) (braces : List Brace) (after : Bool) (ps : List Point) (t : Lexed) (ts : List Lexed) : Type 0 where
+  pub piece : Piece
+  pub is : token_at (in_substitution braces) (codes_of ps) ≡ Some piece
+  pub first : lexed_at to after ps piece ≡ t
+  pub behind : Reads to (braces_after braces piece.kind) false (drop piece.length ps) ts
 
-at_token : (to : ℕ) (braces : List Brace) (after : Bool) (ps : List Point) (t u : Lexed) (ts us : List Lexed) → blank_at (codes_of ps) ≡ None → Reads to braces after ps (t ∷ (ts ++ u ∷ us)) → AtToken to braces after ps t (ts ++ u ∷ us)
+pub at_token : (to : ℕ) (braces : List Brace) (after : Bool) (ps : List Point) (t u : Lexed) (ts us : List Lexed) → blank_at (codes_of ps) ≡ None → Reads to braces after ps (t ∷ (ts ++ u ∷ us)) → AtToken to braces after ps t (ts ++ u ∷ us)
 at_token to braces after ps t u ts us bare r = by (token_at (in_substitution braces) (codes_of ps)) refl
   where
     by : (o : Option Piece) → token_at (in_substitution braces) (codes_of ps) ≡ o → AtToken to braces after ps t (ts ++ u ∷ us)
@@ -169,7 +169,7 @@ record Bound (to : ℕ) (braces : List Brace) (after : Bool) (ps : List Point) (
   reads : Reads to now false behind (at_front closer ∷ rest)
   swaps : (es : List Point) (rs : List Lexed) → place to es ≡ opener.end → Reads to now false es rs → Reads to braces after (before ++ es) (front ++ opener ∷ rs)
 
-codes_one : (here : List Point) (cs : List ℕ) → codes_of here ≡ 0x7B ∷ cs → (o : Point) × (ds : List Point) × (here ≡ o ∷ ds) × (o.code ≡ 0x7B)
+pub codes_one : (here : List Point) (cs : List ℕ) → codes_of here ≡ 0x7B ∷ cs → (o : Point) × (ds : List Point) × (here ≡ o ∷ ds) × (o.code ≡ 0x7B)
 codes_one [] cs e = absurd (cc)
 codes_one (o ∷ ds) cs e = (o, ds, refl, cc)
 
@@ -229,7 +229,7 @@ module _ (to : ℕ) (braces : List Brace) (after : Bool) (ps : List Point) (fron
       swaps : (es : List Point) (rs : List Lexed) → place to es ≡ opener.end → Reads to inner false es rs → Reads to braces after ((w.before ++ o ∷ []) ++ es) (front ++ opener ∷ rs)
       swaps es rs there k =
           subst (λ (xs : List Point). Reads to braces after xs (front ++ opener ∷ rs)) (sym (append_assoc w.before (o ∷ []) es))
-          (w.swaps o ds es (opener ∷ rs) code is
+          (w.swaps to o ds es (opener ∷ rs) code is
           (reads_after to stack w.said (o ∷ es) brace_piece (ap (λ c. blank_at (c ∷ codes_of es)) code) (ap (λ c. token_at (in_substitution stack) (c ∷ codes_of es)) code ∙ brace_token (in_substitution stack) (codes_of es))
           ∙ ap (λ n. record { kind = kind.Mark mark.OPEN_BRACE; value = brace_piece.value; start = o.start; end = n; after_line = w.said } ∷ tokens_within (suc (length es)) to inner false es) (there ∙ sym ends)
           ∙ ap (λ (x : Lexed). x ∷ tokens_within (suc (length es)) to inner false es) lexed

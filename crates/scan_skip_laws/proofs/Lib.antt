@@ -3,4 +3,5 @@ pub mod BehindParts
 pub mod BehindTokens
 pub mod Blanking
 pub mod Braces
+pub mod Growing
 pub mod Readings

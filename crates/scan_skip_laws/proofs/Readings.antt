@@ -118,7 +118,7 @@ pub record Walked (to : ℕ) (braces : List Brace) (after : Bool) (ps : List Poi
   pub said : Bool
   pub bare : blank_at (codes_of here) ≡ None
   pub reads : Reads to (open_after braces (kinds_of us)) said here (t ∷ ts)
-  pub swaps : (o : Point) (ds es : List Point) (rs : List Lexed) → o.code ≡ 0x7B → here ≡ o ∷ ds → Reads to (open_after braces (kinds_of us)) said (o ∷ es) rs → Reads to braces after (before ++ o ∷ es) (us ++ rs)
+  pub swaps : (end : ℕ) (o : Point) (ds es : List Point) (rs : List Lexed) → o.code ≡ 0x7B → here ≡ o ∷ ds → Reads end (open_after braces (kinds_of us)) said (o ∷ es) rs → Reads end braces after (before ++ o ∷ es) (us ++ rs)
 
 -- points of which a step takes the first
 record Taken (n : ℕ) (ps before here : List Point) : Type 0 where
@@ -139,9 +139,9 @@ taken n ps before here le split =
 codes_around : (front : List Point) (o : Point) (es : List Point) → o.code ≡ 0x7B → codes_of (front ++ o ∷ es) ≡ codes_of front ++ 0x7B ∷ codes_of es
 codes_around front o es e = map-append code_of front (o ∷ es) ∙ ap (λ c. codes_of front ++ c ∷ codes_of es) e
 
-same_place : (to : ℕ) (front : List Point) (o : Point) (ds es : List Point) → place to (front ++ o ∷ ds) ≡ place to (front ++ o ∷ es)
-same_place to [] o ds es = refl
-same_place to (p ∷ front) o ds es = refl
+same_place : (to end : ℕ) (front : List Point) (o : Point) (ds es : List Point) → place end (front ++ o ∷ ds) ≡ place to (front ++ o ∷ es)
+same_place to end [] o ds es = refl
+same_place to end (p ∷ front) o ds es = refl
 
 walked_blank : (to : ℕ) (braces : List Brace) (after : Bool) (ps : List Point) (us : List Lexed) (t : Lexed) (ts : List Lexed) (b : Blank) → blank_at (codes_of ps) ≡ Some b
     → Walked to braces (after || b.breaks) (drop b.length ps) us t ts → Walked to braces after ps us t ts
@@ -161,14 +161,14 @@ walked_blank to braces after ps us t ts b e w = record {
     k : Taken b.length ps w.before w.here
     k = taken b.length ps w.before w.here within.1 w.split
 
-    swaps : (o : Point) (ds es : List Point) (rs : List Lexed) → o.code ≡ 0x7B → w.here ≡ o ∷ ds → Reads to (open_after braces (kinds_of us)) w.said (o ∷ es) rs → Reads to braces after ((take b.length ps ++ w.before) ++ o ∷ es) (us ++ rs)
-    swaps o ds es rs brace is r =
+    swaps : (end : ℕ) (o : Point) (ds es : List Point) (rs : List Lexed) → o.code ≡ 0x7B → w.here ≡ o ∷ ds → Reads end (open_after braces (kinds_of us)) w.said (o ∷ es) rs → Reads end braces after ((take b.length ps ++ w.before) ++ o ∷ es) (us ++ rs)
+    swaps end o ds es rs brace is r =
         let front = take b.length ps ++ w.before in
         let size : length (codes_of front) ≡ length front = length-map front code_of in
         let here : blank_at (codes_of front ++ 0x7B ∷ codes_of ds) ≡ Some b = ap blank_at (sym (codes_around front o ds brace) ∙ ap (λ (xs : List Point). codes_of (front ++ xs)) (sym is) ∙ ap codes_of (sym k.split)) ∙ e in
         let there : blank_at (codes_of (front ++ o ∷ es)) ≡ Some b = ap blank_at (codes_around front o es brace) ∙ blank_front (codes_of front) (codes_of ds) (codes_of es) b within.0 here (let s = k.size in omega (arith, size, s)) in
-        reads_before_blank to braces after (front ++ o ∷ es) b (us ++ rs) there
-        (subst (λ (xs : List Point). Reads to braces (after || b.breaks) xs (us ++ rs)) (sym (k.behind (o ∷ es))) (w.swaps o ds es rs brace is r))
+        reads_before_blank end braces after (front ++ o ∷ es) b (us ++ rs) there
+        (subst (λ (xs : List Point). Reads end braces (after || b.breaks) xs (us ++ rs)) (sym (k.behind (o ∷ es))) (w.swaps end o ds es rs brace is r))
 
 walked_token : (to : ℕ) (braces : List Brace) (after : Bool) (ps : List Point) (u : Lexed) (us : List Lexed) (t : Lexed) (ts : List Lexed) (p : Piece) → blank_at (codes_of ps) ≡ None → token_at (in_substitution braces) (codes_of ps) ≡ Some p
     → lexed_at to after ps p ≡ u → Walked to (braces_after braces p.kind) false (drop p.length ps) us t ts → Walked to braces after ps (u ∷ us) t ts
@@ -191,26 +191,26 @@ walked_token to braces after ps u us t ts p bare is first w = record {
     k : Taken p.length ps w.before w.here
     k = taken p.length ps w.before w.here within.1 w.split
 
-    swaps : (o : Point) (ds es : List Point) (rs : List Lexed) → o.code ≡ 0x7B → w.here ≡ o ∷ ds → Reads to (open_after (braces_after braces u.kind) (kinds_of us)) w.said (o ∷ es) rs
-        → Reads to braces after ((take p.length ps ++ w.before) ++ o ∷ es) (u ∷ (us ++ rs))
-    swaps o ds es rs brace here r =
+    swaps : (end : ℕ) (o : Point) (ds es : List Point) (rs : List Lexed) → o.code ≡ 0x7B → w.here ≡ o ∷ ds → Reads end (open_after (braces_after braces u.kind) (kinds_of us)) w.said (o ∷ es) rs
+        → Reads end braces after ((take p.length ps ++ w.before) ++ o ∷ es) (u ∷ (us ++ rs))
+    swaps end o ds es rs brace here r =
         let front = take p.length ps ++ w.before in
         let size : length (codes_of front) ≡ length front = length-map front code_of in
         let codes_are : codes_of front ++ 0x7B ∷ codes_of ds ≡ codes_of ps = sym (codes_around front o ds brace) ∙ ap (λ (xs : List Point). codes_of (front ++ xs)) (sym here) ∙ ap codes_of (sym k.split) in
         let is_here : token_at (in_substitution braces) (codes_of front ++ 0x7B ∷ codes_of ds) ≡ Some p = ap (token_at (in_substitution braces)) codes_are ∙ is in
         let is_there : token_at (in_substitution braces) (codes_of (front ++ o ∷ es)) ≡ Some p = ap (token_at (in_substitution braces)) (codes_around front o es brace) ∙ token_front (in_substitution braces) (codes_of front) (codes_of ds) (codes_of es) p within.0 is_here (let s = k.size in omega (arith, size, s)) in
         let bare_there : blank_at (codes_of (front ++ o ∷ es)) ≡ None = ap blank_at (codes_around front o es brace) ∙ bare_front (codes_of front) (codes_of ds) (codes_of es) (token_no_star (in_substitution braces) _ p is_here) (ap blank_at codes_are ∙ bare) in
-        let starts : place to (front ++ o ∷ es) ≡ place to ps = same_place to front o es ds ∙ ap (λ (xs : List Point). place to (front ++ xs)) (sym here) ∙ ap (place to) (sym k.split) in
-        let ends : place to (drop p.length (front ++ o ∷ es)) ≡ place to (drop p.length ps) =
-        ap (place to) (k.behind (o ∷ es)) ∙ same_place to w.before o es ds ∙ ap (λ (xs : List Point). place to (w.before ++ xs)) (sym here) ∙ ap (place to) (sym w.split) in
-        let behind : List Lexed = tokens_within (suc (length (drop p.length (front ++ o ∷ es)))) to (braces_after braces p.kind) false (drop p.length (front ++ o ∷ es)) in
-        reads_after to braces after (front ++ o ∷ es) p bare_there is_there
-        ∙ ap (λ n. record { kind = p.kind; value = p.value; start = n; end = place to (drop p.length (front ++ o ∷ es)); after_line = after } ∷ behind) starts
+        let starts : place end (front ++ o ∷ es) ≡ place to ps = same_place to end front o es ds ∙ ap (λ (xs : List Point). place to (front ++ xs)) (sym here) ∙ ap (place to) (sym k.split) in
+        let ends : place end (drop p.length (front ++ o ∷ es)) ≡ place to (drop p.length ps) =
+        ap (place end) (k.behind (o ∷ es)) ∙ same_place to end w.before o es ds ∙ ap (λ (xs : List Point). place to (w.before ++ xs)) (sym here) ∙ ap (place to) (sym w.split) in
+        let behind : List Lexed = tokens_within (suc (length (drop p.length (front ++ o ∷ es)))) end (braces_after braces p.kind) false (drop p.length (front ++ o ∷ es)) in
+        reads_after end braces after (front ++ o ∷ es) p bare_there is_there
+        ∙ ap (λ n. record { kind = p.kind; value = p.value; start = n; end = place end (drop p.length (front ++ o ∷ es)); after_line = after } ∷ behind) starts
         ∙ ap (λ n. record { kind = p.kind; value = p.value; start = place to ps; end = n; after_line = after } ∷ behind) ends
         ∙ ap (λ (x : Lexed). x ∷ behind) first
         ∙ ap (λ (xs : List Lexed). u ∷ xs)
-        (subst (λ (xs : List Point). Reads to (braces_after braces p.kind) false xs (us ++ rs)) (sym (k.behind (o ∷ es)))
-        (w.swaps o ds es rs brace here (subst (λ j. Reads to (open_after (braces_after braces j) (kinds_of us)) w.said (o ∷ es) rs) (sym kind_is) r)))
+        (subst (λ (xs : List Point). Reads end (braces_after braces p.kind) false xs (us ++ rs)) (sym (k.behind (o ∷ es)))
+        (w.swaps end o ds es rs brace here (subst (λ j. Reads end (open_after (braces_after braces j) (kinds_of us)) w.said (o ∷ es) rs) (sym kind_is) r)))
 
 not_one : {A : Type 0} (x y z : A) (xs zs : List A) → x ∷ [] ≡ y ∷ (xs ++ z ∷ zs) → ⊥
 not_one x y z xs zs e =
@@ -229,7 +229,7 @@ walk_next : (n to : ℕ) → Walks n to → Walks (suc n) to
 walk_next n to walks braces after ps us t ts lt r = by (blank_at (codes_of ps)) refl
   where
     at_token : (xs : List Lexed) (o : Option Piece) → Reads to braces after ps (xs ++ t ∷ ts) → blank_at (codes_of ps) ≡ None → token_at (in_substitution braces) (codes_of ps) ≡ o → Walked to braces after ps xs t ts
-    at_token [] o g f h = record { before = []; here = ps; split = refl; said = after; bare = f; reads = g; swaps = λ p ds es rs brace is q. q }
+    at_token [] o g f h = record { before = []; here = ps; split = refl; said = after; bare = f; reads = g; swaps = λ end p ds es rs brace is q. q }
     at_token (x ∷ xs) None g f h = absurd (not_one (last_token to after ps) x t xs ts (sym (no_token (length ps) to braces after ps f h) ∙ g))
     at_token (x ∷ xs) (Some p) g f h =
         let some = (token_takes (in_substitution braces) ps p h).0 in

@@ -18,7 +18,7 @@ use Rattle.scan_skip_laws.proofs.Blanking.{blanked_reads}
 use Rattle.scope_analysis.specs.Functions.{Inner}
 use Rattle.grammar_skip_laws.specs.Holes.{Hole, Braced, hole_of, LeavesOut, nothing, keeps, skips}
 use Rattle.grammar_skip_laws.specs.Skipped.{Skipped}
-use Rattle.grammar_skip_laws.specs.SkippedText.{span_of}
+use Rattle.parse_skip_laws.specs.SkippedText.{span_of}
 
 -- ---- tokens of the scanner for tokens of the grammar
 
@@ -70,16 +70,16 @@ braced_left b spans rest left ts e behind = at_head (map_parts lexeme_of ts (b.f
             record {
               us = h.front ++ (o ∷ text.at_front c ∷ r.us);
               leaves = subst (λ (x : List Lexed). LeavesSpans (span_of (hole_of b) ∷ spans) x (h.front ++ (o ∷ text.at_front c ∷ r.us))) (sym s)
-              (keep_all h.front (span_of (hole_of b) ∷ spans) (o ∷ (inner ++ c ∷ back)) (o ∷ text.at_front c ∷ r.us)
-              (subst (λ x. LeavesSpans (x ∷ spans) (o ∷ (inner ++ c ∷ back)) (o ∷ text.at_front c ∷ r.us)) spans_are
-              (text.skips o c inner spans back r.us (o ∷ (inner ++ c ∷ back)) (o ∷ text.at_front c ∷ r.us) (ap (λ (t : Lexeme). t.kind) k ∙ b.opens)
-              (subst (λ ks. CloseInside ks) (ap kinds (sym m) ∙ same_kinds inner) (pieces_close b.inside b.balanced)) refl refl r.leaves)));
+                  (keep_all h.front (span_of (hole_of b) ∷ spans) (o ∷ (inner ++ c ∷ back)) (o ∷ text.at_front c ∷ r.us)
+                  (subst (λ x. LeavesSpans (x ∷ spans) (o ∷ (inner ++ c ∷ back)) (o ∷ text.at_front c ∷ r.us)) spans_are
+                  (text.skips o c inner spans back r.us (o ∷ (inner ++ c ∷ back)) (o ∷ text.at_front c ∷ r.us) (ap (λ (t : Lexeme). t.kind) k ∙ b.opens)
+                  (subst (λ ks. CloseInside ks) (ap kinds (sym m) ∙ same_kinds inner) (pieces_close b.inside b.balanced)) refl refl r.leaves)));
               are = map-append lexeme_of h.front (o ∷ text.at_front c ∷ r.us)
-              ∙ ap (λ xs. xs ++ map lexeme_of (o ∷ text.at_front c ∷ r.us)) h.first
-              ∙ ap (λ (t : Lexeme). (b.first ∷ b.more) ++ (t ∷ map lexeme_of (text.at_front c ∷ r.us))) k
-              ∙ ap (λ (t : Lexeme). (b.first ∷ b.more) ++ (b.opener ∷ record t { after_line = false } ∷ map lexeme_of r.us)) last
-              ∙ ap (λ xs. (b.first ∷ b.more) ++ (b.opener ∷ record b.closer { after_line = false } ∷ xs)) r.are
-              ∙ sym (append_assoc (b.first ∷ b.more) (b.opener ∷ record b.closer { after_line = false } ∷ []) left);
+                  ∙ ap (λ xs. xs ++ map lexeme_of (o ∷ text.at_front c ∷ r.us)) h.first
+                  ∙ ap (λ (t : Lexeme). (b.first ∷ b.more) ++ (t ∷ map lexeme_of (text.at_front c ∷ r.us))) k
+                  ∙ ap (λ (t : Lexeme). (b.first ∷ b.more) ++ (b.opener ∷ record t { after_line = false } ∷ map lexeme_of r.us)) last
+                  ∙ ap (λ xs. (b.first ∷ b.more) ++ (b.opener ∷ record b.closer { after_line = false } ∷ xs)) r.are
+                  ∙ sym (append_assoc (b.first ∷ b.more) (b.opener ∷ record b.closer { after_line = false } ∷ []) left);
             }
 
         at_inside : (o : Lexed) (back : List Lexed) → ts ≡ h.front ++ o ∷ back → lexeme_of o ≡ b.opener → MapParts lexeme_of back b.inside (b.closer ∷ rest)

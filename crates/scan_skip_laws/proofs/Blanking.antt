@@ -114,14 +114,14 @@ blank_place to from end ps le e = by (nat_lt from end) refl
 -- points with blanks begin where they began
 blanked_place : (to b : ℕ) (all : List Span) (ps left : List Point) → RiseTo to b ps → Blanked to all ps left → place to left ≡ place to ps
 blanked_place to b all ps left h (whole ps') = refl
-blanked_place to b all ps left h (part s spans front inside rest others ps' left' f t e g k) = by front e g
+blanked_place to b all ps left h (part s spans front inside rest others ps' left' f t e g k) = by (λ r. blanked_place to b spans rest others r k) front e g
   where
-    by : (xs : List Point) → ps ≡ xs ++ (inside ++ rest) → left ≡ xs ++ (blank s.from s.to ++ others) → place to left ≡ place to ps
-    by (x ∷ xs) i j = ap (place to) j ∙ sym (ap (place to) i)
-    by [] i j =
+    by : (RiseTo to b rest → place to others ≡ place to rest) → (xs : List Point) → ps ≡ xs ++ (inside ++ rest) → left ≡ xs ++ (blank s.from s.to ++ others) → place to left ≡ place to ps
+    by each (x ∷ xs) i j = ap (place to) j ∙ sym (ap (place to) i)
+    by each [] i j =
         let rises : RiseTo to b (inside ++ rest) = subst (RiseTo to b) i h in
         let up : place to (inside ++ rest) ≤ place to rest = place_rises to b inside rest rises in
-        let there : place to others ≡ s.to = blanked_place to b spans rest others (rise_behind to b inside rest rises) k ∙ t in
+        let there : place to others ≡ s.to = each (rise_behind to b inside rest rises) ∙ t in
         ap (place to) j ∙ blank_place to s.from s.to others (omega (arith, up, f, t)) there ∙ sym f ∙ ap (place to) (sym i)
 
 reads_blank : (to from end : ℕ) (braces : List Brace) (ps : List Point) (ts : List Lexed) → Reads to braces false ps ts → Reads to braces false (blank from end ++ ps) ts

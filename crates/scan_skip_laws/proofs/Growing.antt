@@ -18,14 +18,18 @@ pub record Grown (end : ℕ) (braces : List Brace) (after : Bool) (ps : List Poi
   pub others : List Lexed
   pub reads : Reads end braces after ps (us ++ opener ∷ others)
 
+-- points begin before the end
+place_within : (to c : ℕ) (qs : List Point) → RiseTo to c qs → place to qs ≤ to
+place_within to c [] g = omega arith
+place_within to c (q ∷ qs) g = let on : suc q.start ≤ place to qs = highest to (suc q.start) [] qs g.1 in let more : place to qs ≤ to = place_within to (suc q.start) qs g.1 in omega (arith, on, more)
+
 -- points that reach the end are none
 none_at_end : (to b : ℕ) (ps : List Point) → RiseTo to b ps → place to ps ≡ to → ps ≡ []
 none_at_end to b [] h e = refl
-none_at_end to b (p ∷ ps) h e = let up : suc p.start ≤ place to ps = highest to (suc p.start) [] ps h.1 in let le : place to ps ≤ to = within ps h.1 in absurd (omega (arith, up, le, e))
-  where
-    within : (qs : List Point) {c : ℕ} → RiseTo to c qs → place to qs ≤ to
-    within [] g = omega arith
-    within (q ∷ qs) g = let on : suc q.start ≤ place to qs = highest to (suc q.start) [] qs g.1 in let more : place to qs ≤ to = within qs g.1 in omega (arith, on, more)
+none_at_end to b (p ∷ ps) h e =
+    let up : suc p.start ≤ place to ps = highest to (suc p.start) [] ps h.1 in
+    let le : place to ps ≤ to = place_within to (suc p.start) ps h.1 in
+    absurd (omega (arith, up, le, e))
 
 module _ (window b : ℕ) (braces : List Brace) (after : Bool) (ps : List Point) (us : List Lexed) (opener last : Lexed) (rises : RiseTo window b ps) (r : Reads window braces after ps (us ++ opener ∷ last ∷ [])) (opens : opener.kind ≡ kind.Mark mark.OPEN_BRACE) (ends : opener.end ≡ window)
     (end : ℕ) (es : List Point) (there : place end es ≡ window) where

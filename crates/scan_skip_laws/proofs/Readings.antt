@@ -56,20 +56,22 @@ token_takes in_template ps p e =
 pub same_fuel : (f g to : ℕ) (braces : List Brace) (after : Bool) (ps : List Point) → length ps < f → length ps < g → tokens_within f to braces after ps ≡ tokens_within g to braces after ps
 same_fuel zero g to braces after ps le k = absurd (omega (arith, le))
 same_fuel (suc f) zero to braces after ps le k = absurd (omega (arith, k))
-same_fuel (suc f) (suc g) to braces after ps le k = by (blank_at (codes_of ps)) (token_at (in_substitution braces) (codes_of ps)) refl refl
+same_fuel (suc f) (suc g) to braces after ps le k = by (λ bs a qs m n. same_fuel f g to bs a qs m n) (blank_at (codes_of ps)) (token_at (in_substitution braces) (codes_of ps)) refl refl
   where
-    by : (b : Option Blank) (o : Option Piece) → blank_at (codes_of ps) ≡ b → token_at (in_substitution braces) (codes_of ps) ≡ o → tokens_within (suc f) to braces after ps ≡ tokens_within (suc g) to braces after ps
-    by (Some b) o e h =
+    by : ((bs : List Brace) (a : Bool) (qs : List Point) → length qs < f → length qs < g → tokens_within f to bs a qs ≡ tokens_within g to bs a qs) → (b : Option Blank) (o : Option Piece) → blank_at (codes_of ps) ≡ b → token_at (in_substitution braces) (codes_of ps) ≡ o → tokens_within (suc f) to braces after ps ≡ tokens_within (suc g) to braces after ps
+    by each (Some b) o e h =
         let some = (blank_takes ps b e).0 in
+        let fits = (blank_takes ps b e).1 in
         let size : length (drop b.length ps) ≡ length ps - b.length = length-drop b.length ps in
-        one_blank f to braces after ps b e ∙ same_fuel f g to braces (after || b.breaks) (drop b.length ps) (omega (arith, some, size, le)) (omega (arith, some, size, k)) ∙ sym (one_blank g to braces after ps b e)
-    by None (Some p) e h =
+        one_blank f to braces after ps b e ∙ each braces (after || b.breaks) (drop b.length ps) (omega (arith, some, fits, size, le)) (omega (arith, some, fits, size, k)) ∙ sym (one_blank g to braces after ps b e)
+    by each None (Some p) e h =
         let some = (token_takes (in_substitution braces) ps p h).0 in
+        let fits = (token_takes (in_substitution braces) ps p h).1 in
         let size : length (drop p.length ps) ≡ length ps - p.length = length-drop p.length ps in
         one_token f to braces after ps p e h
-        ∙ ap (λ (ts : List Lexed). lexed_at to after ps p ∷ ts) (same_fuel f g to (braces_after braces p.kind) false (drop p.length ps) (omega (arith, some, size, le)) (omega (arith, some, size, k)))
+        ∙ ap (λ (ts : List Lexed). lexed_at to after ps p ∷ ts) (each (braces_after braces p.kind) false (drop p.length ps) (omega (arith, some, fits, size, le)) (omega (arith, some, fits, size, k)))
         ∙ sym (one_token g to braces after ps p e h)
-    by None None e h = no_token f to braces after ps e h ∙ sym (no_token g to braces after ps e h)
+    by each None None e h = no_token f to braces after ps e h ∙ sym (no_token g to braces after ps e h)
 
 -- these are all tokens of the points, from this state
 abbrev pub Reads : ℕ → List Brace → Bool → List Point → List Lexed → Type 0
@@ -235,7 +237,10 @@ walk_next n to walks braces after ps us t ts lt r = by (blank_at (codes_of ps)) 
         let some = (token_takes (in_substitution braces) ps p h).0 in
         let size : length (drop p.length ps) ≡ length ps - p.length = length-drop p.length ps in
         let split : lexed_at to after ps p ∷ tokens_within (suc (length (drop p.length ps))) to (braces_after braces p.kind) false (drop p.length ps) ≡ x ∷ (xs ++ t ∷ ts) = sym (reads_after to braces after ps p f h) ∙ g in
-        walked_token to braces after ps x xs t ts p f h cc (walks (braces_after braces p.kind) false (drop p.length ps) xs t ts (omega (arith, some, size, lt, (token_takes (in_substitution braces) ps p h).1)) cc)
+        let fits = (token_takes (in_substitution braces) ps p h).1 in
+        let first : lexed_at to after ps p ≡ x = cc in
+        let others : Reads to (braces_after braces p.kind) false (drop p.length ps) (xs ++ t ∷ ts) = cc in
+        walked_token to braces after ps x xs t ts p f h first (walks (braces_after braces p.kind) false (drop p.length ps) xs t ts (omega (arith, some, size, lt, fits)) others)
 
     by : (b : Option Blank) → blank_at (codes_of ps) ≡ b → Walked to braces after ps us t ts
     by (Some b) e =

@@ -1,3 +1,0 @@
-pub mod FunctionSkipped
-pub mod HoleFound
-pub mod SkippedText

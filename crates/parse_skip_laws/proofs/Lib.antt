@@ -1,0 +1,3 @@
+pub mod FunctionSkipped
+pub mod HoleFound
+pub mod SkippedText

@@ -52,7 +52,7 @@ fn functions_have_records(rt: HostRuntime) -> Result<(), Fail> {
     let f = &made.parts.records[0];
     assert_eq!(rt; (f.extent.start, f.extent.end), (10, 36));
     assert_eq!(rt; f.kind, FuncKind::Declared);
-    assert_eq!(rt; &f.inner[..], &[2]);
+    assert!(rt; f.inner.as_slice() == [2].as_slice());
     let arrow = &made.parts.records[1];
     assert_eq!(rt; (arrow.extent.start, arrow.extent.end), (26, 33));
     assert_eq!(rt; arrow.kind, FuncKind::Arrow);
@@ -61,7 +61,7 @@ fn functions_have_records(rt: HostRuntime) -> Result<(), Fail> {
     let h = &made.parts.records[2];
     assert_eq!(rt; (h.extent.start, h.extent.end), (55, 100));
     assert_eq!(rt; h.kind, FuncKind::Expression);
-    assert_eq!(rt; &h.inner[..], &[4]);
+    assert!(rt; h.inner.as_slice() == [4].as_slice());
     Ok(())
 }
 
@@ -73,12 +73,12 @@ fn names_are_closed_over(rt: HostRuntime) -> Result<(), Fail> {
     let f = &made.parts.records[0].closed;
     assert_eq!(rt; f.len(), 1);
     assert_eq!(rt; f[0].scope, 0);
-    assert_eq!(rt; text(&made, f[0].atom), &[97]);
+    assert!(rt; text(&made, f[0].atom) == [97].as_slice());
     let h = &made.parts.records[2].closed;
     assert_eq!(rt; h.len(), 2);
     assert_eq!(rt; (h[0].scope, h[1].scope), (0, 1));
-    assert_eq!(rt; text(&made, h[0].atom), &[104]);
-    assert_eq!(rt; text(&made, h[1].atom), &[99]);
+    assert!(rt; text(&made, h[0].atom) == [104].as_slice());
+    assert!(rt; text(&made, h[1].atom) == [99].as_slice());
     Ok(())
 }
 

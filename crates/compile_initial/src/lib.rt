@@ -16,8 +16,6 @@ ghost use Rattle.compile_initial.specs.Initial.{IsInitialOf};
 
 mod chains;
 mod records;
-#[cfg(test)]
-mod tests;
 
 use crate::chains::chains_of;
 use crate::records::{around_of, records_of};

@@ -12,6 +12,3 @@
 mod top;
 
 pub use top::read_top;
-
-#[cfg(test)]
-mod tests;

@@ -1,0 +1,5 @@
+mod Hands
+mod Nested
+mod Unshown
+pub mod Counts
+pub mod Steps

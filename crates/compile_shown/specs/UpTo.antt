@@ -1,0 +1,44 @@
+-- What is known while the functions of a script that are shown are compiled, one after another in order of number. This
+-- project's own choice.
+use Rattle.std.specs.Prelude.{◌≡◌, ℕ, Bool, false, List, map, drop, length, Option, Some, None, slice_get}
+use Rattle.script_grammar.specs.Shows.{ShowAll}
+use Rattle.stencil_data.specs.declared.functions.Extent.{Extent}
+use Rattle.stencil_data.specs.LinkView.{LinkView}
+use Rattle.stencil_data.specs.MergedView.{MergedView}
+use Rattle.stencil_data.specs.StandsFor.{MergedStandsFor}
+use Rattle.stencil_data.specs.Views.{RecordView}
+use Rattle.bytecode_buf.specs.Command.{ShowsCommands}
+use Rattle.parse_track.specs.Notes.{closed_names}
+use Rattle.parser_atoms.specs.Places.{AreWithoutEquals, StandsIn}
+use Rattle.emit_stmts.specs.Functions.{extent_of, top_script}
+use Rattle.compile_specs.specs.Eager.{Site, AllSites, compiled_at}
+use Rattle.compile_specs.specs.Shown.{Wanted, is_shown}
+use Rattle.compile_initial.specs.declared.InitialStencil.{InitialStencil}
+use Rattle.compile_initial.specs.Initial.{IsInitialOf}
+use Rattle.compile_lazy_laws.specs.UpTo.{shown_up_to}
+use Rattle.compile_shown.specs.Counting.{extents_in}
+
+-- What is at hand for a function is the chain that it gets; where it is none, the function is not shown.
+abbrev pub IsAtHand : (Extent → Bool) → Option (List LinkView) → Site → Type 0
+IsAtHand shown (Some chain) s = chain ≡ s.chain
+IsAtHand shown None s = shown (extent_of s.inner.func) ≡ false
+
+-- Of the functions in order of number so many were passed: of these the ones that are shown are compiled. There is a chain at
+-- hand, or none, for each of the functions that come next; the others that are left are in these.
+pub record IsUpTo (want : Wanted) (bytes : List ℕ) (initial : InitialStencil) (is : IsInitialOf bytes initial) (count : ℕ) (hands : List (Option (List LinkView))) (merged : MergedView) : Type 0 where
+  pub next : List Site
+  pub left : AllSites next (drop count is.all)
+  pub at_hand : ShowAll (IsAtHand (is_shown want (extents_in initial.parts.records))) hands next
+  pub stands : MergedStandsFor ShowsCommands merged (shown_up_to count want (closed_names is.items) (top_script is.items (length bytes)).part (map (λ (s : Site). (compiled_at s).part) is.all))
+  -- the texts are those of the parts, so they are few
+  pub among : (text : List ℕ) → StandsIn merged.texts text → StandsIn initial.parts.texts text
+  pub apart : AreWithoutEquals merged.texts
+  pub records : length merged.records ≡ length initial.parts.records
+
+-- whether the function at a place is shown, by these records
+abbrev pub IsFlagAt : Wanted → List RecordView → (place : ℕ) → Bool → Type 0
+IsFlagAt want records place flag = slice_get (map (is_shown want (extents_in records)) (extents_in records)) place ≡ Some flag
+
+-- of each function whether it is shown
+abbrev pub AreFlags : Wanted → List RecordView → List Bool → Type 0
+AreFlags want records flags = flags ≡ map (is_shown want (extents_in records)) (extents_in records)

@@ -1,0 +1,93 @@
+//! A script whose functions are passed one after another.
+
+ghost use Rattle.std.specs.Prelude.{◌≡◌, ◌+◌, ◌<◌, ◌∷◌, ℕ, List, Bool, true, false, length, reverse, IfOk, OnOk, Option, Some};
+ghost use Rattle.stencil_data.specs.LinkView.{LinkView};
+ghost use Rattle.compile_specs.specs.Shown.{Wanted};
+ghost use Rattle.compile_initial.specs.Initial.{IsInitialOf};
+ghost use Rattle.compile_shown.specs.UpTo.{IsFlagAt, IsUpTo};
+
+use crate::at_hand::{copies_of, put, put_none};
+use compile_initial::InitialStencil;
+use lazy_compile::{Delazified, delazify};
+use std::alloc::{AllocError, Global};
+use stencil_data::{Chain, LazyRecord};
+use stencil_merge::Merger;
+
+/// The script of these bytes, before any of its functions is compiled.
+#[derive(Clone, Copy)]
+pub(crate) struct Source<'a> {
+    pub alloc: Global,
+    pub bytes: &'a [u8],
+    pub initial: &'a InitialStencil,
+}
+
+/// What was made of it so far, and the chains at hand for the functions that come next.
+#[derive(Drop)]
+pub(crate) struct Script {
+    pub merger: Merger,
+    pub hands: Vec<Option<Chain>>,
+}
+
+/// How many functions are directly in the one that has this record.
+fn inner_count(lazy: &LazyRecord) -> usize
+    ensures { result ≡ length lazy.now.inner }
+{
+    lazy.inner.len()
+}
+
+impl Script {
+    /// Begins with no function.
+    pub(crate) fn begin(alloc: Global, initial: &InitialStencil) -> Result<Script, AllocError>
+        requires { (bytes : List ℕ) × IsInitialOf bytes initial.now }
+        ensures { IfOk result (λ script. (want : Wanted) (bytes : List ℕ) (is : IsInitialOf bytes initial.now) → IsUpTo want bytes initial.now is 0 (reverse script.hands.items) script.merger) }
+    {
+        let merger = Merger::new(alloc, &initial.parts)?;
+        let chains = copies_of(alloc, &initial.chains)?;
+        let mut hands = Vec::new(alloc);
+        put(&mut hands, chains)?;
+        Ok(Script { merger, hands })
+    }
+
+    /// Passes the function at this place, which is not shown: nor are those in it.
+    pub(crate) fn pass_over(&mut self, source: &Source<'_>, place: usize) -> Result<(), AllocError>
+        requires place { place < length source.now.initial.now.parts.records }
+        ensures { OnOk result ((want : Wanted) (is : IsInitialOf source.now.bytes.now source.now.initial.now) (hand : Option (List LinkView)) → IsFlagAt want source.now.initial.now.parts.records place false
+            → IsUpTo want source.now.bytes.now source.now.initial.now is place (hand ∷ reverse self.old.hands.items) self.old.merger
+            → IsUpTo want source.now.bytes.now source.now.initial.now is (place + 1) (reverse self.new.hands.items) self.new.merger) }
+    {
+        let parts = &source.initial.parts;
+        let count = inner_count(&parts.records[place]);
+        put_none(&mut self.hands, count)
+    }
+
+    /// Compiles the function at this place, which is shown, under its chain.
+    pub(crate) fn compile_next(
+        &mut self,
+        source: &Source<'_>,
+        place: usize,
+        chain: &Chain,
+    ) -> Result<(), AllocError>
+        requires place { place < length source.now.initial.now.parts.records }
+        requires state { (want : Wanted) × (is : IsInitialOf source.now.bytes.now source.now.initial.now) × IsUpTo want source.now.bytes.now source.now.initial.now is place (Some chain.now ∷ reverse self.old.hands.items) self.old.merger }
+        ensures { OnOk result ((want : Wanted) (is : IsInitialOf source.now.bytes.now source.now.initial.now) → IsFlagAt want source.now.initial.now.parts.records place true
+            → IsUpTo want source.now.bytes.now source.now.initial.now is place (Some chain.now ∷ reverse self.old.hands.items) self.old.merger
+            → IsUpTo want source.now.bytes.now source.now.initial.now is (place + 1) (reverse self.new.hands.items) self.new.merger) }
+    {
+        let parts = &source.initial.parts;
+        let made = delazify(
+            source.alloc,
+            source.bytes,
+            &parts.records[place],
+            &parts.texts,
+            chain,
+        )?;
+        let Delazified {
+            stencil,
+            texts,
+            chains,
+        } = made;
+        self.merger
+            .add(source.alloc, place as u32 + 1, &stencil, &texts)?;
+        put(&mut self.hands, chains)
+    }
+}

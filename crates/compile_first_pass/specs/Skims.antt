@@ -44,3 +44,8 @@ pub record SkimsScript (i : Interpretation) (made : SkimmedScript) (top : Stmts)
   pub found : ShowAll (λ b. HoldsBody i b.found) made.bodies.found.items bodies
   pub errors : ShowAll (HasErrorsBody i) made.bodies.errors.items bodies
   pub strict : HasEmptyBodies i → KnowsWords i known_atoms → ShowAll HasStrict made.bodies.found.items bodies
+
+-- a script's node and those of bodies are taken apart, whatever statements they stand for
+abbrev pub IsScriptApart : {B : Type 0} → (Interpretation → B → Stmts → Type 0) → B → List B → SkimmedScript → Type 0
+IsScriptApart shows script bodies made =
+    (i : Interpretation) (top : Stmts) (all : List Stmts) → shows i script top → ShowAll (shows i) bodies all → SkimsScript i made top all

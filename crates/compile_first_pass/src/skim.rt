@@ -1,10 +1,7 @@
 //! What a first pass keeps of bodies.
 
-ghost use Rattle.std.specs.Prelude.{List, IfOk};
-ghost use Rattle.script_grammar.specs.Interpretation.{Interpretation};
-ghost use Rattle.script_grammar.specs.Shows.{ShowAll};
-ghost use Rattle.script_grammar.specs.Tree.{Stmts};
-ghost use Rattle.compile_first_pass.specs.Skims.{IsSkimmed, AreSkimmed, SkimsScript};
+ghost use Rattle.std.specs.Prelude.{IfOk};
+ghost use Rattle.compile_first_pass.specs.Skims.{AreSkimmed, IsApart, IsScriptApart};
 
 use parse_bodies::whole::Script;
 use parse_early_handler::{BodyErrors, EarlyErrorHandler};
@@ -30,7 +27,7 @@ pub struct Skimmed {
 pub trait Skims: Handler {
     /// Takes the node of a body apart.
     fn apart(body: Self::B) -> Skimmed
-        ensures { (i : Interpretation) (items : Stmts) → Self.shows_body i body items → IsSkimmed i result items };
+        ensures { IsApart Self.shows_body body result };
 }
 
 impl Skims for Both<Telling, Both<Syntax, EarlyErrorHandler>> {
@@ -94,7 +91,7 @@ pub(crate) fn skim<H: Skims>(
     alloc: Global,
     script: Script<H::B>,
 ) -> Result<SkimmedScript, AllocError>
-    ensures { IfOk result (λ made. (i : Interpretation) (top : Stmts) (all : List Stmts) → H.shows_body i script.top top → ShowAll (H.shows_body i) script.bodies.items all → SkimsScript i made top all) }
+    ensures { IfOk result (IsScriptApart H.shows_body script.top script.bodies.items) }
 {
     let Script { top, bodies } = script;
     let top = H::apart(top);

@@ -5,22 +5,15 @@ use Rattle.script_grammar.specs.Lexeme.{Lexeme}
 use Rattle.script_grammar.specs.NameTokens.{OfEachNameToken, IsNotThis}
 use Rattle.script_grammar.specs.Tree.{Stmts}
 use Rattle.stencil_data.specs.MergedView.{MergedView}
-use Rattle.stencil_data.specs.Named.{NamedMerged}
-use Rattle.stencil_data.specs.StandsFor.{MergedStandsFor}
-use Rattle.bytecode_buf.specs.Command.{Command, ShowsCommands}
 use Rattle.bytecode_buf.specs.InRange.{TextsSmall}
 use Rattle.parse_track.specs.declared.region.ClosedAt.{ClosedAt}
 use Rattle.compile_specs.specs.Shown.{Wanted}
 use Rattle.emit_limit_laws.specs.Limits.{ScriptStands}
 use Rattle.compile_eager.specs.Compiles.{IsOf}
 use Rattle.compile_wanted.specs.Shows.{Shows}
-use Rattle.stencil_xdr_laws.specs.Sizes.{MergedSmall}
+use Rattle.stencil_xdr_laws.specs.Written.{IsWrittenOf}
 use Rattle.session_image_specs.specs.Images.{IsImage}
 use Rattle.compile_range_laws.proofs.Scripts.{is_shown_small}
-
--- the bytes are the image of each small script that the stencil stands for, if its texts are small
-abbrev pub IsWrittenOf : MergedView → List ℕ → Type 0
-IsWrittenOf merged bytes = TextsSmall merged.texts → (named : NamedMerged (List Command)) → MergedStandsFor ShowsCommands merged named → MergedSmall named → IsImage named bytes
 
 -- The bytes that are written of a stencil are the image of what is shown of the script.
 pub shown_has_image : (tokens : List Lexeme) (last : Lexeme) (items : Stmts) (end : ℕ) (want : Wanted) (merged : MergedView) (bytes : List ℕ) → ScriptStands tokens last items → OfEachNameToken IsNotThis tokens

@@ -34,6 +34,7 @@ use Rattle.track_atoms.specs.Known.{HasWords}
 use Rattle.track_atoms.proofs.Found.{knows_names}
 use Rattle.early_script_errors.specs.Told.{own}
 use Rattle.bytecode_buf.specs.Command.{ShowsCommands}
+use Rattle.bytecode_buf.specs.InRange.{TextsSmall}
 use Rattle.parser_atoms.specs.Places.{AreWithoutEquals}
 use Rattle.emit_stmts.specs.Functions.{start_of, top_script}
 use Rattle.emit_limit_laws.specs.FullNames.{FullNames}
@@ -218,4 +219,5 @@ module _ (bytes : List ℕ) (script : SyntaxScript) (is : IsSyntaxOf bytes scrip
           values = λ t among. file_texts script.file bytes t is.sound is.tokens.tokens among;
           words = subst (HasWords texts) is.sound.fixed is.sound.words;
         });
+        small = subst TextsSmall (sym texts_are) is.sound.small;
       }

@@ -10,6 +10,7 @@ use Rattle.stencil_data.specs.LinkView.{LinkView}
 use Rattle.stencil_data.specs.Named.{NamedInitial}
 use Rattle.stencil_data.specs.StandsFor.{InitialStandsFor}
 use Rattle.bytecode_buf.specs.Command.{Command, ShowsCommands}
+use Rattle.bytecode_buf.specs.InRange.{TextsSmall}
 use Rattle.parse_track.specs.Notes.{closed_names}
 use Rattle.track_atoms.specs.Known.{HasWords, known_atoms}
 use Rattle.emit_stmts.specs.Functions.{top_script}
@@ -43,7 +44,7 @@ pub record HasTextsOf (bytes : List ℕ) (texts : List (List ℕ)) : Type 0 wher
 
 -- The bytes are a script without errors, and the parts are what it is before any of its functions is compiled. Each function
 -- finds its chain by the one around it, those directly in the script by these chains. The texts have no equals, are fewer than
--- 2^31, and leave out none that a function of the script can have.
+-- 2^31 and small, and leave out none that a function of the script can have.
 pub record IsInitialOf (bytes : List ℕ) (made : InitialStencil) : Type 0 where
   pub items : Stmts
   pub valid : IsValid bytes items (length made.parts.records)
@@ -58,3 +59,4 @@ pub record IsInitialOf (bytes : List ℕ) (made : InitialStencil) : Type 0 where
   pub few : length made.parts.texts < 2 ^ 31
   pub apart : AreWithoutEquals made.parts.texts
   pub texts : HasTextsOf bytes made.parts.texts
+  pub small : TextsSmall made.parts.texts

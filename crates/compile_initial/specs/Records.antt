@@ -1,5 +1,5 @@
 -- What is kept of each function that was found. This project's own choice.
-use Rattle.std.specs.Prelude.{ℕ, ◌+◌, ◌^◌, ◌<◌, List, length}
+use Rattle.std.specs.Prelude.{◌≡◌, ℕ, ◌+◌, ◌^◌, ◌<◌, List, length, map}
 use Rattle.stencil_data.specs.Views.{RecordView}
 use Rattle.compile_specs.specs.Shown.{numbers_of}
 use Rattle.emit_limit_laws.specs.Offsets.{OffsetsRise}
@@ -23,6 +23,10 @@ record_at starts closed f = record {
   inner = numbers_of starts f.inner.items;
   closed = names_in closed f.extent.start;
 }
+
+-- the records of functions are these, where the functions can be numbered
+abbrev pub AreRecordsOf : NamesView → List FoundFunction → List RecordView → Type 0
+AreRecordsOf closed functions records = HaveNumbers (map start_at functions) → records ≡ map (record_at (map start_at functions) closed) functions
 
 abbrev pub around_at : FoundFunction → Around
 around_at f = record { number = f.around; place = f.place }

@@ -1,7 +1,7 @@
 //! What is kept of each function.
 
 ghost use Rattle.std.specs.Prelude.{◌≡◌, map, IfOk};
-ghost use Rattle.compile_initial.specs.Records.{HaveNumbers, around_at, record_at, start_at};
+ghost use Rattle.compile_initial.specs.Records.{AreRecordsOf, HaveNumbers, around_at, record_at, start_at};
 
 use crate::Around;
 use compile_numbers::{ClosedNames, numbers_of};
@@ -44,7 +44,7 @@ pub(crate) fn records_of(
     functions: &[FoundFunction],
     closed: &ClosedNames,
 ) -> Result<Vec<LazyRecord>, AllocError>
-    ensures { IfOk result (λ records. HaveNumbers (map start_at functions.now) → records.items ≡ map (record_at (map start_at functions.now) closed.now) functions.now) }
+    ensures { IfOk result (λ records. AreRecordsOf closed.now functions.now records.items) }
 {
     let starts = starts_of(alloc, functions)?;
     let mut records = Vec::new(alloc);

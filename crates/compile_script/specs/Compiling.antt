@@ -29,3 +29,8 @@ pub record CanBeCompiled (texts : List (List ℕ)) (bodies : ℕ → Stmts) (ss 
 pub record IsCompiledScript (texts : List (List ℕ)) (stencil : FunctionView) (inside : List InnerSite) (items : Stmts) (end : ℕ) : Type 0 where
   pub stands : FunctionStandsFor ShowsCommands texts stencil (top_script items end).part
   pub chains_are : map (λ (s : InnerSite). s.chain) inside ≡ (top_script items end).chains
+
+-- whatever bodies stand where some were passed over, the statements are compiled to this
+abbrev pub CompilesTo : List (List ℕ) → List Stmt → List ClosedName → (end : ℕ) → FunctionView → List InnerSite → Type 0
+CompilesTo texts ss closed end stencil inside =
+    (bodies : ℕ → Stmts) (items : Stmts) → CanBeCompiled texts bodies ss closed items → IsCompiledScript texts stencil inside items end

@@ -10,7 +10,7 @@
 
 ghost use Rattle.std.specs.Prelude.{ℕ, IfOk};
 ghost use Rattle.script_grammar.specs.Tree.{Stmts};
-ghost use Rattle.compile_script.specs.Compiling.{CanBeCompiled, IsCompiledScript};
+ghost use Rattle.compile_script.specs.Compiling.{CanBeCompiled, CompilesTo};
 
 use emit_stmts::scripts::top as emit_top;
 use scope_analysis::top_scopes;
@@ -37,7 +37,7 @@ pub fn compile_script<'a>(
     texts: &[Text],
 ) -> Result<CompiledScript<'a>, AllocError>
     requires { (bodies : ℕ → Stmts) × (items : Stmts) × CanBeCompiled texts.now bodies top.now closed.now items }
-    ensures { IfOk result (λ made. (bodies : ℕ → Stmts) (items : Stmts) → CanBeCompiled texts.now bodies top.now closed.now items → IsCompiledScript texts.now made.stencil made.inside.items items end) }
+    ensures { IfOk result (λ made. CompilesTo texts.now top.now closed.now end made.stencil made.inside.items) }
 {
     let scopes = top_scopes(alloc, top, closed, texts)?;
     let inside = script_sites(alloc, top, &scopes, texts)?;

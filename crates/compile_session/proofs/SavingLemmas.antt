@@ -11,7 +11,8 @@ use Rattle.session_words.specs.Asked.{Wanted}
 use Rattle.session_specs.specs.Answer.{IsWritten, to_show}
 use Rattle.compile_eager.specs.Compiles.{IsOf}
 use Rattle.compile_wanted.specs.Shows.{Shows}
-use Rattle.compile_image_laws.proofs.Images.{IsWrittenOf, compiled_has_image}
+use Rattle.stencil_xdr_laws.specs.Written.{IsWrittenOf}
+use Rattle.compile_image_laws.proofs.Images.{compiled_has_image}
 
 -- the bytes that are written of a stencil that shows the script
 pub image_written : (texts : List (List ℕ)) (ss : List Stmt) (closed : List ClosedAt) (items : Stmts) (size : ℕ) (want : Wanted) (name : List ℕ) (count : ℕ) (shown seen : MergedView) (image : List ℕ) → IsOf texts ss closed items

@@ -14,6 +14,7 @@ use Rattle.stencil_data.specs.Named.{NamedFunction, NamedInitial, NamedRecord}
 use Rattle.stencil_data.specs.StandsFor.{named_record, InitialStandsFor, MergedStandsFor}
 use Rattle.stencil_data.specs.Views.{FunctionView, InitialView, RecordView}
 use Rattle.bytecode_buf.specs.Command.{Command, ShowsCommands}
+use Rattle.bytecode_buf.specs.InRange.{Small, TextsSmall}
 use Rattle.parse_track.specs.ClosedNames.{Bound}
 use Rattle.parse_track.specs.Notes.{closed_names}
 use Rattle.parser_atoms.specs.Places.{AreWithoutEquals, StandsIn}
@@ -98,6 +99,18 @@ text_in : (bytes : List ℕ) (texts : List (List ℕ)) → HasTextsOf bytes text
 text_in bytes texts h text (inl v) = h.values text v
 text_in bytes texts h text (inr (inl w)) = word_in texts h.words text w
 text_in bytes texts h text (inr (inr s)) = s
+
+small_at : (given : List (List ℕ)) (n : ℕ) (text : List ℕ) → TextsSmall given → slice_get given n ≡ Some text → Small (length text)
+small_at [] n text h e = absurd (cc)
+small_at (g ∷ given) zero text h e = let same : g ≡ text = cc in subst (λ (t : List ℕ). Small (length t)) same h.0
+small_at (g ∷ given) (suc n) text h e = small_at given n text h.1 e
+
+-- texts that stand among small ones are small
+texts_small : (texts given : List (List ℕ)) → TextsSmall given → ((text : List ℕ) → StandsIn texts text → StandsIn given text) → TextsSmall texts
+texts_small [] given h among = tt
+texts_small (t ∷ texts) given h among =
+    let at = among t (0, refl) in
+    (small_at given at.0 t h at.1, texts_small texts given h (λ text s. among text (suc s.0, s.1)))
 
 -- ---- lists
 
@@ -353,6 +366,12 @@ module _ (want : Wanted) (bytes : List ℕ) (made : InitialStencil) (is : IsInit
   number_next place hands merged lt u = let same = u.records in (omega arith, omega (arith, same, lt))
 
   -- ---- the end
+
+  pub few_at_end : (count : ℕ) (hands : Hands) (merged : MergedView) → IsUpTo want bytes made is count hands merged → length merged.texts < 2 ^ 31
+  few_at_end count hands merged u = let most = no_longer merged.texts made.parts.texts u.apart u.among in let few = is.few in omega (arith, most, few)
+
+  pub small_at_end : (count : ℕ) (hands : Hands) (merged : MergedView) → IsUpTo want bytes made is count hands merged → TextsSmall merged.texts
+  small_at_end count hands merged u = texts_small merged.texts made.parts.texts is.small u.among
 
   pub shown_at_end : (count : ℕ) (hands : Hands) (merged : MergedView) → count ≡ length made.parts.records → IsUpTo want bytes made is count hands merged → Shows want is.items (length bytes) merged
   shown_at_end count hands merged end u = record {

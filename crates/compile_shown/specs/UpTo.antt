@@ -1,6 +1,6 @@
 -- What is known while the functions of a script that are shown are compiled, one after another in order of number. This
 -- project's own choice.
-use Rattle.std.specs.Prelude.{◌≡◌, ℕ, Bool, false, List, map, drop, length, Option, Some, None, slice_get}
+use Rattle.std.specs.Prelude.{◌≡◌, ℕ, ◌+◌, Bool, false, List, ◌∷◌, map, drop, length, Option, Some, None, slice_get}
 use Rattle.script_grammar.specs.Shows.{ShowAll}
 use Rattle.stencil_data.specs.declared.functions.Extent.{Extent}
 use Rattle.stencil_data.specs.LinkView.{LinkView}
@@ -42,3 +42,41 @@ IsFlagAt want records place flag = slice_get (map (is_shown want (extents_in rec
 -- of each function whether it is shown
 abbrev pub AreFlags : Wanted → List RecordView → List Bool → Type 0
 AreFlags want records flags = flags ≡ map (is_shown want (extents_in records)) (extents_in records)
+
+-- ---- what is asked of a step, and what it does, where the script of these bytes is this before any of its functions is compiled
+
+-- so many functions were passed, for some that are wanted
+abbrev pub HasPassed : List ℕ → InitialStencil → (count : ℕ) → List (Option (List LinkView)) → MergedView → Type 0
+HasPassed bytes initial count hands merged = (want : Wanted) × (is : IsInitialOf bytes initial) × IsUpTo want bytes initial is count hands merged
+
+-- those in front of this place were passed, and of the function there this is whether it is shown
+abbrev pub IsNext : List ℕ → InitialStencil → (place : ℕ) → Bool → List (Option (List LinkView)) → MergedView → Type 0
+IsNext bytes initial place flag hands merged =
+    (want : Wanted) × (is : IsInitialOf bytes initial) × IsFlagAt want initial.parts.records place flag × IsUpTo want bytes initial is place hands merged
+
+-- no function was passed, and of each this is whether it is shown
+abbrev pub AreNext : List ℕ → InitialStencil → List Bool → List (Option (List LinkView)) → MergedView → Type 0
+AreNext bytes initial flags hands merged =
+    (want : Wanted) × (is : IsInitialOf bytes initial) × AreFlags want initial.parts.records flags × IsUpTo want bytes initial is 0 hands merged
+
+-- where no function was passed, whatever is wanted of whichever text
+abbrev pub BeginsWith : InitialStencil → List (Option (List LinkView)) → MergedView → Type 0
+BeginsWith initial hands merged = (want : Wanted) (bytes : List ℕ) (is : IsInitialOf bytes initial) → IsUpTo want bytes initial is 0 hands merged
+
+-- the function at this place is passed, of which this is whether it is shown
+abbrev pub Passes : List ℕ → InitialStencil → (place : ℕ) → Bool → (hands now : List (Option (List LinkView))) → (merged made : MergedView) → Type 0
+Passes bytes initial place flag hands now merged made =
+    (want : Wanted) (is : IsInitialOf bytes initial) → IsFlagAt want initial.parts.records place flag
+    → IsUpTo want bytes initial is place hands merged → IsUpTo want bytes initial is (place + 1) now made
+
+-- the function at this place is passed, which is not shown, whatever was at hand for it
+abbrev pub PassesOver : List ℕ → InitialStencil → (place : ℕ) → (hands now : List (Option (List LinkView))) → (merged made : MergedView) → Type 0
+PassesOver bytes initial place hands now merged made =
+    (want : Wanted) (is : IsInitialOf bytes initial) (hand : Option (List LinkView)) → IsFlagAt want initial.parts.records place false
+    → IsUpTo want bytes initial is place (hand ∷ hands) merged → IsUpTo want bytes initial is (place + 1) now made
+
+-- all functions are passed, of each of which this is whether it is shown
+abbrev pub PassesAll : List ℕ → InitialStencil → List Bool → (hands now : List (Option (List LinkView))) → (merged made : MergedView) → Type 0
+PassesAll bytes initial flags hands now merged made =
+    (want : Wanted) (is : IsInitialOf bytes initial) → AreFlags want initial.parts.records flags
+    → IsUpTo want bytes initial is 0 hands merged → IsUpTo want bytes initial is (length flags) now made

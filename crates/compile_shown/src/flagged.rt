@@ -2,10 +2,8 @@
 
 ghost use Rattle.std.specs.Prelude.{◌≡◌, ◌≢◌, ◌≤◌, ◌+◌, ◌<◌, ◌∷◌, Bool, true, length, reverse, OnOk, Some, None};
 ghost use Rattle.compile_tally.specs.Tally.{Rises};
-ghost use Rattle.compile_specs.specs.Shown.{Wanted};
-ghost use Rattle.compile_initial.specs.Initial.{IsInitialOf};
 ghost use Rattle.compile_shown.specs.Counting.{RisesAtMost, counted, trues};
-ghost use Rattle.compile_shown.specs.UpTo.{AreFlags, IsFlagAt, IsUpTo};
+ghost use Rattle.compile_shown.specs.UpTo.{AreNext, IsNext, Passes, PassesAll};
 
 use crate::at_hand::take;
 use crate::script::{Script, Source};
@@ -32,11 +30,9 @@ fn compile_at_hand(
     hand: Option<Chain>,
 ) -> Result<(), AllocError>
     requires place { place < length source.now.initial.now.parts.records }
-    requires state { (want : Wanted) × (is : IsInitialOf source.now.bytes.now source.now.initial.now) × IsFlagAt want source.now.initial.now.parts.records place true
-        × IsUpTo want source.now.bytes.now source.now.initial.now is place (hand ∷ reverse script.old.hands.items) script.old.merger }
-    ensures { OnOk result ((want : Wanted) (is : IsInitialOf source.now.bytes.now source.now.initial.now) → IsFlagAt want source.now.initial.now.parts.records place true
-        → IsUpTo want source.now.bytes.now source.now.initial.now is place (hand ∷ reverse script.old.hands.items) script.old.merger
-        → IsUpTo want source.now.bytes.now source.now.initial.now is (place + 1) (reverse script.new.hands.items) script.new.merger) }
+    requires state { IsNext source.now.bytes.now source.now.initial.now place true (hand ∷ reverse script.old.hands.items) script.old.merger }
+    ensures { OnOk result (Passes source.now.bytes.now source.now.initial.now place true (hand ∷ reverse script.old.hands.items)
+        (reverse script.new.hands.items) script.old.merger script.new.merger) }
 {
     let chain = chain_of(hand);
     script.compile_next(source, place, &chain)
@@ -51,12 +47,10 @@ fn pass<T: Ticks>(
     tally: &mut T,
 ) -> Result<(), AllocError>
     requires place { place < length source.now.initial.now.parts.records }
-    requires state { (want : Wanted) × (is : IsInitialOf source.now.bytes.now source.now.initial.now) × IsFlagAt want source.now.initial.now.parts.records place is_shown
-        × IsUpTo want source.now.bytes.now source.now.initial.now is place (reverse script.old.hands.items) script.old.merger }
+    requires state { IsNext source.now.bytes.now source.now.initial.now place is_shown (reverse script.old.hands.items) script.old.merger }
     requires room { counted is_shown ≤ T.room tally.old }
-    ensures state { OnOk result ((want : Wanted) (is : IsInitialOf source.now.bytes.now source.now.initial.now) → IsFlagAt want source.now.initial.now.parts.records place is_shown
-        → IsUpTo want source.now.bytes.now source.now.initial.now is place (reverse script.old.hands.items) script.old.merger
-        → IsUpTo want source.now.bytes.now source.now.initial.now is (place + 1) (reverse script.new.hands.items) script.new.merger) }
+    ensures state { OnOk result (Passes source.now.bytes.now source.now.initial.now place is_shown (reverse script.old.hands.items)
+        (reverse script.new.hands.items) script.old.merger script.new.merger) }
     ensures tally { Rises (T.count tally.old) (T.room tally.old) (T.count tally.new) (T.room tally.new) (counted is_shown) }
 {
     let hand = take(&mut script.hands);
@@ -75,12 +69,10 @@ pub(crate) fn compile_flagged<T: Ticks>(
     script: &mut Script,
     tally: &mut T,
 ) -> Result<(), AllocError>
-    requires state { (want : Wanted) × (is : IsInitialOf source.now.bytes.now source.now.initial.now) × AreFlags want source.now.initial.now.parts.records flags.now
-        × IsUpTo want source.now.bytes.now source.now.initial.now is 0 (reverse script.old.hands.items) script.old.merger }
+    requires state { AreNext source.now.bytes.now source.now.initial.now flags.now (reverse script.old.hands.items) script.old.merger }
     requires room { trues flags.now ≤ T.room tally.old }
-    ensures state { OnOk result ((want : Wanted) (is : IsInitialOf source.now.bytes.now source.now.initial.now) → AreFlags want source.now.initial.now.parts.records flags.now
-        → IsUpTo want source.now.bytes.now source.now.initial.now is 0 (reverse script.old.hands.items) script.old.merger
-        → IsUpTo want source.now.bytes.now source.now.initial.now is (length flags.now) (reverse script.new.hands.items) script.new.merger) }
+    ensures state { OnOk result (PassesAll source.now.bytes.now source.now.initial.now flags.now (reverse script.old.hands.items)
+        (reverse script.new.hands.items) script.old.merger script.new.merger) }
     ensures counted { OnOk result (Rises (T.count tally.old) (T.room tally.old) (T.count tally.new) (T.room tally.new) (trues flags.now)) }
     ensures most { RisesAtMost (T.count tally.old) (T.room tally.old) (T.count tally.new) (T.room tally.new) (trues flags.now) }
 {

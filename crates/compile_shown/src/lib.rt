@@ -9,15 +9,14 @@
 //! part of the merged stencil and the chains at the functions directly in them, each until that function was passed (`at_hand`).
 //!
 //! The main contract is that of [`compile_shown`]: the stencil stands for what is shown of the script (`Shows` of compile_wanted),
-//! and as many functions are counted as are shown.
+//! as many functions are counted as are shown, and its texts are fewer than 2^31 and small, so that it has an image.
 #![tactic(auto)]
 
-ghost use Rattle.std.specs.Prelude.{◌≡◌, ◌≤◌, ◌+◌, ℕ, List, length, map, reverse, IfOk, OnOk};
-ghost use Rattle.compile_specs.specs.Shown as shown;
+ghost use Rattle.std.specs.Prelude.{◌≡◌, ◌≤◌, ◌<◌, ◌+◌, ◌^◌, length, map, IfOk, OnOk};
+ghost use Rattle.bytecode_buf.specs.InRange.{TextsSmall};
 ghost use Rattle.compile_wanted.specs.Numbers.{to_show};
-ghost use Rattle.compile_wanted.specs.Shows.{Shows};
 ghost use Rattle.compile_initial.specs.Initial.{IsInitialOf};
-ghost use Rattle.compile_shown.specs.Counting.{extents_in, shown_count};
+ghost use Rattle.compile_shown.specs.Shown.{ShowsWanted, shown_in};
 
 mod at_hand;
 mod flagged;
@@ -42,12 +41,14 @@ pub fn compile_shown<T: Ticks>(
     tally: &mut T,
 ) -> Result<MergedStencil, AllocError>
     requires initial { IsInitialOf bytes.now initial.now }
-    requires room { shown_count (to_show wanted) (extents_in initial.now.parts.records) ≤ T.room tally.old }
-    ensures shown { IfOk result (λ merged. (is : IsInitialOf bytes.now initial.now) → Shows (to_show wanted.entry) is.items (length bytes.now) merged) }
+    requires room { shown_in (to_show wanted) initial.now ≤ T.room tally.old }
+    ensures shown { IfOk result (ShowsWanted (to_show wanted.entry) bytes.now initial.now) }
+    ensures few { IfOk result (λ merged. length merged.texts < 2 ^ 31) }
+    ensures small { IfOk result (λ merged. TextsSmall merged.texts) }
     ensures sum { T.count tally.new + T.room tally.new ≡ T.count tally.old + T.room tally.old }
     ensures rising { T.count tally.old ≤ T.count tally.new }
-    ensures counted { OnOk result (T.count tally.new ≡ T.count tally.old + shown_count (to_show wanted.entry) (extents_in initial.now.parts.records)) }
-    ensures most { T.count tally.new ≤ T.count tally.old + shown_count (to_show wanted.entry) (extents_in initial.now.parts.records) }
+    ensures counted { OnOk result (T.count tally.new ≡ T.count tally.old + shown_in (to_show wanted.entry) initial.now) }
+    ensures most { T.count tally.new ≤ T.count tally.old + shown_in (to_show wanted.entry) initial.now }
 {
     let parts = &initial.parts;
     let ends = ends_of(alloc, &parts.records)?;

@@ -1,10 +1,8 @@
 //! A script whose functions are passed one after another.
 
-ghost use Rattle.std.specs.Prelude.{◌≡◌, ◌+◌, ◌<◌, ◌∷◌, ℕ, List, Bool, true, false, length, reverse, IfOk, OnOk, Option, Some};
-ghost use Rattle.stencil_data.specs.LinkView.{LinkView};
-ghost use Rattle.compile_specs.specs.Shown.{Wanted};
+ghost use Rattle.std.specs.Prelude.{◌≡◌, ◌<◌, ◌∷◌, ℕ, List, true, length, reverse, IfOk, OnOk, Some};
 ghost use Rattle.compile_initial.specs.Initial.{IsInitialOf};
-ghost use Rattle.compile_shown.specs.UpTo.{IsFlagAt, IsUpTo};
+ghost use Rattle.compile_shown.specs.UpTo.{BeginsWith, HasPassed, Passes, PassesOver};
 
 use crate::at_hand::{copies_of, put, put_none};
 use compile_initial::InitialStencil;
@@ -39,7 +37,7 @@ impl Script {
     /// Begins with no function.
     pub(crate) fn begin(alloc: Global, initial: &InitialStencil) -> Result<Script, AllocError>
         requires { (bytes : List ℕ) × IsInitialOf bytes initial.now }
-        ensures { IfOk result (λ script. (want : Wanted) (bytes : List ℕ) (is : IsInitialOf bytes initial.now) → IsUpTo want bytes initial.now is 0 (reverse script.hands.items) script.merger) }
+        ensures { IfOk result (λ script. BeginsWith initial.now (reverse script.hands.items) script.merger) }
     {
         let merger = Merger::new(alloc, &initial.parts)?;
         let chains = copies_of(alloc, &initial.chains)?;
@@ -51,9 +49,8 @@ impl Script {
     /// Passes the function at this place, which is not shown: nor are those in it.
     pub(crate) fn pass_over(&mut self, source: &Source<'_>, place: usize) -> Result<(), AllocError>
         requires place { place < length source.now.initial.now.parts.records }
-        ensures { OnOk result ((want : Wanted) (is : IsInitialOf source.now.bytes.now source.now.initial.now) (hand : Option (List LinkView)) → IsFlagAt want source.now.initial.now.parts.records place false
-            → IsUpTo want source.now.bytes.now source.now.initial.now is place (hand ∷ reverse self.old.hands.items) self.old.merger
-            → IsUpTo want source.now.bytes.now source.now.initial.now is (place + 1) (reverse self.new.hands.items) self.new.merger) }
+        ensures { OnOk result (PassesOver source.now.bytes.now source.now.initial.now place (reverse self.old.hands.items)
+            (reverse self.new.hands.items) self.old.merger self.new.merger) }
     {
         let parts = &source.initial.parts;
         let count = inner_count(&parts.records[place]);
@@ -68,10 +65,9 @@ impl Script {
         chain: &Chain,
     ) -> Result<(), AllocError>
         requires place { place < length source.now.initial.now.parts.records }
-        requires state { (want : Wanted) × (is : IsInitialOf source.now.bytes.now source.now.initial.now) × IsUpTo want source.now.bytes.now source.now.initial.now is place (Some chain.now ∷ reverse self.old.hands.items) self.old.merger }
-        ensures { OnOk result ((want : Wanted) (is : IsInitialOf source.now.bytes.now source.now.initial.now) → IsFlagAt want source.now.initial.now.parts.records place true
-            → IsUpTo want source.now.bytes.now source.now.initial.now is place (Some chain.now ∷ reverse self.old.hands.items) self.old.merger
-            → IsUpTo want source.now.bytes.now source.now.initial.now is (place + 1) (reverse self.new.hands.items) self.new.merger) }
+        requires state { HasPassed source.now.bytes.now source.now.initial.now place (Some chain.now ∷ reverse self.old.hands.items) self.old.merger }
+        ensures { OnOk result (Passes source.now.bytes.now source.now.initial.now place true (Some chain.now ∷ reverse self.old.hands.items)
+            (reverse self.new.hands.items) self.old.merger self.new.merger) }
     {
         let parts = &source.initial.parts;
         let made = delazify(

@@ -17,7 +17,7 @@ use std::thread;
 use std::thread::{Promise, Scope, Threads};
 
 // The bytes of stack that a worker's thread has, whatever the limit of the system is.
-const WORKER_STACK: usize = 16 * 1024 * 1024;
+const WORKER_STACK: usize = 32 * 1024 * 1024;
 
 // What is known of a worker once its thread has ended.
 struct Serving<'a, J: Job, G: Gate, N: Numbering> {

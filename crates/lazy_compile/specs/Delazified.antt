@@ -40,3 +40,7 @@ pub record IsCompiledAlone (made : Delazified) (m : Site) : Type 0 where
   pub stands : FunctionStandsFor ShowsCommands made.texts.items made.stencil (compiled_at m).part
   pub chains_are : made.chains.items ≡ (compiled_at m).chains
   pub apart : AreWithoutEquals made.texts.items
+
+-- whichever script's function is asked for by this, it is compiled to this
+abbrev pub CompilesAlone : (file : List ℕ) → (lazy : RecordView) → (texts : List (List ℕ)) → (chain : List LinkView) → Delazified → Type 0
+CompilesAlone file lazy texts chain made = (items : Stmts) (m : Site) → CanBeDelazified file lazy texts chain items m → IsCompiledAlone made m

@@ -4,7 +4,7 @@ ghost use Rattle.std.specs.Prelude.{IfOk, List};
 ghost use Rattle.script_grammar.specs.Tree.{Stmts};
 ghost use Rattle.stencil_data.specs.LinkView.{LinkView};
 ghost use Rattle.compile_specs.specs.Eager.{Site};
-ghost use Rattle.lazy_compile.specs.Alone.{IsReadAlone};
+ghost use Rattle.lazy_compile.specs.Alone.{ReadsAlone};
 ghost use Rattle.lazy_compile.specs.Delazified.{CanBeDelazified};
 ghost use Rattle.lazy_compile.specs.Texts.{AreTextsOf};
 
@@ -34,7 +34,7 @@ pub(crate) fn read_alone(
     texts: &[Text],
 ) -> Result<FunctionAlone, AllocError>
     requires { (chain : List LinkView) × (items : Stmts) × (m : Site) × CanBeDelazified file.now lazy.now texts.now chain items m }
-    ensures read { IfOk result (λ alone. (chain : List LinkView) (items : Stmts) (m : Site) → CanBeDelazified file.now lazy.now texts.now chain items m → IsReadAlone alone items m) }
+    ensures read { IfOk result (ReadsAlone file.now lazy.now texts.now) }
     ensures texts { IfOk result (λ alone. AreTextsOf file.now texts.now alone.texts.items) }
 {
     let mut atoms = Atoms::new(alloc);

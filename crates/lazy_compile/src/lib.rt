@@ -14,7 +14,7 @@
 ghost use Rattle.std.specs.Prelude.{IfOk};
 ghost use Rattle.script_grammar.specs.Tree.{Stmts};
 ghost use Rattle.compile_specs.specs.Eager.{Site};
-ghost use Rattle.lazy_compile.specs.Delazified.{CanBeDelazified, IsCompiledAlone};
+ghost use Rattle.lazy_compile.specs.Delazified.{CanBeDelazified, CompilesAlone};
 ghost use Rattle.lazy_compile.specs.Texts.{AreTextsOf};
 
 mod alone;
@@ -50,7 +50,7 @@ pub fn delazify(
     chain: &Chain,
 ) -> Result<Delazified, AllocError>
     requires { (items : Stmts) × (m : Site) × CanBeDelazified file.now lazy.now texts.now chain.now items m }
-    ensures compiled { IfOk result (λ made. (items : Stmts) (m : Site) → CanBeDelazified file.now lazy.now texts.now chain.now items m → IsCompiledAlone made m) }
+    ensures compiled { IfOk result (CompilesAlone file.now lazy.now texts.now chain.now) }
     ensures texts { IfOk result (λ made. AreTextsOf file.now texts.now made.texts.items) }
 {
     let FunctionAlone {

@@ -1,19 +1,8 @@
 //! The functions of a script.
 
-ghost use Rattle.std.specs.Prelude.{◌≡◌, IfOk, false};
-ghost use Rattle.parse_handlers.specs.FoundOf.{HoldsBody};
+ghost use Rattle.std.specs.Prelude.{◌≡◌, IfOk};
 ghost use Rattle.parse_track.specs.EarlyErrors.{error_of};
-ghost use Rattle.parse_track.specs.Notes.{first_note};
-ghost use Rattle.early_apart_laws.specs.Late.{late_stmts};
-ghost use Rattle.scope_analysis.specs.Functions.{inner_script};
-ghost use Rattle.script_grammar.specs.Braced.{braced_all};
-ghost use Rattle.script_grammar.specs.Interpretation.{Interpretation};
-ghost use Rattle.script_grammar.specs.Pieces.{whole};
-ghost use Rattle.script_grammar.specs.Proper.{ProperStmts};
-ghost use Rattle.script_grammar.specs.Shows.{ShowAll};
-ghost use Rattle.script_grammar.specs.Tree.{Stmts};
-ghost use Rattle.parse_function_list.specs.Placed.{ArePlaced};
-ghost use Rattle.parse_function_list.specs.Strict.{HasStrict};
+ghost use Rattle.parse_function_list.specs.Lists.{FindsLateError, ListsFunctions};
 
 use crate::listing::Listing;
 use parse_handlers::SyntaxBody;
@@ -76,8 +65,8 @@ pub fn functions_of(
     top: SyntaxBody,
     bodies: Vec<FoundBody>,
 ) -> Result<ScriptFunctions, AllocError>
-    ensures functions { IfOk result (λ made. (i : Interpretation) (items : Stmts) → ProperStmts whole false items → HoldsBody i top items → ShowAll (λ b. HoldsBody i b.found) bodies.items (braced_all items) → ArePlaced i made.functions.items (inner_script items)) }
-    ensures late { IfOk result (λ made. (i : Interpretation) (items : Stmts) → ProperStmts whole false items → HoldsBody i top items → ShowAll (λ b. HoldsBody i b.found) bodies.items (braced_all items) → ShowAll HasStrict bodies.items (braced_all items) → made.late ≡ first_note (late_stmts items)) }
+    ensures functions { IfOk result (λ made. ListsFunctions top bodies.items made.functions.items) }
+    ensures late { IfOk result (λ made. FindsLateError top bodies.items made.late) }
 {
     let mut listing = Listing::new(alloc, bodies);
     let mut directly = Vec::new(alloc);

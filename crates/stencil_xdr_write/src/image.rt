@@ -3,13 +3,12 @@
 ghost use Rattle.std.specs.Prelude.{◌≡◌, ◌^◌, ◌-◌, ◌<◌, List, length, IfOk};
 ghost use Rattle.stencil_data.specs.Named.{NamedMerged};
 ghost use Rattle.stencil_data.specs.StandsFor.{MergedStandsFor};
-ghost use Rattle.bytecode_buf.specs.Command.{Command, Listed, ShowsCommands};
-ghost use Rattle.bytecode_buf.specs.InRange.{InRange, TextsSmall};
+ghost use Rattle.bytecode_buf.specs.Command.{Listed};
+ghost use Rattle.bytecode_buf.specs.InRange.{InRange};
 ghost use Rattle.stencil_xdr_specs.specs.Image.{IsImageOf};
 ghost use Rattle.script_image.specs.Listed.{ShowsListed, listed_stencil};
-ghost use Rattle.session_image_specs.specs.Images.{IsImage};
 ghost use Rattle.stencil_xdr_laws.specs.Pieces.{image_of};
-ghost use Rattle.stencil_xdr_laws.specs.Sizes.{MergedSmall};
+ghost use Rattle.stencil_xdr_laws.specs.Written.{IsWrittenOf};
 ghost use Rattle.stencil_xdr_write.specs.Numbers as numbers;
 
 use crate::numbering::Numbering;
@@ -44,7 +43,7 @@ fn numbered_image(alloc: Global, merged: &MergedStencil) -> Result<Vec<u8>, Allo
     requires few { length merged.now.texts < 2 ^ 32 - 1 }
     ensures listed { IfOk result (λ bytes. bytes.items ≡ image_of (listed_stencil merged.now)) }
     ensures image { IfOk result (λ bytes. InRange merged.now → IsImageOf merged.now bytes.items) }
-    ensures script { IfOk result (λ bytes. TextsSmall merged.now.texts → (named : NamedMerged (List Command)) → MergedStandsFor ShowsCommands merged.now named → MergedSmall named → IsImage named bytes.items) }
+    ensures script { IfOk result (λ bytes. IsWrittenOf merged.now bytes.items) }
 {
     let mut numbering = Numbering::new(alloc, &merged.texts)?;
     hand_stencil(merged, &mut numbering)?;
@@ -59,9 +58,10 @@ fn numbered_image(alloc: Global, merged: &MergedStencil) -> Result<Vec<u8>, Allo
 /// It takes time linear in the stencil and the texts that it names.
 pub fn write_image(alloc: Global, merged: &MergedStencil) -> Result<Vec<u8>, AllocError>
     requires few { length merged.now.texts < 2 ^ 32 - 1 }
-    ensures value { IfOk result (λ bytes. (named : NamedMerged (List Listed)) → MergedStandsFor ShowsListed merged.now named → bytes.items ≡ image_of named) }
+    ensures value { IfOk result (λ bytes.
+        (named : NamedMerged (List Listed)) → MergedStandsFor ShowsListed merged.now named → bytes.items ≡ image_of named) }
     ensures image { IfOk result (λ bytes. InRange merged.now → IsImageOf merged.now bytes.items) }
-    ensures script { IfOk result (λ bytes. TextsSmall merged.now.texts → (named : NamedMerged (List Command)) → MergedStandsFor ShowsCommands merged.now named → MergedSmall named → IsImage named bytes.items) }
+    ensures script { IfOk result (λ bytes. IsWrittenOf merged.now bytes.items) }
 {
     numbered_image(alloc, merged)
 }

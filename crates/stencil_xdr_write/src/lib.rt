@@ -7,9 +7,9 @@
 //! The main contract: [`write_image`] answers the image of the value that a stencil stands for, whatever numbers its texts
 //! have there, and it asks for nothing but that the texts can be counted. So an atom that is no text's names the empty
 //! text, as it reads, and bytes after the last whole instruction of a code are left out. The image of a stencil in range is
-//! the stencil's own, and that of a small script is read again. One walk hands the items of a stencil to a [sink](sink), one after another, and it is gone twice. The first time the
-//! sink numbers the texts in the order in which they are named first; the second time it writes the items, each text by
-//! its new number. What the numbers of the stencil fit is learned on the way, where they are read.
+//! the stencil's own, and that of a small script is read again. One walk hands the items of a stencil to a [sink](sink), one after
+//! another, and it is gone twice. The first time the sink numbers the texts in the order in which they are named first; the second
+//! time it writes the items, each text by its new number. What the numbers of the stencil fit is learned on the way, where they are read.
 #![tactic(auto)]
 
 mod code;

@@ -1,10 +1,11 @@
-use Rattle.std.proofs.Common.{◌+◌, ◌≤◌, ◌∙◌, length, ap, sym, subst, arith}
+use Rattle.std.proofs.Common.{◌+◌, ◌^◌, ◌<◌, ◌≤◌, ◌∙◌, length, ap, sym, subst, arith}
 use Rattle.std.specs.Prelude.{reverse}
 use Rattle.stencil_data.specs.MergedView.{MergedView}
 use Rattle.stencil_data.specs.Views.{InitialView}
 use Rattle.compile_wanted.specs.Numbers.{to_show}
 use Rattle.compile_wanted.specs.Shows.{Shows}
-use Rattle.compile_shown.proofs.Steps.{flags_seen, flags_count, flags_length, shown_at_end}
+use Rattle.bytecode_buf.specs.InRange.{TextsSmall}
+use Rattle.compile_shown.proofs.Steps.{few_at_end, flags_seen, flags_count, flags_length, shown_at_end, small_at_end}
 use Rattle.compile_shown.proofs.compile_shown.Goals as goal
 
 pub compile_flagged-requires-clause-state : goal.compile_flagged-requires-clause-state
@@ -29,6 +30,24 @@ returns-clause-shown g c = λ is.
     (shown_at_end (to_show c.args.wanted) c.args.bytes.now c.args.initial.now is (length c.deref-3.result.now) (reverse c.compile_flagged.new.script.hands.items) c.compile_flagged.new.script.merger
     (flags_length (to_show c.args.wanted) c.args.initial.now.parts.records c.deref-3.result.now are)
     (c.in_ok-compile_flagged.ensures.state (to_show c.args.wanted) is are (c.in_ok-script.ensures (to_show c.args.wanted) c.args.bytes.now is)))
+
+pub returns-clause-few : goal.returns-clause-few
+returns-clause-few g c =
+    let want = to_show c.args.wanted in
+    let is = c.requires.initial in
+    let are = flags_seen want c.args.bytes.now c.args.initial.now is c.in_ok-ends.ends.items c.deref-2.result.now c.deref.result.now c.in_ok-flags.flags.items c.deref-3.result.now (c.deref.ensures.value ∙ ap (λ (p : InitialView). p.records) c.parts.view_is) c.in_ok-ends.ensures c.deref-2.ensures.value c.in_ok-flags.ensures c.deref-3.ensures.value in
+    subst (λ (m : MergedView). length m.texts < 2 ^ 31) (sym c.finish-merged.ensures.merged)
+    (few_at_end want c.args.bytes.now c.args.initial.now is (length c.deref-3.result.now) (reverse c.compile_flagged.new.script.hands.items) c.compile_flagged.new.script.merger
+    (c.in_ok-compile_flagged.ensures.state want is are (c.in_ok-script.ensures want c.args.bytes.now is)))
+
+pub returns-clause-small : goal.returns-clause-small
+returns-clause-small g c =
+    let want = to_show c.args.wanted in
+    let is = c.requires.initial in
+    let are = flags_seen want c.args.bytes.now c.args.initial.now is c.in_ok-ends.ends.items c.deref-2.result.now c.deref.result.now c.in_ok-flags.flags.items c.deref-3.result.now (c.deref.ensures.value ∙ ap (λ (p : InitialView). p.records) c.parts.view_is) c.in_ok-ends.ensures c.deref-2.ensures.value c.in_ok-flags.ensures c.deref-3.ensures.value in
+    subst (λ (m : MergedView). TextsSmall m.texts) (sym c.finish-merged.ensures.merged)
+    (small_at_end want c.args.bytes.now c.args.initial.now is (length c.deref-3.result.now) (reverse c.compile_flagged.new.script.hands.items) c.compile_flagged.new.script.merger
+    (c.in_ok-compile_flagged.ensures.state want is are (c.in_ok-script.ensures want c.args.bytes.now is)))
 
 pub returns-clause-counted : goal.returns-clause-counted
 returns-clause-counted g c =

@@ -1,0 +1,1 @@
+function f(a) { return () => { (a) => 1; (a = 2) => a; a => a } }

@@ -1,0 +1,1 @@
+{ const c = 1; c = 2; c++; c += 1; for (c in c); let l; l = 2; l++; --l; l **= 2; () => c }

@@ -1,0 +1,1 @@
+function f(e) { try {} catch (e) { var e; () => e } return () => e }

@@ -1,0 +1,1 @@
+function f(x) { for (let x in (() => x)()) ; for (let i = (() => i); ;) ; }

@@ -1,0 +1,1 @@
+function f() { return { [this.x]() { return this }, [(() => arguments)()]: 1 } }

@@ -1,0 +1,1 @@
+function f() { a: { for (x in y) { let z; () => z; switch (z) { default: let w; () => w; break a } } } }

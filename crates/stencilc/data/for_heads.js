@@ -1,0 +1,1 @@
+for (var v = 1, w; ; ) break; for (;;); for (x; y; z) continue; for (let q;;) { break }

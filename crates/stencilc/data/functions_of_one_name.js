@@ -1,0 +1,1 @@
+function f() { return; function g() {} var g; function g() {} }

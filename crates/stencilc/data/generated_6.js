@@ -1,0 +1,2 @@
+var b = { class: () => {b :{ let x = () => arguments &&/* c */-x-- == { q( ) { b => -function (c, f ,e=new { __proto__:e=> new function x ( g,y){ } ()? x|=d: 0b101, "p" : arguments} .prototype( null ,d ,this,)){let a = 1_000;function x(d ,x = a, p1 = "it's") {{{ function e ( e, d= b,g =false , ) { }255;; ; } };};}; }, in:x , set p( x ){; ; ; ;} } ||true; ;
+;; } }, in: d} . in**=/* c */x , f/* c */=x,of =/* c */this;

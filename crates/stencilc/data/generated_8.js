@@ -1,0 +1,2 @@
+d =>/* c */{ let e =get *=function d ( g= 1 >> [ function (static_){const x =( e,/* c */c,d= b [true,y => { ;; } ]|= ( x/* c */= 0B1_0 . p )=> ++g^f . constructor && c ^ {} &&x &&g) =>{function c(g= e ){function b/* c */( e , a ){const y = 0; d;
+  }{if ( g)while( 'a') for( false ; d/* c */; x )if( e) {let y =this;}else;;;} ; ; ; } ;;;;};; ; ; ;} ,d ] ) { } ? x : 0o17; ; ; }

@@ -1,0 +1,1 @@
+function f() { return; { function g() {} } var g; } var v; function h() {} v = h;

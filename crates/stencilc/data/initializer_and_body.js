@@ -1,0 +1,1 @@
+(x = 1) => { function x() {} let g; return () => x }

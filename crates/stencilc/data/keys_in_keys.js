@@ -1,0 +1,1 @@
+(function (a) { for (a in b) for (var c in a) { () => c } })

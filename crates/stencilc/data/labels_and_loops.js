@@ -1,0 +1,1 @@
+do { continue } while (x); while (x) { break } l: { break l } l: m: while (1) { continue l; }

@@ -1,0 +1,1 @@
+f: for (let x in o) { let y; () => x + y; for (a.b in p) { try { if (1) continue f; else break f; } catch { break } } }

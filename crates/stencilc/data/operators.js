@@ -1,0 +1,1 @@
+x = y = z; x.y = z.w = 1; x ? y : z; x && y || z; x ?? y ?? z; a ** b ** c; a + b - c; (a + b) * c; a, b, c;

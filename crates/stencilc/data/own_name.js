@@ -1,0 +1,1 @@
+(function g(a) { g = 1; g++; g += 2; for (g in a); return () => g = g })

@@ -1,0 +1,1 @@
+function f(a, b = () => x, c = 1) { let z = a; var x = 2, a, y; function g() { return a + x + z + b + arguments.length + this } return g }

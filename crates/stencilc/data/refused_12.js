@@ -1,0 +1,1 @@
+for (let [a] in b);

@@ -1,0 +1,1 @@
+function f() { for (var a in b) for (let c in d) { () => c; return 1 } return } 

@@ -1,0 +1,1 @@
+let a = 1; { let a = 2; { a = 3; var b = a } } () => a;

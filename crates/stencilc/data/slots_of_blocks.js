@@ -1,0 +1,1 @@
+function f() { { let a; { let b; } let c } { let d; () => d; let e } try {} catch (x) { let y } }

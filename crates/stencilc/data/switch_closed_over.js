@@ -1,0 +1,1 @@
+switch (a) { case 1: let x = 1; break; default: () => x; case b: function f() {} }

@@ -1,0 +1,1 @@
+l: for (var a in b) { switch (a) { case 1: continue l; case 2: break l; default: break } }

@@ -1,0 +1,1 @@
+var o = { m() { return this }, get a() { return arguments }, n: () => this };

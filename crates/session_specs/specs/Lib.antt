@@ -1,3 +1,4 @@
 pub mod Answer
+pub mod Compiled
 pub mod Refusals
 pub mod Sources

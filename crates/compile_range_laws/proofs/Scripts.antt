@@ -1,7 +1,6 @@
 -- What is shown of a script that was read without an error is small, and so its stencil is in range.
 use Rattle.std.proofs.Common.{◌≡◌, ℕ, ◌+◌, zero, suc, ◌-◌, ◌<◌, Bool, true, false, cond, nat_lt, List, [], ◌∷◌, length, map, filter, slice_get, Some, None, refl, sym, ◌∙◌, ap, ap₂, subst, inl, inr, arith}
 use Rattle.std.proofs.lemmas.List.{length-map}
-use Rattle.script_grammar.specs.declared.tree.Stmt.{Stmt}
 use Rattle.script_grammar.specs.Lexeme.{Lexeme}
 use Rattle.script_grammar.specs.Tree.{Function, function, Stmts}
 use Rattle.stencil_data.specs.declared.functions.Extent.{Extent}
@@ -13,7 +12,6 @@ use Rattle.bytecode_buf.specs.declared.opcode.Op.TheVariants as op
 use Rattle.bytecode_buf.specs.Command.{Command, Operand, Nothing, Number, Text, Aliased, Distance, Target}
 use Rattle.bytecode_buf.specs.InRange.{Small, NumbersWithin, InRange}
 use Rattle.bytecode_buf.specs.Width.{width_of}
-use Rattle.parse_track.specs.declared.region.ClosedAt.{ClosedAt}
 use Rattle.parse_track.specs.ClosedNames.{Bound}
 use Rattle.parse_track.specs.Notes.{closed_names}
 use Rattle.scope_analysis.specs.Closed.{closed_over}
@@ -24,6 +22,7 @@ use Rattle.scope_closed_laws.specs.Handed.{function_start}
 use Rattle.script_grammar.specs.NameTokens.{OfEachNameToken, IsNotThis}
 use Rattle.scope_closed_laws.specs.Sound.{IsSound}
 use Rattle.scope_closed_laws.proofs.Handing.{sound_function}
+use Rattle.compile_function.proofs.Shown.{same_closed}
 use Rattle.compile_specs.specs.Eager.{Site, AreFunctions, compiled_at}
 use Rattle.compile_specs.specs.Shown as shown
 use Rattle.compile_specs.specs.Shown.{Wanted, IsShown, number_of, numbers_of, closed_of, record_of, renumbered, with_numbers, entry, is_shown}
@@ -32,10 +31,7 @@ use Rattle.emit_limit_laws.specs.Limits.{ScriptStands}
 use Rattle.emit_limit_laws.proofs.EveryFunction.{every_stands}
 use Rattle.emit_limit_laws.specs.Offsets.{OffsetsRise, site_starts}
 use Rattle.emit_limit_laws.proofs.RisingSites.{sites_rise, sites_numbered}
-use Rattle.compile_eager.specs.Compiles.{IsOf}
 use Rattle.compile_wanted.specs.Shows.{Shows}
-use Rattle.compile_eager.proofs.Found.{same_start}
-use Rattle.compile_eager.proofs.Shown.{same_closed}
 use Rattle.stencil_xdr_laws.specs.Sizes as sizes
 use Rattle.stencil_xdr_laws.specs.Sizes.{Makes, AllMake, Lands, AllLand, code_size, IsNumber, PartSmall, RecordsSmall, extent_or, PartAgrees, EntryAgrees, EntriesAgree, MergedSmall}
 use Rattle.stencil_xdr_laws.specs.Texts.{TextsStand, CodesStand}
@@ -92,6 +88,9 @@ numbered starts part s w = record {
 
 start_is : (f : Function) → (extent_of f).start ≡ start_of f
 start_is (function form start end who ps comma bare body) = refl
+
+same_start : (f : Function) → function_start f ≡ start_of f
+same_start (function form start end who ps comma bare body) = refl
 
 all_start : (all : List Site) (is : List Inner) → ((i : Inner) → Among i is → Among (start_of i.func) (site_starts all)) → AllStart (site_starts all) (extents_of is)
 all_start all [] f = tt
@@ -245,8 +244,3 @@ is_shown_small tokens last items end want merged s plain h =
 pub shows_in_range : (tokens : List Lexeme) (last : Lexeme) (items : Stmts) (end : ℕ) (want : Wanted) (merged : MergedView) → ScriptStands tokens last items → OfEachNameToken IsNotThis tokens
     → Shows want items end merged → TextsStand merged.texts → CodesStand merged → InRange merged
 shows_in_range tokens last items end want merged s plain h t c = stencil_in_range merged h.named h.stands (is_shown_small tokens last items end want h.named s plain h.shown) t c
-
--- so that of statements that stand for such a script
-pub compiled_in_range : (texts : List (List ℕ)) (ss : List Stmt) (closed : List ClosedAt) (items : Stmts) (end : ℕ) (want : Wanted) (merged : MergedView) → IsOf texts ss closed items
-    → Shows want items end merged → TextsStand merged.texts → CodesStand merged → InRange merged
-compiled_in_range texts ss closed items end want merged is h t c = shows_in_range is.tokens is.last items end want merged is.stands is.plain h t c

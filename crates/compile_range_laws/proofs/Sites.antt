@@ -1,5 +1,5 @@
 -- The functions of a script at any depth: those directly in one are among them, and each stands well.
-use Rattle.std.proofs.Common.{◌≡◌, ℕ, List, [], ◌∷◌, ◌++◌, map, refl, sym, ◌∙◌, ap, subst, inl, inr}
+use Rattle.std.proofs.Common.{◌≡◌, ℕ, suc, List, [], ◌∷◌, ◌++◌, Contains, map, refl, sym, ◌∙◌, ap, subst, inl, inr, arith}
 use Rattle.script_grammar.specs.Tree.{Stmts}
 use Rattle.stencil_data.specs.LinkView.{LinkView}
 use Rattle.grammar_start_laws.specs.Own.{AllOf}
@@ -9,7 +9,6 @@ use Rattle.scope_analysis.specs.Scopes.{function_scopes, script_scopes}
 use Rattle.emit_stmts.specs.Functions.{chain_at}
 use Rattle.compile_specs.specs.Eager.{Site, sites, sites_in, top_sites, AllSites, no_sites, more_sites}
 use Rattle.emit_limit_laws.specs.EveryFunction.{Among, IsFunctionOf, at_top, inside}
-use Rattle.compile_eager.proofs.Found.{all_directly, all_inside}
 use Rattle.compile_range_laws.proofs.Numbers.{among_front, among_back}
 
 -- ---- lists
@@ -18,10 +17,13 @@ pub each_of : {X : Type 0} (P : X → Type 0) (xs : List X) → ((x : X) → Amo
 each_of P [] f = tt
 each_of P (x ∷ xs) f = (f x (inl refl), each_of P xs (λ y a. f y (inr a)))
 
-pub at_one : {X : Type 0} (P : X → Type 0) (x : X) (xs : List X) → AllOf P xs → Among x xs → P x
-at_one P x [] h a = absurd a
-at_one P x (y ∷ ys) h (inl e) = subst P e h.0
-at_one P x (y ∷ ys) h (inr a) = at_one P x ys h.1 a
+contained : {X : Type 0} (x : X) (xs : List X) → Among x xs → Contains xs x
+contained x [] a = absurd a
+contained x (y ∷ ys) (inl e) = (0, omega arith, e)
+contained x (y ∷ ys) (inr a) =
+    let c = contained x ys a in
+    let within = c.1 in
+    (suc c.0, omega (arith, within), c.2)
 
 -- ---- functions, and the sites where they stand
 
@@ -80,8 +82,8 @@ sites_at items end all are = all_at items (top_sites items end) all are (λ s a.
 
 -- so they are functions of it as its closed names are spoken of
 pub known : (items : Stmts) (i : Inner) (chain : List LinkView) → IsFunctionOf items i chain → closed.IsFunctionOf items i
-known items i chain (at_top i' chain' a e) = at_one (closed.IsFunctionOf items) i' (inner_script items) (all_directly items) a
-known items i chain (inside outer around i' chain' of a e) = at_one (closed.IsFunctionOf items) i' (inner_function outer.kind outer.name outer.func) (all_inside items outer (known items outer around of)) a
+known items i chain (at_top i' chain' a e) = closed.directly i' (contained i' (inner_script items) a)
+known items i chain (inside outer around i' chain' of a e) = closed.inside outer i' (known items outer around of) (contained i' (inner_function outer.kind outer.name outer.func) a)
 
 -- ---- those directly in one are listed
 

@@ -1,5 +1,5 @@
 -- One file: what is printed is its answer.
-use Rattle.std.proofs.Common.{◌≡◌, ℕ, true, false, List, [], ◌++◌, length, Option, Some, None, Vec, ap, refl, sym, ◌∙◌, subst, codes}
+use Rattle.std.proofs.Common.{◌≡◌, ℕ, true, false, List, ◌++◌, length, Option, Some, None, Vec, ap, refl, sym, ◌∙◌, subst, codes}
 use Rattle.std.specs.Fmt.{decimal}
 use Rattle.std.specs.declared.alloc.Global.{Global}
 use Rattle.session_outside.specs.Loops.{IsWholeBehind}
@@ -7,8 +7,9 @@ use Rattle.session_words.specs.declared.options.Command.{Command}
 use Rattle.session_words.specs.declared.options.Command.TheVariants as command
 use Rattle.session_words.specs.Asked.{Job, Wanted, All}
 use Rattle.session_specs.specs.Answer.{IsWritten, most_bytes}
+use Rattle.session_specs.specs.Compiled.{shows_scripts}
 use Rattle.session_specs.specs.Refusals.{refusal_line}
-use Rattle.session_specs.specs.Sources.{IsScript, IsRefused, IsSource, IsLeastOf, HasAll, LacksFunction, missing}
+use Rattle.session_specs.specs.Sources.{IsScript, IsRefused, IsSource, IsLeastOf, LacksFunction, missing}
 use Rattle.compile_first_pass.specs.declared.pass.SourceFault.{SourceFault}
 use Rattle.compile_first_pass.specs.declared.pass.SourceFault.TheVariants as fault
 use Rattle.compile_first_pass.specs.declared.pass.SyntaxScript.{SyntaxScript}
@@ -16,14 +17,10 @@ use Rattle.compile_first_pass.specs.Passes.{IsSyntaxOf}
 use Rattle.compile_first_pass.specs.Passes as pass
 use Rattle.compile_session.specs.declared.answer.FileAnswer.{FileAnswer}
 use Rattle.compile_session.specs.declared.refusal.Refusal.{Refusal}
-use Rattle.compile_session.specs.declared.trees.ScriptTrees.{ScriptTrees}
-use Rattle.compile_session.specs.declared.trees.SourceTrees.{SourceTrees}
-use Rattle.compile_session.specs.declared.trees.SourceTrees.TheVariants as trees
 use Rattle.compile_session.specs.declared.source.SourceText.{SourceText}
 use Rattle.compile_session.specs.declared.source.SourceText.TheVariants as source
 use Rattle.compile_session.specs.Built.{is_built, is_source}
-use Rattle.compile_session.specs.Answers.{IsAnswerFor, IsMissing, IsScriptOf, IsSourceText, AreTreesOf, AreSourceTrees, SettlesRead, refusal_of}
-use Rattle.compile_session.specs.Listed.{is_listed}
+use Rattle.compile_session.specs.Answers.{IsAnswerFor, IsMissing, IsScriptOf, IsSourceText, SettlesRead, refusal_of}
 use Rattle.compile_session.proofs.SourceLemmas.{answers_source, settles_within}
 
 -- ---- commands
@@ -37,25 +34,16 @@ is_of_source command.Save b l v = refl
 is_of_source command.Load b l v = absurd (l refl)
 is_of_source command.Verify b l v = absurd (v refl)
 
--- a command that lists takes files as source text
-pub is_of_listed : (c : Command) → is_listed c ≡ true → is_source c ≡ true
-is_of_listed command.Code h = refl
-is_of_listed command.Scopes h = refl
-is_of_listed command.Check h = absurd (cc)
-is_of_listed command.Save h = absurd (cc)
-is_of_listed command.Load h = absurd (cc)
-is_of_listed command.Verify h = absurd (cc)
+-- a command over source text shows scripts, unless it only checks
+pub shows_unless_check : (c : Command) → is_source c ≡ true → (c ≡ command.Check → ⊥) → shows_scripts c ≡ true
+shows_unless_check command.Code b h = refl
+shows_unless_check command.Scopes b h = refl
+shows_unless_check command.Check b h = absurd (h refl)
+shows_unless_check command.Save b h = refl
+shows_unless_check command.Load b h = absurd (cc)
+shows_unless_check command.Verify b h = absurd (cc)
 
--- a command over source text lists, unless it only checks or saves
-pub lists : (c : Command) → is_source c ≡ true → (c ≡ command.Check → ⊥) → (c ≡ command.Save → ⊥) → is_listed c ≡ true
-lists command.Code b h s = refl
-lists command.Scopes b h s = refl
-lists command.Check b h s = absurd (h refl)
-lists command.Save b h s = absurd (s refl)
-lists command.Load b h s = absurd (cc)
-lists command.Verify b h s = absurd (cc)
-
--- ---- source text, read without trees
+-- ---- source text
 
 -- why a file is no script without errors does not depend on what is wanted of it
 pub any_want : (want : Wanted) (file : List ℕ) (fault : SourceFault) → IsSource All file (IsRefused (pass.refusal_of fault)) → IsSource want file (IsRefused (pass.refusal_of fault))
@@ -78,24 +66,19 @@ lacks_one want file script count o n s counted least some = record {
   least = subst (λ (m : ℕ). IsLeastOf (missing m want) n) counted (subst (λ (x : Option ℕ). IsMissing want count x) some least);
 }
 
-pub answers_checked : (want : Wanted) (name file : List ℕ) (o : SourceText) (script : SyntaxScript) (functions : ℕ) (text : Vec ℕ Global) → IsSourceText want file o → o ≡ source.Script script → functions ≡ length script.functions.items
-    → text.items ≡ name ++ codes ": ok, " ++ decimal functions ++ codes " functions\n" → IsAnswerFor command.Check want name file (record { text = text; refused = false })
-answers_checked want name file o script functions text comes is counted printed =
-    let s : IsScriptOf want file script = subst (λ (x : SourceText). IsSourceText want file x) is comes in
-    let has : HasAll file want s.is.items (length script.functions.items) = record { valid = s.is.valid; present = s.present } in
-    answers_source command.Check want name file (record { text = text; refused = false }) (IsScript s.is.items (length script.functions.items)) refl has
-    (printed ∙ ap (λ (n : ℕ). name ++ codes ": ok, " ++ decimal n ++ codes " functions\n") counted, refl)
+pub script_is : (want : Wanted) (file : List ℕ) (o : SourceText) (script : SyntaxScript) → IsSourceText want file o → o ≡ source.Script script → IsScriptOf want file script
+script_is want file o script comes is = subst (λ (x : SourceText). IsSourceText want file x) is comes
 
--- ---- source text with its trees
+pub answers_script : (c : Command) (want : Wanted) (name file : List ℕ) (script : SyntaxScript) (answer : FileAnswer) → is_source c ≡ true → (s : IsScriptOf want file script)
+    → IsWritten c want name (length file) s.is.items (length script.functions.items) answer.text.items → answer.refused ≡ false → IsAnswerFor c want name file answer
+answers_script c want name file script answer built s written fine =
+    answers_source c want name file answer (IsScript s.is.items (length script.functions.items)) built (record { valid = s.is.valid; present = s.present }) (written, fine)
 
-pub trees_are : (want : Wanted) (file : List ℕ) (o : SourceTrees) (script : ScriptTrees) → AreSourceTrees want file o → o ≡ trees.Script script → AreTreesOf want file script
-trees_are want file o script comes is = subst (λ (x : SourceTrees). AreSourceTrees want file x) is comes
-
-pub answers_trees : (c : Command) (want : Wanted) (name file : List ℕ) (o : SourceTrees) (script : ScriptTrees) (text : Vec ℕ Global) → is_source c ≡ true → AreSourceTrees want file o → o ≡ trees.Script script
-    → ((is : AreTreesOf want file script) → IsWritten c want name (length file) is.items script.functions text.items) → IsAnswerFor c want name file (record { text = text; refused = false })
-answers_trees c want name file o script text built comes is written =
-    let s = trees_are want file o script comes is in
-    answers_source c want name file (record { text = text; refused = false }) (IsScript s.items script.functions) built s.has (written s, refl)
+pub answers_checked : (c : Command) (want : Wanted) (name file : List ℕ) (script : SyntaxScript) (functions : ℕ) (answer : FileAnswer) → c ≡ command.Check → IsScriptOf want file script → functions ≡ length script.functions.items
+    → answer.text.items ≡ name ++ codes ": ok, " ++ decimal functions ++ codes " functions\n" → answer.refused ≡ false → IsAnswerFor c want name file answer
+answers_checked c want name file script functions answer is s counted printed fine =
+    subst (λ (x : Command). IsAnswerFor x want name file answer) (sym is)
+    (answers_script command.Check want name file script answer refl s (printed ∙ ap (λ (n : ℕ). name ++ codes ": ok, " ++ decimal n ++ codes " functions\n") counted) fine)
 
 -- ---- refused source text
 

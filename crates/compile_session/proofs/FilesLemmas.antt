@@ -1,5 +1,5 @@
 -- Many files: their answer is put together from those of each, and there is no other.
-use Rattle.std.proofs.Common.{◌≡◌, ℕ, zero, suc, ◌+◌, ◌<◌, ◌≤◌, Bool, true, false, List, [], ◌∷◌, ◌++◌, length, min, Option, Vec, map, take, drop, get_or, refl, ap, sym, ◌∙◌, subst, append_assoc, append-nil, arith, Some, None}
+use Rattle.std.proofs.Common.{◌≡◌, ℕ, zero, suc, ◌+◌, ◌^◌, ◌<◌, ◌≤◌, Bool, true, false, List, [], ◌∷◌, ◌++◌, length, min, Option, Vec, map, take, drop, get_or, refl, ap, sym, ◌∙◌, subst, append_assoc, append-nil, arith, Some, None}
 use Rattle.std.specs.Prelude.{◌||◌, slice_get}
 use Rattle.std.specs.String.{string_bytes}
 use Rattle.std.specs.declared.alloc.Global.{Global}
@@ -129,6 +129,13 @@ within_at most reads index read all h is = subst (λ (r : Option (Vec ℕ Global
     by (r ∷ rs) zero a k = a.0
     by (r ∷ rs) (suc i) a k = by rs i a.1 (omega (arith, k))
 
+-- one of the answers: the functions that were compiled for it can be counted in 32 bits
+pub few_at : (j : FileJob) (reads : List (Option (Vec ℕ Global))) (count index : ℕ) (answers : List FileAnswer) (answer : FileAnswer) → SettleFiles (job j) reads count answers → slice_get answers index ≡ Some answer → (index < count) × (answer.compiled < 2 ^ 32)
+few_at j reads count index answers answer all is =
+    let inside = slice_get_within answers index answer is in
+    let long = all.long in
+    (omega (arith, inside, long), (all.each index answer is).few)
+
 -- the loop goes on
 pub answered_more : (j : FileJob) (reads : List (Option (Vec ℕ Global))) (count index next : ℕ) (answers : List FileAnswer) (text new : List ℕ) (refused now : Bool) (answer : FileAnswer)
     → SettleFiles (job j) reads count answers → count ≤ length j.files.items → count ≤ length reads → slice_get answers index ≡ Some answer
@@ -142,7 +149,7 @@ answered_more j reads count index next answers text new refused now answer all n
     let h : index < length names = omega (arith, inside, counted, named, long) in
     let k : index < length reads = omega (arith, inside, counted, are_read) in
     let settles : SettlesRead (job j) (get_or names index []) (get_or reads index None) answer =
-    all.each index answer is (get_or names index []) (get_or reads index None) (slice_get-get_or names index [] h) (slice_get-get_or reads index None k) in
+    (all.each index answer is).settles (get_or names index []) (get_or reads index None) (slice_get-get_or names index [] h) (slice_get-get_or reads index None k) in
     let more = answering_more (job j) names reads index text new answer.text.items refused answer.refused (get_or names index []) (get_or reads index None) [] None h k refl refl settles grown at in
     subst (λ (n : ℕ). IsAnswering (job j) names reads n new now) (sym one) (subst (λ (x : Bool). IsAnswering (job j) names reads (index + 1) new x) (sym or) more)
 

@@ -2,12 +2,10 @@ pub mod FaultLemmas
 pub mod FileLemmas
 pub mod FilesLemmas
 pub mod ImageLemmas
-pub mod KeptLemmas
 pub mod ListingLemmas
 pub mod OrderLemmas
-pub mod OutcomeLemmas
 pub mod RunLemmas
-pub mod SavingLemmas
+pub mod ShownLemmas
 pub mod SourceLemmas
 pub mod TrialLemmas
 pub mod WordLaws

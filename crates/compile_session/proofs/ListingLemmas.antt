@@ -1,27 +1,8 @@
--- The listing of a script: the least of the numbers that are missing, and what is written.
+-- The least of the numbers that are missing.
 use Rattle.std.proofs.Common.{◌≡◌, ℕ, ◌+◌, ◌<◌, ◌≤◌, ◌⊎◌, inl, inr, Bool, true, cond, nat_lt, List, [], ◌∷◌, ◌++◌, length, take, get_or, Option, Some, None, MatchOption, ap, sym, subst, ◌∙◌, arith, filter, Contains, append-nil}
 use Rattle.std.proofs.lemmas.Bool.{lt-ltb, le-ltb}
 use Rattle.std.proofs.lemmas.List.Elements.{All-nil, All-same, All-push, All-weaker, Contains-append_left, Contains-push, filter_more}
-use Rattle.script_grammar.specs.declared.tree.Stmt.{Stmt}
-use Rattle.script_grammar.specs.Tree.{Stmts}
-use Rattle.stencil_data.specs.MergedView.{MergedView}
-use Rattle.stencil_data.specs.Named.{NamedMerged}
-use Rattle.stencil_data.specs.StandsFor.{MergedStandsFor}
-use Rattle.bytecode_buf.specs.Command.{Listed}
-use Rattle.script_image.specs.Listed.{ShowsListed}
-use Rattle.script_image.specs.ScriptLines.{code_text, scope_text, listed_merged}
-use Rattle.script_image.proofs.Stands.{commands_as_listed}
-use Rattle.session_words.specs.declared.options.Command.{Command}
-use Rattle.session_words.specs.declared.options.Command.TheVariants as command
-use Rattle.session_words.specs.Asked.{Wanted}
-use Rattle.session_specs.specs.Answer.{IsWritten, file_line, to_show}
 use Rattle.session_specs.specs.Sources.{IsLeastOf}
-use Rattle.parse_track.specs.declared.region.ClosedAt.{ClosedAt}
-use Rattle.compile_eager.specs.Compiles.{IsOf}
-use Rattle.compile_wanted.specs.Shows.{Shows}
-use Rattle.compile_session.specs.Listed.{is_listed, listed_text}
-
--- ---- the least number that is missing
 
 -- those of these numbers that are above the count
 abbrev pub above : ℕ → List ℕ → List ℕ
@@ -67,24 +48,3 @@ pub least_more : (count : ℕ) (ns : List ℕ) (i : ℕ) (one new : Option ℕ) 
     → MatchOption one (m ≡ get_or ns i 0) (λ k. (m ≡ k) ⊎ (m ≡ get_or ns i 0)) → (m ≤ get_or ns i 0) × MatchOption one (Unit {0}) (λ k. m ≤ k) → new ≡ Some m → IsLeast (above count (take (i + 1) ns)) new
 least_more count ns i one new m within high h is least same =
     subst (IsLeast (above count (take (i + 1) ns))) (sym same) (subst (λ (l : List ℕ). IsLeastOf l m) (sym (above_more count ns i within high)) (least_with (above count (take i ns)) one (get_or ns i 0) m h is least))
-
--- ---- what is compiled
-
--- the same of what the calls saw
-pub of_seen : (texts seen_texts : List (List ℕ)) (top seen_top : List Stmt) (closed seen_closed : List ClosedAt) (items : Stmts) → seen_texts ≡ texts → seen_top ≡ top → seen_closed ≡ closed → IsOf texts top closed items → IsOf seen_texts seen_top seen_closed items
-of_seen texts seen_texts top seen_top closed seen_closed items t s c of =
-    subst (λ (x : List (List ℕ)). IsOf x seen_top seen_closed items) (sym t)
-    (subst (λ (x : List Stmt). IsOf texts x seen_closed items) (sym s) (subst (λ (x : List ClosedAt). IsOf texts top x items) (sym c) of))
-
--- ---- what is written
-
-pub written : (command : Command) (want : Wanted) (name : List ℕ) (size : ℕ) (items : Stmts) (count : ℕ) (shown : MergedView) (front out : List ℕ) → is_listed command ≡ true → front ≡ file_line name
-    → ((named : NamedMerged (List Listed)) → MergedStandsFor ShowsListed shown named → out ≡ front ++ listed_text command named) → Shows (to_show want) items size shown → IsWritten command want name size items count out
-written command.Code want name size items count shown front out listed line appended s =
-    (s.named, s.shown, appended (listed_merged s.named) (commands_as_listed shown s.named s.stands) ∙ ap (λ (l : List ℕ). l ++ code_text (listed_merged s.named)) line)
-written command.Scopes want name size items count shown front out listed line appended s =
-    (s.named, s.shown, appended (listed_merged s.named) (commands_as_listed shown s.named s.stands) ∙ ap (λ (l : List ℕ). l ++ scope_text (listed_merged s.named)) line)
-written command.Check want name size items count shown front out listed line appended s = absurd (cc)
-written command.Save want name size items count shown front out listed line appended s = absurd (cc)
-written command.Load want name size items count shown front out listed line appended s = absurd (cc)
-written command.Verify want name size items count shown front out listed line appended s = absurd (cc)

@@ -1,5 +1,5 @@
 -- What is known of one file of a command, and of what a worker answers for it.
-use Rattle.std.proofs.Common.{◌≡◌, ℕ, suc, zero, ◌<◌, List, [], ◌∷◌, length, Option, Some, Vec, String, map, ap, ◌∙◌, subst, arith, slice_index_or}
+use Rattle.std.proofs.Common.{◌≡◌, ℕ, suc, zero, ◌^◌, ◌<◌, List, [], ◌∷◌, length, Option, Some, Vec, String, map, ap, ◌∙◌, subst, arith, slice_index_or}
 use Rattle.std.specs.Prelude.{slice_get}
 use Rattle.std.specs.String.{string_bytes}
 use Rattle.std.specs.declared.alloc.Global.{Global}
@@ -33,16 +33,19 @@ named_at (x ∷ xs) (suc n) e name h = named_at xs n e name h
 
 -- an answer for a file by its name and what was read of it is that for the file of this number
 pub settles_named : (j : FileJob) (reads : List (Option (Vec ℕ Global))) (number : ℕ) (e : String Global) (d : Option (Vec ℕ Global)) (answer : FileAnswer)
-    → SettlesRead (job j) (string_bytes (slice_index_or j.files.items number e)) (slice_index_or reads number d) answer → SettlesFile (job j) reads number answer
-settles_named j reads number e d answer settles name read named is =
-    subst (λ (r : Option (Vec ℕ Global)). SettlesRead (job j) name r answer) (got reads number d read is)
-    (subst (λ (n : List ℕ). SettlesRead (job j) n (slice_index_or reads number d) answer) (named_at j.files.items number e name named) settles)
+    → SettlesRead (job j) (string_bytes (slice_index_or j.files.items number e)) (slice_index_or reads number d) answer → answer.compiled < 2 ^ 32 → SettlesFile (job j) reads number answer
+settles_named j reads number e d answer settles few = record {
+  settles = λ name read named is.
+      subst (λ (r : Option (Vec ℕ Global)). SettlesRead (job j) name r answer) (got reads number d read is)
+      (subst (λ (n : List ℕ). SettlesRead (job j) n (slice_index_or reads number d) answer) (named_at j.files.items number e name named) settles);
+  few = few;
+}
 
 -- the same of a name as it was taken out of the list
 pub settles_taken : (j : FileJob) (reads : List (Option (Vec ℕ Global))) (number : ℕ) (item : String Global) (text : List ℕ) (d : Option (Vec ℕ Global)) (answer : FileAnswer)
-    → item ≡ slice_index_or j.files.items number item → text ≡ string_bytes item → SettlesRead (job j) text (slice_index_or reads number d) answer → SettlesFile (job j) reads number answer
-settles_taken j reads number item text d answer is_item is_text settles =
-    settles_named j reads number item d answer (subst (λ (n : List ℕ). SettlesRead (job j) n (slice_index_or reads number d) answer) (is_text ∙ ap string_bytes is_item) settles)
+    → item ≡ slice_index_or j.files.items number item → text ≡ string_bytes item → SettlesRead (job j) text (slice_index_or reads number d) answer → answer.compiled < 2 ^ 32 → SettlesFile (job j) reads number answer
+settles_taken j reads number item text d answer is_item is_text settles few =
+    settles_named j reads number item d answer (subst (λ (n : List ℕ). SettlesRead (job j) n (slice_index_or reads number d) answer) (is_text ∙ ap string_bytes is_item) settles) few
 
 -- what all tasks give are the answers for all files
 pub settle_files : (j : FileJob) (reads : List (Option (Vec ℕ Global))) (count : ℕ) (answers : List FileAnswer) → length answers ≡ count → GivesEach (λ (number : ℕ) (answer : FileAnswer). SettlesFile (job j) reads number answer) answers → SettleFiles (job j) reads count answers

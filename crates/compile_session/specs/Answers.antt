@@ -1,29 +1,17 @@
 -- What the calls for one file answer.
-use Rattle.std.specs.Prelude.{◌≡◌, ℕ, ◌^◌, ◌<◌, Bool, List, [], length, Option, Some, None, Vec}
+use Rattle.std.specs.Prelude.{◌≡◌, ℕ, Bool, List, [], length, Option, Some, None, Vec}
 use Rattle.std.specs.declared.alloc.Global.{Global}
-use Rattle.script_grammar.specs.declared.tree.Stmt.{Stmt}
-use Rattle.script_grammar.specs.Tree.{Stmts}
-use Rattle.bytecode_buf.specs.InRange.{TextsSmall}
 use Rattle.session_outside.specs.Loops.{IsWholeBehind}
-use Rattle.parse_bodies.specs.declared.whole.Script.{Script}
-use Rattle.parse_bodies.specs.Whole.{IsText}
-use Rattle.parse_script.specs.declared.file_tokens.FileTokens.{FileTokens}
-use Rattle.parse_script.specs.Tokens.{tokens_in}
-use Rattle.early_errors.specs.Kept.{AreKept}
 use Rattle.session_words.specs.declared.options.Command.{Command}
 use Rattle.session_words.specs.Asked.{Wanted, Job}
 use Rattle.session_specs.specs.Answer as answer
 use Rattle.session_specs.specs.Answer.{IsOfFile, most_bytes}
 use Rattle.session_specs.specs.Refusals as line
-use Rattle.session_specs.specs.Sources.{IsSource, IsRefused, HasAll, IsLeastOf, missing}
-use Rattle.compile_eager.specs.Compiles.{IsOf}
+use Rattle.session_specs.specs.Sources.{IsSource, IsRefused, IsLeastOf, missing}
 use Rattle.compile_first_pass.specs.declared.pass.SyntaxScript.{SyntaxScript}
 use Rattle.compile_first_pass.specs.Passes.{IsSyntaxOf}
 use Rattle.compile_first_pass.specs.Passes as pass
 use Rattle.compile_session.specs.declared.answer.FileAnswer.{FileAnswer}
-use Rattle.compile_session.specs.declared.trees.ScriptTrees.{ScriptTrees}
-use Rattle.compile_session.specs.declared.trees.SourceTrees.{SourceTrees}
-use Rattle.compile_session.specs.declared.trees.SourceTrees.TheVariants as trees
 use Rattle.compile_session.specs.declared.source.SourceText.{SourceText}
 use Rattle.compile_session.specs.declared.source.SourceText.TheVariants as source
 use Rattle.compile_session.specs.declared.refusal.Refusal.{Refusal}
@@ -41,7 +29,7 @@ abbrev pub IsMissing : Wanted → ℕ → Option ℕ → Type 0
 IsMissing want count None = missing count want ≡ []
 IsMissing want count (Some number) = IsLeastOf (missing count want) number
 
--- The script that a file is, read without trees, has the functions that are wanted.
+-- The file is this script without errors, which has the functions that are wanted.
 pub record IsScriptOf (want : Wanted) (file : List ℕ) (script : SyntaxScript) : Type 0 where
   pub is : IsSyntaxOf file script
   pub present : missing (length script.functions.items) want ≡ []
@@ -50,26 +38,6 @@ pub record IsScriptOf (want : Wanted) (file : List ℕ) (script : SyntaxScript) 
 abbrev pub IsSourceText : Wanted → List ℕ → SourceText → Type 0
 IsSourceText want file (source.Script script) = IsScriptOf want file script
 IsSourceText want file (source.Refused why) = IsSource want file (IsRefused (refusal_of why))
-
--- The trees are those of the script that a file is, which has the functions that are wanted. Its texts are small, and fewer than
--- 2^31.
-pub record AreTreesOf (want : Wanted) (file : List ℕ) (script : ScriptTrees) : Type 0 where
-  pub items : Stmts
-  pub has : HasAll file want items script.functions
-  pub of : IsOf script.texts.items script.top.items script.closed.items items
-  pub long : script.size ≡ length file
-  pub small : TextsSmall script.texts.items
-  pub few : length script.texts.items < 2 ^ 31
-
--- what a file of source text is, with its trees
-abbrev pub AreSourceTrees : Wanted → List ℕ → SourceTrees → Type 0
-AreSourceTrees want file (trees.Script script) = AreTreesOf want file script
-AreSourceTrees want file (trees.Refused why) = IsSource want file (IsRefused (refusal_of why))
-
--- kept trees stand for this script of the file, and for its bodies
-pub record IsKeptScript (file : FileTokens) (script : Script (Vec Stmt Global)) (items : Stmts) : Type 0 where
-  pub text : IsText (tokens_in file) items
-  pub kept : AreKept file.texts.items script.top.items script.bodies.items items
 
 -- what is written for a file that is within the limit, and whether it is refused: this, and nothing else
 pub record IsAnswerFor (command : Command) (want : Wanted) (name file : List ℕ) (given : FileAnswer) : Type 0 where

@@ -1,20 +1,24 @@
--- Which commands list scripts, and what.
-use Rattle.std.specs.Prelude.{ℕ, List, Bool, true, false}
+-- What commands write of scripts.
+use Rattle.std.specs.Prelude.{ℕ, ◌≤◌, List, length}
+use Rattle.script_grammar.specs.Tree.{Stmts}
+use Rattle.stencil_data.specs.MergedView.{MergedView}
 use Rattle.stencil_data.specs.Named.{NamedMerged}
 use Rattle.bytecode_buf.specs.Command.{Listed}
 use Rattle.session_words.specs.declared.options.Command.{Command}
 use Rattle.session_words.specs.declared.options.Command.TheVariants as command
+use Rattle.session_words.specs.Asked.{Wanted}
 use Rattle.script_image.specs.ScriptLines.{code_text, scope_text}
-
-abbrev pub is_listed : Command → Bool
-is_listed command.Code = true
-is_listed command.Scopes = true
-is_listed command.Check = false
-is_listed command.Save = false
-is_listed command.Load = false
-is_listed command.Verify = false
+use Rattle.session_specs.specs.Answer.{IsWritten, most_bytes, to_show}
+use Rattle.session_specs.specs.Sources.{IsValid}
+use Rattle.compile_wanted.specs.Shows.{Shows}
 
 -- the listing: of scopes, or else of code
 abbrev pub listed_text : Command → NamedMerged (List Listed) → List ℕ
 listed_text command.Scopes named = scope_text named
 listed_text _ named = code_text named
+
+-- this is what the command writes of every script without errors that the stencil shows, whatever file it is
+abbrev pub IsWrittenFor : Command → List ℕ → MergedView → List ℕ → Type 0
+IsWrittenFor command name shown out =
+    (want : Wanted) (file : List ℕ) (items : Stmts) (count : ℕ) → length file ≤ most_bytes → IsValid file items count → Shows (to_show want) items (length file) shown
+    → IsWritten command want name (length file) items count out

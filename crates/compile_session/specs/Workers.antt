@@ -1,5 +1,5 @@
 -- The files of a command, each answered by itself: by which worker, and after which others, is of no matter.
-use Rattle.std.specs.Prelude.{◌≡◌, ℕ, ◌≤◌, true, List, length, Option, Some, Vec, slice_get}
+use Rattle.std.specs.Prelude.{◌≡◌, ℕ, ◌^◌, ◌≤◌, ◌<◌, true, List, length, Option, Some, Vec, slice_get}
 use Rattle.std.specs.declared.alloc.Global.{Global}
 use Rattle.session_outside.specs.Loops.{HaveAtMost}
 use Rattle.session_words.specs.declared.options.FileJob.{FileJob}
@@ -16,9 +16,10 @@ pub record CanBeAnswered (job : FileJob) (reads : List (Option (Vec ℕ Global))
   pub named : count ≤ length job.files.items
   pub read : count ≤ length reads
 
--- this is the answer for the file of this number, by what was read of it
-abbrev pub SettlesFile : Job → List (Option (Vec ℕ Global)) → ℕ → FileAnswer → Type 0
-SettlesFile job reads number answer = (name : List ℕ) (read : Option (Vec ℕ Global)) → slice_get job.files number ≡ Some name → slice_get reads number ≡ Some read → SettlesRead job name read answer
+-- This is the answer for the file of this number, by what was read of it. The functions that were compiled for it can be counted in 32 bits.
+pub record SettlesFile (job : Job) (reads : List (Option (Vec ℕ Global))) (number : ℕ) (answer : FileAnswer) : Type 0 where
+  pub settles : (name : List ℕ) (read : Option (Vec ℕ Global)) → slice_get job.files number ≡ Some name → slice_get reads number ≡ Some read → SettlesRead job name read answer
+  pub few : answer.compiled < 2 ^ 32
 
 -- these are the answers for so many files, in their order
 pub record SettleFiles (job : Job) (reads : List (Option (Vec ℕ Global))) (count : ℕ) (answers : List FileAnswer) : Type 0 where

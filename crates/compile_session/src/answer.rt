@@ -13,16 +13,20 @@ use std::alloc::{AllocError, Global};
 pub struct FileAnswer {
     pub text: Vec<u8>,
     pub refused: bool,
+    /// How many functions were compiled for it.
+    pub compiled: u64,
 }
 
 /// The answer for a file that is refused.
 pub(crate) fn refused(alloc: Global, name: &str, why: Refusal) -> Result<FileAnswer, AllocError>
     ensures text { IfOk result (λ answer. answer.text.items ≡ refusal_line name.now (refusal_of why)) }
     ensures refused { IfOk result (λ answer. answer.refused ≡ true) }
+    ensures idle { IfOk result (λ answer. answer.compiled ≡ 0) }
 {
     let text = refusal_text(alloc, name, why)?;
     Ok(FileAnswer {
         text,
         refused: true,
+        compiled: 0,
     })
 }

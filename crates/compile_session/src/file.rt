@@ -1,6 +1,6 @@
 //! What is printed for one file.
 
-ghost use Rattle.std.specs.Prelude.{◌≡◌, true, IfOk};
+ghost use Rattle.std.specs.Prelude.{◌≡◌, ◌<◌, ◌^◌, true, IfOk};
 ghost use Rattle.session_outside.specs.Loops.{HasAtMost};
 ghost use Rattle.session_specs.specs.Answer.{most_bytes};
 ghost use Rattle.session_words.specs.Asked as asked;
@@ -26,7 +26,8 @@ pub(crate) fn answer_of(
 ) -> Result<FileAnswer, AllocError>
     requires built { is_built job.now.command ≡ true }
     requires within { HasAtMost most_bytes bytes.now }
-    ensures { IfOk result (SettlesRead (asked.job job.now) name.now bytes.now) }
+    ensures settles { IfOk result (SettlesRead (asked.job job.now) name.now bytes.now) }
+    ensures few { IfOk result (λ answer. answer.compiled < 2 ^ 32) }
 {
     let Some(bytes) = bytes else {
         return refused(alloc, name, Refusal::TooLong);

@@ -15,8 +15,8 @@ use std::alloc::{AllocError, Global};
 use std::sync::Wait;
 use std::thread::Threads;
 
-/// What is printed for the files of a command, one after another, of which these bytes were read, and whether one of them is
-/// refused. Workers answer the files, each by itself and in whatever order.
+/// What is printed for the files of a command, one after another, of which these bytes were read, whether one of them is
+/// refused, and how many functions were compiled for them. Workers answer the files, each by itself and in whatever order.
 pub(crate) fn answers_of<R: Threads + Wait + Sync, G: Gate>(
     rt: &R,
     alloc: Global,
@@ -34,9 +34,15 @@ pub(crate) fn answers_of<R: Threads + Wait + Sync, G: Gate>(
     let answers = file_answers(rt, alloc, job, reads, count, gate)?;
     let mut text = Vec::new(alloc);
     let mut refused = false;
+    let mut compiled = 0;
     for answer in &answers {
         text.extend_from_slice(&answer.text)?;
         refused = refused || answer.refused;
+        compiled += answer.compiled;
     }
-    Ok(FileAnswer { text, refused })
+    Ok(FileAnswer {
+        text,
+        refused,
+        compiled,
+    })
 }

@@ -16,7 +16,8 @@ use std::alloc::{AllocError, Global};
 
 /// The answer for a file of which no image was read, for this reason.
 fn unread(alloc: Global, name: &str, fault: ImageFault) -> Result<FileAnswer, AllocError>
-    ensures { IfOk result (λ answer. (fault ≡ NoImage) × RefusedAs name.now line.NoImage answer.text.items answer.refused) }
+    ensures refused { IfOk result (λ answer. (fault ≡ NoImage) × RefusedAs name.now line.NoImage answer.text.items answer.refused) }
+    ensures idle { IfOk result (λ answer. answer.compiled ≡ 0) }
 {
     match fault {
         ImageFault::NoImage => {
@@ -29,13 +30,15 @@ fn unread(alloc: Global, name: &str, fault: ImageFault) -> Result<FileAnswer, Al
 
 /// What `load` prints for a file with these bytes.
 pub(crate) fn load_answer(alloc: Global, name: &str, bytes: &[u8]) -> Result<FileAnswer, AllocError>
-    ensures { IfOk result (λ answer. (want : Wanted) → IsAnswerFor command.Load want name.now bytes.now answer) }
+    ensures is { IfOk result (λ answer. (want : Wanted) → IsAnswerFor command.Load want name.now bytes.now answer) }
+    ensures idle { IfOk result (λ answer. answer.compiled ≡ 0) }
 {
     let mut text = file_text(alloc, name)?;
     match append_listing(alloc, &mut text, bytes) {
         Ok(()) => Ok(FileAnswer {
             text,
             refused: false,
+            compiled: 0,
         }),
         Err(fault) => unread(alloc, name, fault),
     }
@@ -47,13 +50,15 @@ pub(crate) fn verify_answer(
     name: &str,
     bytes: &[u8],
 ) -> Result<FileAnswer, AllocError>
-    ensures { IfOk result (λ answer. (want : Wanted) → IsAnswerFor command.Verify want name.now bytes.now answer) }
+    ensures is { IfOk result (λ answer. (want : Wanted) → IsAnswerFor command.Verify want name.now bytes.now answer) }
+    ensures idle { IfOk result (λ answer. answer.compiled ≡ 0) }
 {
     let mut text = file_text(alloc, name)?;
     match append_verdicts(alloc, &mut text, bytes) {
         Ok(unsound) => Ok(FileAnswer {
             text,
             refused: unsound,
+            compiled: 0,
         }),
         Err(fault) => unread(alloc, name, fault),
     }

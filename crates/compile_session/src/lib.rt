@@ -1,17 +1,16 @@
 //! One command of the program, from its words to the bytes that the sink takes.
 //!
 //! It stands on `session_words`, which reads the words of every command, on `session_outside`, which reads files and writes output, on
-//! `compile_tally`, on which compiles are counted, on `helper_tasks`, by whose workers files are worked on side by side, and on
-//! `compile_first_pass`, which reads the script of a file without trees, by the three handlers that `check` gives it. Commands
-//! that list or save stand on `parse_script`, which reads the tokens and the script of a file, here by the handler of
-//! `parse_handlers` that keeps trees, on `early_errors`, which finds the early errors of kept trees, on `parse_attach_bodies`,
-//! which puts bodies into their places, on `compile_eager`, which compiles a script with all its functions, on `script_image`,
-//! which prints it, and on `stencil_xdr_write`, which writes its image; those over images on `session_images`, and that over
+//! `helper_tasks`, by whose workers files are worked on side by side, and on `compile_first_pass`, which reads the script of a
+//! file without trees, by the three handlers that it is given here. Commands that show scripts stand on `compile_initial`, which
+//! makes of it what the script is before any of its functions is compiled, on `compile_shown`, which compiles those functions that
+//! are wanted and those around them, each from its own text, on `compile_tally`, on which these are counted, on `script_image`, which
+//! lists what is shown, and on `stencil_xdr_write`, which writes its image; those over images on `session_images`, and that over
 //! generated texts on `session_trial`. Its answer is that of the definitions of `session_specs`. Only the program stands on it.
 //!
-//! `work` says what words ask for. `source` and `printing` are the steps of the way of one file of source text, with `trees`,
-//! `listing` and `saving` where it is listed or saved, `image` is that of an image, `file_order`, `workers` and `files` those of all files of a
-//! command, and `trial` that of a generated text, each with the definition that it meets in specs/.
+//! `work` says what words ask for. `source`, `listing` and `printing` are the steps of the way of one file of source text, `image`
+//! is that of an image, `file_order`, `workers` and `files` those of all files of a command, and `trial` that of a generated
+//! text, each with the definition that it meets in specs/.
 //!
 //! The main contract is that of `run`: where all was done, the sink has taken the bytes of the definition's answer to the words
 //! and the files, and no others, whatever the number of workers and their schedule; each status comes exactly with its cause.
@@ -27,10 +26,8 @@ mod lines;
 mod listing;
 mod printing;
 mod refusal;
-mod saving;
 mod source;
 mod status;
-mod trees;
 mod trial;
 mod work;
 mod workers;

@@ -1,88 +1,79 @@
 //! What is printed for a file of source text.
 
-ghost use Rattle.std.specs.Prelude.{◌≡◌, ℕ, ◌≤◌, true, List, length, IfOk};
-ghost use Rattle.session_specs.specs.Answer.{IsWritten, most_bytes};
+ghost use Rattle.std.specs.Prelude.{◌≡◌, ◌≤◌, ◌<◌, ◌^◌, true, length, IfOk};
+ghost use Rattle.bytecode_buf.specs.InRange.{TextsSmall};
+ghost use Rattle.session_specs.specs.Answer.{most_bytes};
+ghost use Rattle.session_specs.specs.Compiled.{shows_scripts};
 ghost use Rattle.session_words.specs.Asked as asked;
-ghost use Rattle.session_words.specs.declared.options.Command.TheVariants as command;
 ghost use Rattle.compile_session.specs.Built.{is_source};
-ghost use Rattle.compile_session.specs.Answers.{IsAnswerFor, AreTreesOf};
-ghost use Rattle.compile_session.specs.Listed.{is_listed};
+ghost use Rattle.compile_session.specs.Answers.{IsAnswerFor, IsScriptOf};
+ghost use Rattle.compile_session.specs.Listed.{IsWrittenFor};
 
 use crate::answer::{FileAnswer, refused};
 use crate::lines::fine_text;
 use crate::listing::{listing_of, stencil_of};
-use crate::saving::saved_answer;
 use crate::source::{SourceText, read_source};
-use crate::trees::{ScriptTrees, SourceTrees, read_trees};
-use session_words::{Command, FileJob, Want};
+use compile_first_pass::SyntaxScript;
+use session_words::{Command, FileJob};
 use std::alloc::{AllocError, Global};
+use stencil_data::MergedStencil;
+use stencil_xdr_write::write_image;
 
-/// What `check` prints for a file with these bytes.
-fn checked_answer(
+/// What a command that shows scripts writes of a stencil: its image, or its listing.
+fn shown_text(
     alloc: Global,
-    want: &Want,
+    command: Command,
+    name: &str,
+    shown: &MergedStencil,
+) -> Result<Vec<u8>, AllocError>
+    requires command { shows_scripts command ≡ true }
+    requires few { length shown.now.texts < 2 ^ 31 }
+    requires small { TextsSmall shown.now.texts }
+    ensures { IfOk result (λ text. IsWrittenFor command name.now shown.now text.items) }
+{
+    match command {
+        Command::Save => {
+            let image = write_image(alloc, shown)?;
+            Ok(image)
+        }
+        _ => {
+            let text = listing_of(alloc, command, name, shown)?;
+            Ok(text)
+        }
+    }
+}
+
+/// The answer for a script without errors, where all functions that are wanted are there.
+fn script_answer(
+    alloc: Global,
+    job: &FileJob,
     name: &str,
     bytes: &[u8],
+    script: SyntaxScript,
 ) -> Result<FileAnswer, AllocError>
-    requires short { length bytes.now ≤ most_bytes }
-    ensures { IfOk result (IsAnswerFor command.Check (asked.wanted want.now) name.now bytes.now) }
+    requires source { is_source job.now.command ≡ true }
+    requires script { IsScriptOf (asked.wanted job.now.want) bytes.now script }
+    ensures is { IfOk result (IsAnswerFor job.now.command (asked.wanted job.now.want) name.now bytes.now) }
+    ensures few { IfOk result (λ answer. answer.compiled < 2 ^ 32) }
 {
-    let source = read_source(alloc, want, bytes)?;
-    match source {
-        SourceText::Script(script) => {
+    match job.command {
+        Command::Check => {
             let functions = script.functions.len();
             let text = fine_text(alloc, name, functions)?;
             Ok(FileAnswer {
                 text,
                 refused: false,
+                compiled: 0,
             })
         }
-        SourceText::Refused(why) => {
-            let answer = refused(alloc, name, why)?;
-            Ok(answer)
-        }
-    }
-}
-
-/// What a command lists of a script without errors.
-fn listed(
-    alloc: Global,
-    job: &FileJob,
-    name: &str,
-    script: ScriptTrees,
-) -> Result<Vec<u8>, AllocError>
-    requires listed { is_listed job.now.command ≡ true }
-    requires script { (bytes : List ℕ) × AreTreesOf (asked.wanted job.now.want) bytes script }
-    ensures { IfOk result (λ text. (bytes : List ℕ) (is : AreTreesOf (asked.wanted job.now.want) bytes script) → IsWritten job.now.command (asked.wanted job.now.want) name.now (length bytes) is.items script.functions text.items) }
-{
-    let shown = stencil_of(alloc, script, &job.want)?;
-    let text = listing_of(alloc, job.command, name, &shown)?;
-    Ok(text)
-}
-
-/// What a command that lists prints for a file with these bytes.
-fn listed_answer(
-    alloc: Global,
-    job: &FileJob,
-    name: &str,
-    bytes: &[u8],
-) -> Result<FileAnswer, AllocError>
-    requires listed { is_listed job.now.command ≡ true }
-    requires short { length bytes.now ≤ most_bytes }
-    ensures { IfOk result (IsAnswerFor job.now.command (asked.wanted job.now.want) name.now bytes.now) }
-{
-    let trees = read_trees(alloc, &job.want, bytes)?;
-    match trees {
-        SourceTrees::Script(script) => {
-            let text = listed(alloc, job, name, script)?;
+        _ => {
+            let shown = stencil_of(alloc, bytes, script, &job.want)?;
+            let text = shown_text(alloc, job.command, name, &shown.stencil)?;
             Ok(FileAnswer {
                 text,
                 refused: false,
+                compiled: shown.compiled,
             })
-        }
-        SourceTrees::Refused(why) => {
-            let answer = refused(alloc, name, why)?;
-            Ok(answer)
         }
     }
 }
@@ -96,19 +87,17 @@ pub(crate) fn source_answer(
 ) -> Result<FileAnswer, AllocError>
     requires source { is_source job.now.command ≡ true }
     requires short { length bytes.now ≤ most_bytes }
-    ensures { IfOk result (IsAnswerFor job.now.command (asked.wanted job.now.want) name.now bytes.now) }
+    ensures is { IfOk result (IsAnswerFor job.now.command (asked.wanted job.now.want) name.now bytes.now) }
+    ensures few { IfOk result (λ answer. answer.compiled < 2 ^ 32) }
 {
-    match job.command {
-        Command::Check => {
-            let answer = checked_answer(alloc, &job.want, name, bytes)?;
+    let source = read_source(alloc, &job.want, bytes)?;
+    match source {
+        SourceText::Script(script) => {
+            let answer = script_answer(alloc, job, name, bytes, script)?;
             Ok(answer)
         }
-        Command::Save => {
-            let answer = saved_answer(alloc, &job.want, name, bytes)?;
-            Ok(answer)
-        }
-        _ => {
-            let answer = listed_answer(alloc, job, name, bytes)?;
+        SourceText::Refused(why) => {
+            let answer = refused(alloc, name, why)?;
             Ok(answer)
         }
     }

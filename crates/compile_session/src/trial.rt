@@ -7,12 +7,13 @@ ghost use Rattle.session_specs.specs.Answer as answer;
 ghost use Rattle.session_specs.specs.Answer.{most_bytes};
 ghost use Rattle.session_specs.specs.Sources.{HasAll};
 ghost use Rattle.session_words.specs.Asked as asked;
-ghost use Rattle.compile_session.specs.Answers.{AreTreesOf};
+ghost use Rattle.compile_first_pass.specs.Passes.{IsSyntaxOf};
 ghost use Rattle.compile_session.specs.Files.{SettlesWork};
 
 use crate::answer::FileAnswer;
 use crate::listing::stencil_of;
-use crate::trees::{ScriptTrees, SourceTrees, read_trees};
+use crate::source::{SourceText, read_source};
+use compile_first_pass::SyntaxScript;
 use script_image::{append_decimal, instructions};
 use session_trial::generated_text;
 use session_words::Want;
@@ -74,31 +75,33 @@ fn trial_line(
 }
 
 /// The script that a text is, where it is one.
-fn script_in(alloc: Global, bytes: &[u8]) -> Result<ScriptTrees, AllocError>
+fn script_in(alloc: Global, bytes: &[u8]) -> Result<SyntaxScript, AllocError>
     requires short { length bytes.now ≤ most_bytes }
     requires script { (items : Stmts) × (count : ℕ) × HasAll bytes.now asked.All items count }
-    ensures { IfOk result (AreTreesOf asked.All bytes.now) }
+    ensures { IfOk result (IsSyntaxOf bytes.now) }
 {
-    let trees = read_trees(alloc, &Want::All, bytes)?;
-    match trees {
-        SourceTrees::Script(script) => Ok(script),
-        SourceTrees::Refused(_) => unreachable!(),
+    let source = read_source(alloc, &Want::All, bytes)?;
+    match source {
+        SourceText::Script(script) => Ok(script),
+        SourceText::Refused(_) => unreachable!(),
     }
 }
 
-/// What `trial` prints. The text is compiled whole; it is a script without errors, so there is no refusal.
+/// What `trial` prints. All functions of the text are compiled; it is a script without errors, so there is no refusal.
 pub(crate) fn trial_answer(alloc: Global, number: u32, size: u32) -> Result<FileAnswer, AllocError>
     requires { size ≤ 100000 }
     ensures { IfOk result (λ given. (workers : ℕ) (held : List ℕ → List ℕ) → SettlesWork (asked.Trial number size workers) held given.text.items given.refused) }
 {
     let text = generated_text(alloc, number, size)?;
-    let script = script_in(alloc, &text)?;
-    let functions = script.functions as u64;
-    let shown = stencil_of(alloc, script, &Want::All)?;
-    let count = instructions(&shown);
-    let line = trial_line(alloc, number, size, text.len() as u64, functions, count)?;
+    let bytes = text.as_slice();
+    let script = script_in(alloc, bytes)?;
+    let functions = script.functions.len() as u64;
+    let shown = stencil_of(alloc, bytes, script, &Want::All)?;
+    let count = instructions(&shown.stencil);
+    let line = trial_line(alloc, number, size, bytes.len() as u64, functions, count)?;
     Ok(FileAnswer {
         text: line,
         refused: false,
+        compiled: shown.compiled,
     })
 }

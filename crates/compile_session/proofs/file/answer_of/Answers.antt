@@ -3,12 +3,12 @@ use Rattle.session_words.specs.Asked as asked
 use Rattle.compile_session.proofs.FileLemmas.{settles_read}
 use Rattle.compile_session.proofs.file.answer_of.Goals as goal
 
-pub returns-in_ok-answer-in-Load : goal.returns-in_ok-answer-in-Load
-returns-in_ok-answer-in-Load c =
+pub returns-in_ok-answer-in-Load-clause-settles : goal.returns-in_ok-answer-in-Load-clause-settles
+returns-in_ok-answer-in-Load-clause-settles c =
     settles_read (asked.job c.args.job.now) c.args.name.now c.deref.result.now c.args.bytes.now c.in-Some.bytes command.Load c.in_ok-answer-in-Load.answer c.in-Load.is c.in-Some.is c.deref.ensures.value
-    (c.in_ok-answer-in-Load.ensures (asked.wanted c.args.job.now.want))
+    (c.in_ok-answer-in-Load.ensures.is (asked.wanted c.args.job.now.want))
 
-pub returns-in_ok-answer-in-Verify : goal.returns-in_ok-answer-in-Verify
-returns-in_ok-answer-in-Verify c =
+pub returns-in_ok-answer-in-Verify-clause-settles : goal.returns-in_ok-answer-in-Verify-clause-settles
+returns-in_ok-answer-in-Verify-clause-settles c =
     settles_read (asked.job c.args.job.now) c.args.name.now c.deref-in-Verify.result.now c.args.bytes.now c.in-Some.bytes command.Verify c.in_ok-answer-in-Verify.answer c.in-Verify.is c.in-Some.is c.deref-in-Verify.ensures.value
-    (c.in_ok-answer-in-Verify.ensures (asked.wanted c.args.job.now.want))
+    (c.in_ok-answer-in-Verify.ensures.is (asked.wanted c.args.job.now.want))

@@ -4,7 +4,7 @@ use Rattle.std.proofs.lemmas.Option.{slice_get_read}
 use Rattle.session_words.specs.Asked as asked
 use Rattle.compile_session.specs.declared.answer.FileAnswer.{FileAnswer}
 use Rattle.compile_session.specs.Workers.{SettleFiles}
-use Rattle.compile_session.proofs.FilesLemmas.{answering_start, answered_more, answered_end, or_first, or_second}
+use Rattle.compile_session.proofs.FilesLemmas.{answering_start, answered_more, answered_end, few_at, or_first, or_second}
 use Rattle.compile_session.proofs.files.answers_of.Goals.{then-refused, else-refused}
 use Rattle.compile_session.proofs.files.answers_of.Goals as goal
 
@@ -16,7 +16,23 @@ file_answers-requires-clause-can g c = λ κs within.
     record { built = c.requires.built; within = c.requires.within; named = omega (arith, least, files, long); read = omega (arith, least) }
 
 pub loop-answer-init : goal.loop-answer-init
-loop-answer-init g c = answering_start (asked.job c.args.job.now) (map string_bytes c.args.job.now.files.items) c.args.reads.now c.new-text.result.items c.new-text.ensures.items
+loop-answer-init g c = (answering_start (asked.job c.args.job.now) (map string_bytes c.args.job.now.files.items) c.args.reads.now c.new-text.result.items c.new-text.ensures.items, omega arith)
+
+pub overflow_add-compiled : goal.overflow_add-compiled
+overflow_add-compiled g c =
+    let least = c.min-count.ensures in
+    let files = c.len.ensures in
+    let long = c.args.job.now.files.ok.0 in
+    let same = c.deref-answer-items.ensures.value in
+    let at = slice_get_read c.deref-answer-items.result.now (length c.deref-answer-items.result.now) c.loop-answer.answer-index c.answer-item.result refl c.loop-answer-test.true c.answer-item.is in
+    let few =
+    few_at c.args.job.now c.args.reads.now c.min-count.result c.loop-answer.answer-index c.deref-answer-items.result.now c.answer-item.result
+    (subst (λ (l : List FileAnswer). SettleFiles (asked.job c.args.job.now) c.args.reads.now c.min-count.result l) (sym same) c.in_ok-answers.ensures) at in
+    let below = few.0 in
+    let one = few.1 in
+    let so_far = c.loop-answer.invariant.1 in
+    let most = c.requires.files in
+    omega (arith, least, files, long, below, one, so_far, most)
 
 pub loop-answer-preserved : goal.loop-answer-preserved
 loop-answer-preserved g c =
@@ -25,15 +41,21 @@ loop-answer-preserved g c =
     let long = c.args.job.now.files.ok.0 in
     let same = c.deref-answer-items.ensures.value in
     let at = slice_get_read c.deref-answer-items.result.now (length c.deref-answer-items.result.now) c.loop-answer.answer-index c.answer-item.result refl c.loop-answer-test.true c.answer-item.is in
-    answered_more c.args.job.now c.args.reads.now c.min-count.result c.loop-answer.answer-index _ c.deref-answer-items.result.now c.loop-answer.text.items c.extend_from_slice.new.self.items c.loop-answer.refused c.if-refused.refused c.answer-item.result
-    (subst (λ (l : List FileAnswer). SettleFiles (asked.job c.args.job.now) c.args.reads.now c.min-count.result l) (sym same) c.in_ok-answers.ensures)
-    (omega (arith, least, files, long)) (omega (arith, least)) at
-    (c.in_ok-extend_from_slice.ensures.items ∙ ap (λ l. c.loop-answer.text.items ++ l) c.deref.ensures.value)
-    (elim c.if-refused.branch [
-      | then-refused w ↦ or_first c.loop-answer.refused c.answer-item.result.refused c.if-refused.refused w.if-refused.true (w.refused-is ∙ w.if-refused.true)
-      | else-refused w ↦ or_second c.loop-answer.refused c.answer-item.result.refused c.if-refused.refused w.if-refused.false w.refused-is
-    ])
-    refl c.loop-answer.invariant
+    let all = subst (λ (l : List FileAnswer). SettleFiles (asked.job c.args.job.now) c.args.reads.now c.min-count.result l) (sym same) c.in_ok-answers.ensures in
+    let few = few_at c.args.job.now c.args.reads.now c.min-count.result c.loop-answer.answer-index c.deref-answer-items.result.now c.answer-item.result all at in
+    let one = few.1 in
+    let so_far = c.loop-answer.invariant.1 in (
+      answered_more c.args.job.now c.args.reads.now c.min-count.result c.loop-answer.answer-index _ c.deref-answer-items.result.now c.loop-answer.text.items c.extend_from_slice.new.self.items c.loop-answer.refused c.if-refused.refused c.answer-item.result
+          all
+          (omega (arith, least, files, long)) (omega (arith, least)) at
+          (c.in_ok-extend_from_slice.ensures.items ∙ ap (λ l. c.loop-answer.text.items ++ l) c.deref.ensures.value)
+          (elim c.if-refused.branch [
+            | then-refused w ↦ or_first c.loop-answer.refused c.answer-item.result.refused c.if-refused.refused w.if-refused.true (w.refused-is ∙ w.if-refused.true)
+            | else-refused w ↦ or_second c.loop-answer.refused c.answer-item.result.refused c.if-refused.refused w.if-refused.false w.refused-is
+          ])
+          refl c.loop-answer.invariant.0,
+      omega (arith, one, so_far),
+    )
 
 pub returns : goal.returns
 returns g c =
@@ -43,4 +65,4 @@ returns g c =
     let same = c.deref-answer-items.ensures.value in
     let counted = (subst (λ (l : List FileAnswer). SettleFiles (asked.job c.args.job.now) c.args.reads.now c.min-count.result l) (sym same) c.in_ok-answers.ensures).long in
     let past = c.loop-answer-test.false in
-    answered_end c.args.job.now c.args.reads.now c.min-count.result c.loop-answer.answer-index c.loop-answer.text.items c.loop-answer.refused (omega (arith, least, files, long)) (omega (arith, counted, past)) c.loop-answer.invariant
+    answered_end c.args.job.now c.args.reads.now c.min-count.result c.loop-answer.answer-index c.loop-answer.text.items c.loop-answer.refused (omega (arith, least, files, long)) (omega (arith, counted, past)) c.loop-answer.invariant.0

@@ -1,20 +1,34 @@
-use Rattle.std.proofs.Common.{List, ℕ, subst}
+use Rattle.std.proofs.Common.{length, refl, subst, arith}
 use Rattle.compile_specs.specs.Shown.{Wanted}
-use Rattle.session_words.specs.Asked as asked
-use Rattle.session_specs.specs.Answer as answer
-use Rattle.compile_eager.specs.Compiles.{IsCompiled}
+use Rattle.compile_wanted.specs.Numbers.{to_show}
 use Rattle.compile_wanted.specs.Shows.{Shows}
-use Rattle.compile_session.proofs.ListingLemmas.{of_seen}
+use Rattle.compile_session.proofs.ShownLemmas.{records_few, shown_few, shows_same}
 use Rattle.compile_session.proofs.listing.stencil_of.Goals as goal
 
-pub compile_script-requires : goal.compile_script-requires
-compile_script-requires c =
-    let is = c.requires.2 in
-    (is.items, of_seen c.args.script.texts.items c.deref-3.result.now c.args.script.top.items c.deref.result.now c.args.script.closed.items c.deref-2.result.now is.items c.deref-3.ensures.value c.deref.ensures.value c.deref-2.ensures.value is.of)
+pub initial-requires : goal.initial-requires
+initial-requires c = (c.args.bytes.now, c.requires, refl, c.requires.tokens.short)
+
+pub compile_shown-requires-clause-initial : goal.compile_shown-requires-clause-initial
+compile_shown-requires-clause-initial c = c.in_ok-before.ensures c.args.bytes.now c.requires refl
+
+pub compile_shown-requires-clause-room : goal.compile_shown-requires-clause-room
+compile_shown-requires-clause-room c =
+    let few = shown_few (to_show c.wanted_of.result) c.in_ok-before.before in
+    let room = c.sheet_for-sheet.ensures.room in
+    omega (arith, few, room)
 
 pub returns-clause-shows : goal.returns-clause-shows
-returns-clause-shows c = λ wanted bytes is.
-    let of = of_seen c.args.script.texts.items c.deref-3.result.now c.args.script.top.items c.deref.result.now c.args.script.closed.items c.deref-2.result.now is.items c.deref-3.ensures.value c.deref.ensures.value c.deref-2.ensures.value is.of in
-    let compiled = subst (λ (texts : List (List ℕ)). IsCompiled texts is.items c.args.script.size c.in_ok-compiled.compiled) c.deref-3.ensures.value (c.in_ok-compiled.ensures is.items of) in
-    let shows = subst (λ (want : Wanted). Shows want is.items c.args.script.size c.in_ok-shown.shown) c.wanted_of.ensures (c.in_ok-shown.ensures.shows is.items c.args.script.size compiled) in
-    subst (λ (size : ℕ). Shows (answer.to_show (asked.wanted c.args.want.now)) is.items size c.in_ok-shown.shown) is.long shows
+returns-clause-shows c = λ is.
+    let bytes = c.args.bytes.now in
+    let made = c.in_ok-before.ensures bytes is refl in
+    shows_same bytes made.items is.items _ _ _ c.in_ok-stencil.stencil made.valid is.valid
+    (subst (λ (want : Wanted). Shows want made.items (length bytes) c.in_ok-stencil.stencil) c.wanted_of.ensures (c.in_ok-stencil.ensures.shown made))
+
+pub returns-clause-few : goal.returns-clause-few
+returns-clause-few c =
+    let records = records_few c.args.bytes.now c.in_ok-before.before (c.in_ok-before.ensures c.args.bytes.now c.requires refl) in
+    let few = shown_few (to_show c.wanted_of.result) c.in_ok-before.before in
+    let none = c.sheet_for-sheet.ensures.count in
+    let most = c.in_ok-stencil.ensures.most in
+    let counted = c.count-compiled.ensures in
+    omega (arith, records, few, none, most, counted)

@@ -1,17 +1,15 @@
-use Rattle.std.proofs.Common.{subst, sym}
-use Rattle.session_words.specs.declared.options.Command.{Command}
+use Rattle.std.proofs.Common.{subst}
 use Rattle.session_words.specs.Asked as asked
-use Rattle.compile_session.specs.Answers.{IsAnswerFor}
-use Rattle.compile_session.proofs.FileLemmas.{lists}
+use Rattle.compile_session.specs.declared.source.SourceText.{SourceText}
+use Rattle.compile_session.specs.Answers.{IsSourceText}
+use Rattle.compile_session.proofs.FileLemmas.{answers_refused, script_is}
 use Rattle.compile_session.proofs.printing.source_answer.Goals as goal
 
-pub listed_answer-requires-clause-listed : goal.listed_answer-requires-clause-listed
-listed_answer-requires-clause-listed c = lists c.args.job.now.command c.requires.source c.in_default.not-Check c.in_default.not-Save
+pub script_answer-requires-clause-script : goal.script_answer-requires-clause-script
+script_answer-requires-clause-script c = script_is (asked.wanted c.args.job.now.want) c.args.bytes.now c.in_ok-source.source c.in-Script.script c.in_ok-source.ensures c.in-Script.is
 
-pub returns-in_ok-answer-in-Check : goal.returns-in_ok-answer-in-Check
-returns-in_ok-answer-in-Check c =
-    subst (λ (x : Command). IsAnswerFor x (asked.wanted c.args.job.now.want) c.args.name.now c.args.bytes.now c.in_ok-answer-in-Check.answer) (sym c.in-Check.is) c.in_ok-answer-in-Check.ensures
-
-pub returns-in_ok-answer-in-Save : goal.returns-in_ok-answer-in-Save
-returns-in_ok-answer-in-Save c =
-    subst (λ (x : Command). IsAnswerFor x (asked.wanted c.args.job.now.want) c.args.name.now c.args.bytes.now c.in_ok-answer-in-Save.answer) (sym c.in-Save.is) c.in_ok-answer-in-Save.ensures
+pub returns-in_ok-answer-in-Refused-clause-is : goal.returns-in_ok-answer-in-Refused-clause-is
+returns-in_ok-answer-in-Refused-clause-is c =
+    let want = asked.wanted c.args.job.now.want in
+    answers_refused c.args.job.now.command want c.args.name.now c.args.bytes.now c.in-Refused.why c.in_ok-answer-in-Refused.answer c.requires.source
+    (subst (λ (x : SourceText). IsSourceText want c.args.bytes.now x) c.in-Refused.is c.in_ok-source.ensures) c.in_ok-answer-in-Refused.ensures.text c.in_ok-answer-in-Refused.ensures.refused

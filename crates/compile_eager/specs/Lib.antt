@@ -1,4 +1,0 @@
-pub mod Compiles
-pub mod Compiling
-pub mod Renumbered
-pub mod ShownAs

@@ -1,9 +1,0 @@
-pub mod Sooner
-pub mod Words
-pub mod Parts
-pub mod Loops
-pub mod Taking
-pub mod Depths
-pub mod LastTail
-pub mod Places
-pub mod Heads

@@ -1,2 +1,0 @@
--- A script whose trees are kept.
-pub mod Kept

@@ -113,8 +113,9 @@ pub(crate) fn stencil_of(
 ) -> Result<ShownScript, AllocError>
     requires { IsSyntaxOf bytes.now script }
     ensures shows { IfOk result (λ shown. (is : IsSyntaxOf bytes.now script) → Shows (answer.to_show (asked.wanted want.now)) is.items (length bytes.now) shown.stencil) }
-    ensures texts { IfOk result (λ shown. (length shown.stencil.texts < 2 ^ 31) × TextsSmall shown.stencil.texts) }
-    ensures few { IfOk result (λ shown. shown.compiled < 2 ^ 32) }
+    ensures few { IfOk result (λ shown. length shown.stencil.texts < 2 ^ 31) }
+    ensures small { IfOk result (λ shown. TextsSmall shown.stencil.texts) }
+    ensures counted { IfOk result (λ shown. shown.compiled < 2 ^ 32) }
 {
     let before = initial(alloc, script, bytes.len() as u32)?;
     let mut sheet = sheet_for(&before.parts);

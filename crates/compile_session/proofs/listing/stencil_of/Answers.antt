@@ -24,8 +24,8 @@ returns-clause-shows c = λ is.
     shows_same bytes made.items is.items _ _ _ c.in_ok-stencil.stencil made.valid is.valid
     (subst (λ (want : Wanted). Shows want made.items (length bytes) c.in_ok-stencil.stencil) c.wanted_of.ensures (c.in_ok-stencil.ensures.shown made))
 
-pub returns-clause-few : goal.returns-clause-few
-returns-clause-few c =
+pub returns-clause-counted : goal.returns-clause-counted
+returns-clause-counted c =
     let records = records_few c.args.bytes.now c.in_ok-before.before (c.in_ok-before.ensures c.args.bytes.now c.requires refl) in
     let few = shown_few (to_show c.wanted_of.result) c.in_ok-before.before in
     let none = c.sheet_for-sheet.ensures.count in

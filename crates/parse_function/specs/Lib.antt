@@ -2,3 +2,5 @@ pub mod Alone
 pub mod Extents
 pub mod Words
 pub mod Shifted
+pub mod Holes
+pub mod Without

@@ -1,15 +1,18 @@
 //! A function of a script, read again from its extent alone.
 //!
-//! It stands on unit_text, script_scanner and parse_parts, which decode, scan and parse; on grammar_alone_laws and scan_laws,
-//! whose laws say that a function's extent has its tokens and that these are the function alone; and on parse_handlers, which
-//! makes the tree. Lazy compiling, which reads a function where its code is first wanted, stands on it.
+//! It stands on unit_text, script_scanner and parse_parts, which decode, scan and parse; on grammar_alone_laws, scan_laws and
+//! parse_skip_laws, whose laws say that a function's extent has its tokens, that these are the function alone, and that so are
+//! those which are left without what stands in bodies inside it; and on parse_handlers, which makes the tree. Lazy compiling,
+//! which reads a function where its code is first wanted, stands on it.
 //!
 //! [`read_function`] looks at the bytes of the extent and at no others. It answers the tree of the function that the script has
-//! there, but for its name, which stands in front of the extent; the bodies of functions inside it are passed over. Only
-//! want of memory refuses: what was read once as a function of a script is read again.
+//! there, but for its name, which stands in front of the extent; the bodies of functions inside it are passed over. Where the
+//! braces of such a body are found, by the extent of its function, what stands between them is not even decoded: one space is
+//! scanned in its place. A body without braces, of an arrow, is scanned, and so is what stands in it. Only want of memory
+//! refuses: what was read once as a function of a script is read again.
 #![tactic(auto)]
 
-ghost use Rattle.std.specs.Prelude.{◌≡◌, ℕ, ◌+◌, ◌-◌, ◌≤◌, ◌<◌, ◌^◌, length, take, drop, IfOk, OnOk};
+ghost use Rattle.std.specs.Prelude.{◌≡◌, ℕ, ◌+◌, ◌-◌, ◌≤◌, ◌<◌, ◌^◌, length, IfOk};
 ghost use Rattle.scope_analysis.specs.FunctionTree.{HasBody};
 ghost use Rattle.scope_analysis.specs.Functions.{Inner};
 ghost use Rattle.scope_analysis.specs.Kept.{under};
@@ -24,6 +27,7 @@ ghost use Rattle.grammar_alone_laws.specs.Alone.{nameless};
 ghost use Rattle.parse_function.specs.Extents.{IsExtentOf, IsFunctionExtent, own_statements, body_in};
 ghost use Rattle.parse_function.specs.Words.{KnowsAccessors};
 
+mod holes;
 mod parsing;
 mod points;
 
@@ -36,21 +40,24 @@ use script_scanner::scan;
 use std::alloc::{AllocError, Global};
 use stencil_data::{Extent, Text};
 
-/// The function of this form that has this extent in the script that `file` is. `known` has the atoms of `get` and `set`.
+/// The function of this form that has this extent in the script that `file` is. `inside` are the extents of the functions
+/// directly in it, in the order of the source. `known` has the atoms of `get` and `set`.
 ///
-/// The tree has no name, and the bodies of functions inside it are passed over. Time is linear in the bytes of the extent;
-/// memory is that of its points, its tokens, its tree and its new texts. The atoms of the tree are indexes into the texts that
-/// are answered: those that were handed in, and after them those of the function's tokens that were not among these.
+/// The tree has no name, and the bodies of functions inside it are passed over. Time is linear in the bytes of the extent
+/// without those in braces of bodies directly in it; memory is that of its points, its tokens, its tree and its new texts. The
+/// atoms of the tree are indexes into the texts that are answered: those that were handed in, and after them those of the
+/// function's tokens that were not among these.
 pub fn read_function(
     alloc: Global,
     file: &[u8],
     extent: Extent,
+    inside: &[Extent],
     form: FuncForm,
     known: Known,
     mut atoms: Atoms,
 ) -> Result<(Func, Vec<Text>), AllocError>
     requires size { length file.now ≤ 16777215 }
-    requires function { IsFunctionExtent file.now extent form }
+    requires function { IsFunctionExtent file.now extent form inside.now }
     requires words { KnowsAccessors atoms known }
     requires room { extent.end - extent.start + length atoms < 2 ^ 32 - 1 }
     ensures tree { IfOk result (λ read. (items : Stmts) (inner : Inner) → IsExtentOf file.now extent form items inner → func_of (under read.1.items (own_statements items)) read.0 ≡ nameless inner.func) }
@@ -62,8 +69,8 @@ pub fn read_function(
     ensures apart { IfOk result (λ read. AreWithoutEquals read.1.items) }
     ensures few { IfOk result (λ read. length read.1.items < 2 ^ 32) }
 {
-    let bytes = bytes_in(file, extent);
-    let points = points::points_in(alloc, bytes, extent.start)?;
+    let holes = holes::holes_in(alloc, file, extent, inside)?;
+    let points = points::without(alloc, file, extent, &holes)?;
     let tokens = scan(alloc, &points, extent.start, extent.end, &mut atoms)?;
     let texts = atoms.into_texts();
     match parsing::function_of(alloc, &tokens, form, known) {
@@ -72,13 +79,4 @@ pub fn read_function(
         Err(ParseFault::Unexpected { .. }) => unreachable!(),
         Err(ParseFault::TooDeep { .. }) => unreachable!(),
     }
-}
-
-// The bytes of an extent of a file.
-fn bytes_in(file: &[u8], extent: Extent) -> &[u8]
-    requires order { extent.start ≤ extent.end }
-    requires within { extent.end ≤ length file.now }
-    ensures { result.now ≡ take (extent.end - extent.start) (drop extent.start file.now) }
-{
-    &file[extent.start as usize..extent.end as usize]
 }

@@ -1,15 +1,73 @@
-//! The code points of a part of a file, at the places that they have in the file.
+//! The code points of a part of a file, at the places that they have in the file, without those in some holes.
 
-ghost use Rattle.std.specs.Prelude.{◌≡◌, ◌+◌, ◌≤◌, ◌<◌, ◌^◌, length, map, IfOk, All};
+ghost use Rattle.std.specs.Prelude.{◌≡◌, ◌+◌, ◌≤◌, ◌<◌, ◌^◌, ◌++◌, length, map, IfOk, OnOk, All};
 ghost use Rattle.std.specs.Str.{IsUtf8, chars};
 ghost use Rattle.unit_text.specs.Points.{points, points_from};
+ghost use Rattle.scan_skip_laws.specs.Spans.{blank};
+ghost use Rattle.parse_function.specs.Holes.{span_at};
 ghost use Rattle.parse_function.specs.Shifted.{shifted, FitsShifted};
+ghost use Rattle.parse_function.specs.Without.{IsPart, AreParts, points_between, points_without};
 
+use crate::holes::Hole;
 use std::alloc::{AllocError, Global};
+use stencil_data::Extent;
 use unit_text::{DecodeFault, Point, decode};
 
-/// The code points that these bytes spell, which stand in a file from this offset on.
-pub(crate) fn points_in(alloc: Global, bytes: &[u8], start: u32) -> Result<Vec<Point>, AllocError>
+/// The code points of an extent of a file, with one space in place of what stands in each hole.
+pub(crate) fn without(
+    alloc: Global,
+    file: &[u8],
+    extent: Extent,
+    holes: &[Hole],
+) -> Result<Vec<Point>, AllocError>
+    requires size { length file.now ≤ 16777215 }
+    requires parts { AreParts file.now extent.start extent.end (map span_at holes.now) }
+    ensures { IfOk result (λ made. made.items ≡ points_without file.now extent.start extent.end (map span_at holes.now)) }
+{
+    let mut points = Vec::new(alloc);
+    let mut from = extent.start;
+    for hole in holes {
+        add_part(alloc, &mut points, file, from, hole.from)?;
+        add_blank(&mut points, *hole)?;
+        from = hole.to;
+    }
+    add_part(alloc, &mut points, file, from, extent.end)?;
+    Ok(points)
+}
+
+// Adds the code points between two offsets of a file.
+fn add_part(
+    alloc: Global,
+    points: &mut Vec<Point>,
+    file: &[u8],
+    from: u32,
+    to: u32,
+) -> Result<(), AllocError>
+    requires size { length file.now ≤ 16777215 }
+    requires part { IsPart file.now from to }
+    ensures { OnOk result (points.new.items ≡ points.old.items ++ points_between file.now from to) }
+{
+    let more = points_in(alloc, &file[from as usize..to as usize], from)?;
+    points.extend_from_slice(&more)?;
+    Ok(())
+}
+
+// Adds a space that takes all bytes of a hole; none where it has none.
+fn add_blank(points: &mut Vec<Point>, hole: Hole) -> Result<(), AllocError>
+    ensures { OnOk result (points.new.items ≡ points.old.items ++ blank hole.from hole.to) }
+{
+    if hole.from < hole.to {
+        points.push(Point {
+            code: ' ',
+            start: hole.from,
+            end: hole.to,
+        })?;
+    }
+    Ok(())
+}
+
+// The code points that these bytes spell, which stand in a file from this offset on.
+fn points_in(alloc: Global, bytes: &[u8], start: u32) -> Result<Vec<Point>, AllocError>
     requires size { start + length bytes.now ≤ 16777215 }
     requires utf8 { IsUtf8 bytes.now }
     ensures { IfOk result (λ points. points.items ≡ points_from start (chars bytes.now)) }

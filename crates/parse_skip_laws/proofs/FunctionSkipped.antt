@@ -13,7 +13,7 @@ use Rattle.unit_text.specs.declared.Point.{Point}
 use Rattle.unit_text.specs.Points.{points, code_of}
 use Rattle.unit_text.specs.Points as units
 use Rattle.script_scanner.specs.Blanks.{first_line_length}
-use Rattle.script_scanner.specs.Tokens.{part, without_first_line, tokens}
+use Rattle.script_scanner.specs.Tokens.{part, tokens}
 use Rattle.script_scanner.specs.Lexemes.{lexeme_of, lexemes}
 use Rattle.scan_laws.specs.Inside.{end_of, end_token}
 use Rattle.scan_laws.proofs.Balanced.{pieces_close}
@@ -25,7 +25,7 @@ use Rattle.grammar_alone_laws.specs.Alone.{nameless, at_front, StandsAlone}
 use Rattle.grammar_alone_laws.specs.Functions.{IsFunctionIn}
 use Rattle.grammar_alone_laws.proofs.Alone.{stands_alone, alone_shallow}
 use Rattle.grammar_skip_laws.specs.Holes.{place_of, hollow_places}
-use Rattle.parse_skip_laws.specs.Read.{ReadSkipped}
+use Rattle.parse_skip_laws.specs.Read.{ReadSkipped, text_of}
 use Rattle.grammar_skip_laws.specs.Skipped.{Skipped}
 use Rattle.parse_skip_laws.proofs.SkippedText.{skipped_text}
 use Rattle.grammar_skip_laws.proofs.Skipping.{skipped}
@@ -33,10 +33,6 @@ use Rattle.grammar_skip_laws.proofs.Skipping.{skipped}
 -- the functions directly in a function do not hang on its name
 same_inner : (kind : FuncKind) (name : Option Text) (f : Function) → inner_function kind name (nameless f) ≡ inner_function kind name f
 same_inner kind name (function form start end who ps comma bare body) = refl
-
--- the points of a part of a file
-abbrev pub text_of : List ℕ → ℕ → ℕ → List Point
-text_of file from to = without_first_line from (part from to (points file))
 
 text_rises : (file : List ℕ) (from to : ℕ) → RiseTo to 0 (text_of file from to)
 text_rises file from to = by (from == 0)

@@ -20,7 +20,7 @@ use Rattle.grammar_start_laws.specs.Own.{TokensRise}
 use Rattle.grammar_start_laws.proofs.Rising.{lexemes_rise}
 use Rattle.grammar_alone_laws.specs.Alone.{at_front, StandsAlone}
 use Rattle.grammar_skip_laws.specs.Holes.{Braced, all_of, IsMark, IsHead, single, listed}
-use Rattle.parse_skip_laws.proofs.FunctionSkipped.{text_of}
+use Rattle.parse_skip_laws.specs.Read.{text_of}
 use Rattle.grammar_skip_laws.proofs.OneHead.{SameHead, one_head}
 
 -- ---- tokens that start at one place are one

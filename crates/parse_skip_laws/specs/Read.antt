@@ -6,7 +6,8 @@ use Rattle.script_grammar.specs.Pieces.{whole, depths}
 use Rattle.script_grammar.specs.Script.{IsFunction, print_alone}
 use Rattle.script_grammar.specs.Tree.{Function}
 use Rattle.unit_text.specs.declared.Point.{Point}
-use Rattle.script_scanner.specs.Tokens.{tokens_within}
+use Rattle.unit_text.specs.Points.{points}
+use Rattle.script_scanner.specs.Tokens.{part, without_first_line, tokens_within}
 use Rattle.script_scanner.specs.Lexemes.{lexeme_of}
 use Rattle.scan_skip_laws.specs.Spans.{Blanked}
 use Rattle.scope_analysis.specs.Functions.{Inner, function_form, inner_function}
@@ -14,6 +15,10 @@ use Rattle.grammar_alone_laws.specs.Alone.{nameless}
 use Rattle.grammar_skip_laws.specs.Hollow.{hollow_inside}
 use Rattle.grammar_skip_laws.specs.Holes.{Hole, place_of, LeavesOut, hollow_places}
 use Rattle.parse_skip_laws.specs.SkippedText.{span_of}
+
+-- the points of a part of a file
+abbrev pub text_of : List ℕ → ℕ → ℕ → List Point
+text_of file from to = without_first_line from (part from to (points file))
 
 -- These points are those of a function's text up to its end. With blanks in place of what stands in the bodies of the chosen functions
 -- directly in it they are scanned to tokens, and a last one, that are the function with these bodies empty, but for its name; and

@@ -26,7 +26,7 @@ use Rattle.parse_function.specs.Extents.{IsExtentOf}
 use Rattle.lazy_compile.specs.OwnTexts.{TakesFrom}
 use Rattle.lazy_compile.specs.Texts.{known_texts, IsTextOf, AreTextsOf}
 use Rattle.lazy_compile.proofs.OwnTexts.{either_at}
-use Rattle.lazy_compile.proofs.TokenValues.{has_text, IsAmong, HasValue, value_among, among_value, among_left, among_right, among_either, tokens_suited}
+use Rattle.parse_function.proofs.TokenValues.{has_text, IsAmong, HasValue, value_among, among_value, among_left, among_right, among_either, tokens_suited}
 use Rattle.std.proofs.lemmas.List.{append_assoc}
 
 -- ---- a token of the extent is one of the file

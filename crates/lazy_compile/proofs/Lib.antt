@@ -4,5 +4,4 @@ pub mod ExtentTexts
 pub mod OwnTexts
 pub mod Reading
 pub mod Records
-pub mod TokenValues
 pub mod WrittenForms

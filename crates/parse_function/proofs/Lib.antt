@@ -5,6 +5,11 @@ pub mod InnerStarts
 pub mod OwnInner
 pub mod Slices
 pub mod Places
+pub mod Lying
+pub mod Standing
+pub mod Without
+pub mod TokenValues
+pub mod LeftValues
 pub mod Scanned
 pub mod Bodies
 pub mod Shifting

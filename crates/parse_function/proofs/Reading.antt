@@ -28,7 +28,8 @@ use Rattle.parse_function.specs.Alone.{AreFunction}
 same_value : {A : Type 0} (a b : A) (us vs : List Lexeme) → ◌≡◌ {A = Reply A} (Read a [] us) (Read b [] vs) → a ≡ b
 same_value a b us vs e = cc
 
-inside_same : (i : Interpretation) (f : Function) → fill_alone (body_at i) f ≡ fill_inside (body_at i) f
+-- what is inside a function's own body
+pub inside_same : (i : Interpretation) (f : Function) → fill_alone (body_at i) f ≡ fill_inside (body_at i) f
 inside_same i (tree.function g start end who ps comma bare (tree.BracedBody items)) = refl
 inside_same i (tree.function g start end who ps comma bare (tree.ShortBody value)) = refl
 

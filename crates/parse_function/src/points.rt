@@ -66,8 +66,8 @@ fn add_blank(points: &mut Vec<Point>, hole: Hole) -> Result<(), AllocError>
     Ok(())
 }
 
-// The code points that these bytes spell, which stand in a file from this offset on.
-fn points_in(alloc: Global, bytes: &[u8], start: u32) -> Result<Vec<Point>, AllocError>
+/// The code points that these bytes spell, which stand in a file from this offset on.
+pub(crate) fn points_in(alloc: Global, bytes: &[u8], start: u32) -> Result<Vec<Point>, AllocError>
     requires size { start + length bytes.now ≤ 16777215 }
     requires utf8 { IsUtf8 bytes.now }
     ensures { IfOk result (λ points. points.items ≡ points_from start (chars bytes.now)) }

@@ -53,9 +53,9 @@ same_place from (x ∷ p) (y ∷ q) t s u v h e k =
 -- ---- the last token is none of these
 
 -- what stands in front of the last token
-record InFront (us : List Lexeme) (o : Lexeme) (x w : List Lexeme) : Type 0 where
-  rest : List Lexeme
-  are : w ≡ us ++ o ∷ rest
+pub record InFront (us : List Lexeme) (o : Lexeme) (x w : List Lexeme) : Type 0 where
+  pub rest : List Lexeme
+  pub are : w ≡ us ++ o ∷ rest
 
 in_front : (us : List Lexeme) (o : Lexeme) (x w : List Lexeme) (last : Lexeme) → (o ≡ last → ⊥) → us ++ o ∷ x ≡ w ++ last ∷ [] → InFront us o x w
 in_front [] o x [] last other e = absurd (other cc)
@@ -110,13 +110,12 @@ inside_at all before first more behind b (x ∷ front) rest e k =
       same = refl;
     }
 
-module _ (file : List ℕ) (w : List Lexeme) (end : Lexeme) (items : Stmts) (script : IsScript w end items) (are : lexemes file ≡ w ++ end ∷ []) (outer inner : Function) (s : StandsAlone w end items script outer) (t : StandsAlone w end items script inner)
-    (b : Braced) (front rest : List Lexeme) (there : at_front s.first ∷ s.rest ≡ front ++ (all_of b ++ rest)) (starts : b.first.start ≡ t.first.start)
+module _ (file : List ℕ) (w : List Lexeme) (end : Lexeme) (items : Stmts) (script : IsScript w end items) (are : lexemes file ≡ w ++ end ∷ []) (inner : Function) (t : StandsAlone w end items script inner)
     (from to : ℕ) (begins : from ≡ t.first.start) (ends : to ≡ end_of t.first t.rest)
     (window low : ℕ) (ps es : List Point) (us : List Lexed) (opener last : Lexed) (text : text_of file from to ≡ ps ++ es) (reaches : place to es ≡ window) (rises : RiseTo window low ps) (reads : Reads window [] false ps (us ++ opener ∷ last ∷ []))
-    (opens : opener.kind ≡ kind.Mark mark.OPEN_BRACE) (at_end : opener.end ≡ window) (head : IsHead (map lexeme_of us)) where
+    (opens : opener.kind ≡ kind.Mark mark.OPEN_BRACE) (at_end : opener.end ≡ window) where
   -- the function's tokens alone begin with these
-  more : Grown to [] false (ps ++ es) us opener
+  pub more : Grown to [] false (ps ++ es) us opener
   more = grown window low [] false ps us opener last rises reads opens at_end to es reaches
 
   alone : map lexeme_of us ++ lexeme_of opener ∷ map lexeme_of more.others ≡ (at_front t.first ∷ t.rest) ++ end_token to ∷ []
@@ -130,27 +129,29 @@ module _ (file : List ℕ) (w : List Lexeme) (end : Lexeme) (items : Stmts) (scr
   no_end : lexeme_of opener ≡ end_token to → ⊥
   no_end e = let same : kind.Mark mark.OPEN_BRACE ≡ kind.End = sym opens ∙ ap (λ (x : Lexeme). x.kind) e in cc
 
-  inside_front : InFront (map lexeme_of us) (lexeme_of opener) (map lexeme_of more.others) (at_front t.first ∷ t.rest)
+  -- so do the tokens without the one at the end
+  pub inside_front : InFront (map lexeme_of us) (lexeme_of opener) (map lexeme_of more.others) (at_front t.first ∷ t.rest)
   inside_front = in_front (map lexeme_of us) (lexeme_of opener) (map lexeme_of more.others) (at_front t.first ∷ t.rest) (end_token to) no_end alone
 
-  abbrev tail_of_braced : List Lexeme
-  tail_of_braced = b.more ++ (b.opener ∷ (b.inside ++ b.closer ∷ []))
+  module _ (outer : Function) (s : StandsAlone w end items script outer) (b : Braced) (front rest : List Lexeme) (there : at_front s.first ∷ s.rest ≡ front ++ (all_of b ++ rest)) (starts : b.first.start ≡ t.first.start) (head : IsHead (map lexeme_of us)) where
+    abbrev tail_of_braced : List Lexeme
+    tail_of_braced = b.more ++ (b.opener ∷ (b.inside ++ b.closer ∷ []))
 
-  around : Inside (lexemes file) b (tail_of_braced ++ rest)
-  around = inside_at (lexemes file) s.before s.first s.rest (s.next ∷ s.behind) b front ((b.more ++ (b.opener ∷ (b.inside ++ b.closer ∷ []))) ++ rest) (are ∙ s.split) there
+    around : Inside (lexemes file) b (tail_of_braced ++ rest)
+    around = inside_at (lexemes file) s.before s.first s.rest (s.next ∷ s.behind) b front ((b.more ++ (b.opener ∷ (b.inside ++ b.closer ∷ []))) ++ rest) (are ∙ s.split) there
 
-  one : SamePlace around.before t.before around.first t.first ((tail_of_braced ++ rest) ++ around.behind) (t.rest ++ t.next ∷ t.behind)
-  one = same_place 0 around.before t.before around.first t.first ((tail_of_braced ++ rest) ++ around.behind) (t.rest ++ t.next ∷ t.behind) (subst (TokensRise 0) around.split (lexemes_rise file)) (sym around.split ∙ are ∙ t.split) (ap (λ (x : Lexeme). x.start) around.same ∙ starts)
+    one : SamePlace around.before t.before around.first t.first ((tail_of_braced ++ rest) ++ around.behind) (t.rest ++ t.next ∷ t.behind)
+    one = same_place 0 around.before t.before around.first t.first ((tail_of_braced ++ rest) ++ around.behind) (t.rest ++ t.next ∷ t.behind) (subst (TokensRise 0) around.split (lexemes_rise file)) (sym around.split ∙ are ∙ t.split) (ap (λ (x : Lexeme). x.start) around.same ∙ starts)
 
-  -- the body's opening brace is the one that was found
-  pub hole_found : b.opener.end ≡ window
-  hole_found =
-      let heads : SameHead (map lexeme_of us) (at_front b.first ∷ b.more) (lexeme_of opener) b.opener =
-      one_head (map lexeme_of us) (at_front b.first ∷ b.more) (lexeme_of opener) b.opener (inside_front.rest ++ t.next ∷ t.behind) ((b.inside ++ b.closer ∷ []) ++ (rest ++ around.behind)) head (front_head b.first b.more b.head) opens b.opens
-      (sym (append_assoc (map lexeme_of us) (lexeme_of opener ∷ inside_front.rest) (t.next ∷ t.behind))
-      ∙ ap (λ (xs : List Lexeme). xs ++ t.next ∷ t.behind) (sym inside_front.are)
-      ∙ ap (λ (xs : List Lexeme). at_front t.first ∷ xs) (sym one.behind)
-      ∙ ap (λ (x : Lexeme). at_front x ∷ (((b.more ++ (b.opener ∷ (b.inside ++ b.closer ∷ []))) ++ rest) ++ around.behind)) (sym one.first)
-      ∙ ap (λ (x : Lexeme). x ∷ (((b.more ++ (b.opener ∷ (b.inside ++ b.closer ∷ []))) ++ rest) ++ around.behind)) around.same
-      ∙ ap (λ (xs : List Lexeme). at_front b.first ∷ xs) (append_assoc (b.more ++ (b.opener ∷ (b.inside ++ b.closer ∷ []))) rest around.behind ∙ append_assoc b.more (b.opener ∷ (b.inside ++ b.closer ∷ [])) (rest ++ around.behind))) in
-      ap (λ (x : Lexeme). x.end) (sym heads.opener) ∙ at_end
+    -- the body's opening brace is the one that was found
+    pub hole_found : b.opener.end ≡ window
+    hole_found =
+        let heads : SameHead (map lexeme_of us) (at_front b.first ∷ b.more) (lexeme_of opener) b.opener =
+        one_head (map lexeme_of us) (at_front b.first ∷ b.more) (lexeme_of opener) b.opener (inside_front.rest ++ t.next ∷ t.behind) ((b.inside ++ b.closer ∷ []) ++ (rest ++ around.behind)) head (front_head b.first b.more b.head) opens b.opens
+        (sym (append_assoc (map lexeme_of us) (lexeme_of opener ∷ inside_front.rest) (t.next ∷ t.behind))
+        ∙ ap (λ (xs : List Lexeme). xs ++ t.next ∷ t.behind) (sym inside_front.are)
+        ∙ ap (λ (xs : List Lexeme). at_front t.first ∷ xs) (sym one.behind)
+        ∙ ap (λ (x : Lexeme). at_front x ∷ (((b.more ++ (b.opener ∷ (b.inside ++ b.closer ∷ []))) ++ rest) ++ around.behind)) (sym one.first)
+        ∙ ap (λ (x : Lexeme). x ∷ (((b.more ++ (b.opener ∷ (b.inside ++ b.closer ∷ []))) ++ rest) ++ around.behind)) around.same
+        ∙ ap (λ (xs : List Lexeme). at_front b.first ∷ xs) (append_assoc (b.more ++ (b.opener ∷ (b.inside ++ b.closer ∷ []))) rest around.behind ∙ append_assoc b.more (b.opener ∷ (b.inside ++ b.closer ∷ [])) (rest ++ around.behind))) in
+        ap (λ (x : Lexeme). x.end) (sym heads.opener) ∙ at_end

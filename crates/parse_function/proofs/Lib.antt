@@ -16,3 +16,9 @@ pub mod Shifting
 pub mod ReadingExtents
 pub mod Fields
 pub mod Again
+pub mod ClosingBraces
+pub mod ShortBodies
+pub mod HoleHeads
+pub mod HoleTexts
+pub mod HolesFound
+pub mod HoleKinds

@@ -1,6 +1,6 @@
 -- The points of a part of a file that begins and ends between two code points.
-use Rattle.std.proofs.Common.{◌≡◌, ◌∙◌, ℕ, suc, ◌+◌, ◌-◌, ◌<◌, ◌≤◌, List, [], ◌∷◌, ◌++◌, length, take, drop, Bool, true, false, cond, refl, sym, ap, subst, arith, length-append, append_assoc}
-use Rattle.std.specs.Prelude.{nat_lt, nat_le, ◌&&◌, filter}
+use Rattle.std.proofs.Common.{◌≡◌, ◌∙◌, ℕ, ◌+◌, ◌-◌, ◌≤◌, List, [], ◌∷◌, ◌++◌, length, take, drop, Bool, true, false, cond, refl, sym, ap, arith, length-append}
+use Rattle.std.specs.Prelude.{nat_lt, nat_le, ◌&&◌}
 use Rattle.std.specs.Char.{len_utf8, encode_utf8}
 use Rattle.std.specs.Str.{IsUtf8, chars, all_scalars, encode_utf8_all}
 use Rattle.std.proofs.Math.Seq.{take-append_seam}
@@ -27,7 +27,7 @@ takes_some c = let l = (len_utf8_bounds c).0 in omega (arith, l)
 
 -- ---- points
 
-points_append : (at : ℕ) (cs ds : List ℕ) → points_from at (cs ++ ds) ≡ points_from at cs ++ points_from (at + size cs) ds
+pub points_append : (at : ℕ) (cs ds : List ℕ) → points_from at (cs ++ ds) ≡ points_from at cs ++ points_from (at + size cs) ds
 points_append at [] ds = ap (λ n. points_from n ds) (omega arith)
 points_append at (c ∷ cs) ds =
     let more = size_more c cs in
@@ -81,7 +81,7 @@ pub record IsSlice (file : List ℕ) (from to : ℕ) (codes : List ℕ) : Type 0
   pub begins : from ≡ size before
   pub ends : to ≡ from + size codes
 
-between : (b c d e : List ℕ) → b ++ c ≡ d ++ e → size b ≤ size d → (inner : List ℕ) × (d ≡ b ++ inner) × (c ≡ inner ++ e)
+pub between : (b c d e : List ℕ) → b ++ c ≡ d ++ e → size b ≤ size d → (inner : List ℕ) × (d ≡ b ++ inner) × (c ≡ inner ++ e)
 between [] c d e same le = (d, refl, same)
 between (x ∷ b) c [] e same le = absurd (let more = size_more x b in let some = takes_some x in omega (arith, le, more, some))
 between (x ∷ b) c (y ∷ d) e same le =
@@ -107,7 +107,7 @@ slice_of file from to h k le =
     (r.0, record { before = h.before; behind = k.behind; split = h.split ∙ ap (λ (cs : List ℕ). h.before ++ cs) r.2; begins = h.is; ends = omega (arith, a, b, whole) })
 
 -- all of some code points, and a part of them
-scalars_behind : (cs ds : List ℕ) → all_scalars (cs ++ ds) ≡ true → all_scalars ds ≡ true
+pub scalars_behind : (cs ds : List ℕ) → all_scalars (cs ++ ds) ≡ true → all_scalars ds ≡ true
 scalars_behind [] ds h = h
 scalars_behind (c ∷ cs) ds h = scalars_behind cs ds (and_rest _ (all_scalars (cs ++ ds)) h)
   where

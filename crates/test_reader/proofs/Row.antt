@@ -32,7 +32,7 @@ script = codes "function f(x){return x}"
 abbrev pub extent : Extent
 extent = record { start = 10; end = 23 }
 
-abbrev named : List ℕ → ℕ → Named
+abbrev pub named : List ℕ → ℕ → Named
 named text at = record { text = text; at = at }
 
 abbrev pub func_tree : Function
@@ -48,7 +48,7 @@ inner = record { func = func_tree; kind = func.Declared; name = Some (codes "f")
 
 -- Its tokens.
 
-abbrev token : Kind → Value → ℕ → ℕ → Lexeme
+abbrev pub token : Kind → Value → ℕ → ℕ → Lexeme
 token k v start end = lexeme_of (record { kind = k; value = v; start = start; end = end; after_line = false })
 
 abbrev words : List Lexeme
@@ -72,12 +72,12 @@ read = whole_text script refl refl ∙ refl
 
 -- Its tree.
 
-stands : {s : Slot} {t : Lexeme} → IsWanted s.kind t.kind → Has s.content t → AllAre s.starts t.start → AllAre s.ends t.end → t.after_line ≡ false → Is s t
+pub stands : {s : Slot} {t : Lexeme} → IsWanted s.kind t.kind → Has s.content t → AllAre s.starts t.start → AllAre s.ends t.end → t.after_line ≡ false → Is s t
 stands k c b e l = record { kind = k; content = c; starts = b; ends = e; line = λ _. l }
 
 -- a token, and those after it
 infixr 5 ◌▸◌
-◌▸◌ : {A B : Type 0} → A → B → A × B
+pub ◌▸◌ : {A B : Type 0} → A → B → A × B
 x ▸ y = (x, y)
 
 proper : ProperStmts whole false items
@@ -109,5 +109,5 @@ is = record {
   ends = refl;
 }
 
-pub function_extent : IsFunctionExtent script extent form.Function
-function_extent = record { items = items; inner = inner; is = is }
+pub function_extent : IsFunctionExtent script extent form.Function []
+function_extent = record { items = items; inner = inner; is = is; inside_are = refl }

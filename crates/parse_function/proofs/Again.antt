@@ -5,7 +5,7 @@ use Rattle.script_grammar.specs.declared.token.Token.{Token}
 use Rattle.script_grammar.specs.declared.tree.Func.{Func, out-Func}
 use Rattle.script_grammar.specs.Interpretation.{Interpretation}
 use Rattle.script_grammar.specs.Lexeme.{Lexeme, lexeme_of, get_text, set_text}
-use Rattle.script_grammar.specs.Tree.{Function, Stmts, no_stmts}
+use Rattle.script_grammar.specs.Tree.{Stmts, no_stmts}
 use Rattle.script_grammar.specs.TreeOf.{func_of}
 use Rattle.stencil_data.specs.declared.functions.Extent.{Extent}
 use Rattle.unit_text.specs.declared.Point.{Point}
@@ -14,7 +14,6 @@ use Rattle.parser_atoms.specs.Places.{AreWithoutEquals}
 use Rattle.script_scanner.specs.Order.{AreInOrder}
 use Rattle.script_scanner.specs.Stands.{StandFor, HasOneLast, GainsOnly, Keeps}
 use Rattle.script_scanner.specs.Tokens.{tokens}
-use Rattle.script_scanner.specs.Lexemes.{lexemes}
 use Rattle.parse_exprs.specs.declared.place.ParseFault.{ParseFault}
 use Rattle.parse_exprs.specs.declared.place.ParseFault.TheVariants as faults
 use Rattle.parse_exprs.specs.Env.{body_at}

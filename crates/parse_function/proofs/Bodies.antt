@@ -1,5 +1,5 @@
 -- A function that stands for a tree with whatever is given for the bodies inside it has its own body in its place.
-use Rattle.std.proofs.Common.{◌≡◌, ◌≢◌, ◌∙◌, ℕ, List, refl, sym, ap, subst, None, Some, Option, unwrap_or}
+use Rattle.std.proofs.Common.{◌≡◌, ◌≢◌, ◌∙◌, ℕ, List, refl, sym, ap, None, Some, Option, unwrap_or}
 use Rattle.script_grammar.specs.declared.tree.Func.{Func, out-Func}
 use Rattle.script_grammar.specs.declared.tree.FuncBody.{FuncBody, out-FuncBody}
 use Rattle.script_grammar.specs.declared.tree.Each.TheOpen as layer

@@ -1,12 +1,11 @@
 -- A function of a script with the bodies of the script's functions inside it is itself.
 use Rattle.std.proofs.Common.{◌≡◌, ◌∙◌, ℕ, List, None, ap}
-use Rattle.script_grammar.specs.Interpretation.{Interpretation}
 use Rattle.script_grammar.specs.Lexeme.{Lexeme}
 use Rattle.script_grammar.specs.Script.{IsScript}
 use Rattle.script_grammar.specs.Tree.{Function, function, Body, BracedBody, ShortBody, Stmts}
-use Rattle.grammar_parser_specs.specs.Filling.{fill, fill_params, fill_stmts}
+use Rattle.grammar_parser_specs.specs.Filling.{fill, fill_stmts}
 use Rattle.grammar_start_laws.specs.Own.{AllOf, HasOwn, TokensRise}
-use Rattle.grammar_start_laws.specs.Started.{started_function, started_params, started_stmts}
+use Rattle.grammar_start_laws.specs.Started.{started_function, started_params}
 use Rattle.grammar_start_laws.proofs.OwnBodies.{first_of, rest_of, same, same_params, same_stmts}
 use Rattle.grammar_start_laws.proofs.WholeTrees.{own_bodies, all_own}
 use Rattle.parse_parts.specs.Parts.{fill_inside}

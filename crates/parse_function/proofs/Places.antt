@@ -1,21 +1,19 @@
 -- The tokens of a file begin and end between code points, each after the one before.
-use Rattle.std.proofs.Common.{◌≡◌, ◌∙◌, ℕ, zero, suc, ◌+◌, ◌<◌, ◌≤◌, List, [], ◌∷◌, ◌++◌, map, length, drop, Bool, true, false, cond, refl, sym, ap, subst, arith, append_assoc, append-nil, Option, Some, None}
+use Rattle.std.proofs.Common.{◌≡◌, ◌∙◌, ℕ, zero, suc, ◌+◌, ◌≤◌, List, [], ◌∷◌, ◌++◌, map, length, drop, Bool, true, false, cond, refl, sym, ap, subst, arith, append_assoc, append-nil}
 use Rattle.std.specs.Prelude.{◌||◌, ◌==◌}
 use Rattle.std.specs.Char.{len_utf8}
-use Rattle.std.specs.Str.{IsUtf8, chars, encode_utf8_all}
+use Rattle.std.specs.Str.{IsUtf8, chars}
 use Rattle.std.proofs.lemmas.Str.{encodes-chars}
 use Rattle.script_grammar.specs.Lexeme.{Lexeme}
 use Rattle.unit_text.specs.declared.Point.{Point}
-use Rattle.unit_text.specs.Points.{points, points_from, code_of, codes_of}
+use Rattle.unit_text.specs.Points.{points, points_from, code_of}
 use Rattle.unit_text.proofs.Decoding.{codes_of-utf8}
-use Rattle.script_scanner.specs.declared.blanks.Blank.{Blank}
 use Rattle.script_scanner.specs.declared.braces.Brace.{Brace}
-use Rattle.script_scanner.specs.Blanks.{blank_at, first_line_length}
-use Rattle.script_scanner.specs.Braces.{in_substitution}
-use Rattle.script_scanner.specs.Tokens.{Piece, Lexed, Front, IsBlank, IsToken, IsNeither, front_at, place, last_token, then_tokens, tokens_within, part, without_first_line, braces_after}
+use Rattle.script_scanner.specs.Blanks.{first_line_length}
+use Rattle.script_scanner.specs.Tokens.{Lexed, Front, IsBlank, IsToken, IsNeither, front_at, place, last_token, then_tokens, tokens_within, part, without_first_line, braces_after}
 use Rattle.script_scanner.specs.Lexemes.{lexeme_of, lexemes}
 use Rattle.scan_laws.specs.Inside.{end_from, end_of}
-use Rattle.parse_function.proofs.Slices.{size, size_more, size_append, takes_some, all_inside, IsBoundary}
+use Rattle.parse_function.proofs.Slices.{size, size_more, size_append, all_inside, IsBoundary}
 
 -- Tokens that begin and end between code points, the first not before an offset and each other not before the end of the one
 -- before.

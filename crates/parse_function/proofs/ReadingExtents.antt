@@ -1,7 +1,6 @@
 -- A function's extent and the points of its text, and the tokens that are left without what stands in bodies inside it: they are
 -- the function with these bodies empty.
-use Rattle.std.proofs.Common.{◌≡◌, ◌∙◌, ℕ, suc, ◌+◌, ◌-◌, ◌<◌, ◌≤◌, ◌^◌, List, [], ◌∷◌, ◌++◌, length, map, take, drop, refl, sym, ap, subst, arith, append_assoc, length-append, None, false}
-use Rattle.script_grammar.specs.declared.token.Kind.TheVariants as kind
+use Rattle.std.proofs.Common.{◌≡◌, ◌∙◌, ℕ, suc, ◌+◌, ◌≤◌, List, [], ◌∷◌, ◌++◌, length, map, refl, sym, ap, subst, arith, append_assoc, length-append, None, false}
 use Rattle.script_grammar.specs.declared.token.FuncForm.{FuncForm}
 use Rattle.script_grammar.specs.declared.token.FuncForm.TheVariants as form
 use Rattle.script_grammar.specs.Lexeme.{Lexeme}
@@ -11,22 +10,20 @@ use Rattle.script_grammar.specs.Script.{IsFunction}
 use Rattle.script_grammar.specs.Tree.{Function, function, Stmts}
 use Rattle.stencil_data.specs.declared.functions.Extent.{Extent}
 use Rattle.unit_text.specs.declared.Point.{Point}
-use Rattle.unit_text.specs.Points.{points, points_from, LieEndToEnd}
+use Rattle.unit_text.specs.Points.{points, points_from}
 use Rattle.unit_text.proofs.Decoding.{codes_of-utf8}
 use Rattle.script_scanner.specs.Order.{AreInOrder}
-use Rattle.script_scanner.specs.Stands.{GainsOnly, IsValueAmong}
-use Rattle.script_scanner.specs.Tokens.{part, tokens, tokens_within, without_first_line, Lexed}
+use Rattle.script_scanner.specs.Stands.{GainsOnly}
+use Rattle.script_scanner.specs.Tokens.{part, tokens, tokens_within, without_first_line}
 use Rattle.script_scanner.specs.Lexemes.{lexeme_of, lexemes}
 use Rattle.grammar_parser_specs.specs.Exprs.{last_end}
 use Rattle.grammar_deferred_laws.proofs.AloneLaws.{one_function}
-use Rattle.parse_bodies.specs.Whole.{IsText}
-use Rattle.scope_analysis.specs.Functions.{Inner, function_form}
-use Rattle.scan_laws.specs.Inside.{unbroken, end_from, end_of, end_token}
+use Rattle.scope_analysis.specs.Functions.{Inner}
+use Rattle.scan_laws.specs.Inside.{end_from, end_of, end_token}
 use Rattle.scan_laws.proofs.Balanced.{pieces_close}
 use Rattle.scan_laws.proofs.ReadAlone.{read_alone}
 use Rattle.scan_skip_laws.specs.Spans.{Blanked}
-use Rattle.grammar_alone_laws.specs.Alone.{start_of, nameless, at_front, StandsAlone}
-use Rattle.grammar_alone_laws.specs.Alone as alone
+use Rattle.grammar_alone_laws.specs.Alone.{nameless, at_front, StandsAlone}
 use Rattle.grammar_alone_laws.proofs.Alone.{stands_alone, alone_shallow}
 use Rattle.grammar_skip_laws.specs.Holes as law
 use Rattle.grammar_skip_laws.specs.Holes.{LeavesOut, nothing, keeps, skips}
@@ -42,7 +39,7 @@ use Rattle.parse_function.specs.Without.{AreParts, points_without}
 use Rattle.parse_function.proofs.LeftValues.{values_left}
 use Rattle.parse_function.proofs.Lying.{LieTo, lie_codes, lie_without, lie_end_to_end, lie_few, lie_all}
 use Rattle.parse_function.proofs.Places.{ArePlaced, part_placed}
-use Rattle.parse_function.proofs.Slices.{IsBoundary, IsSlice, slice_of, order, within, points_are}
+use Rattle.parse_function.proofs.Slices.{IsSlice, slice_of, order, within, points_are}
 use Rattle.parse_function.proofs.Standing.{Stand, within_stand, none_passed, token_none_passed}
 use Rattle.parse_function.proofs.Without.{Made, made_of}
 

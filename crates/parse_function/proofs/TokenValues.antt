@@ -18,7 +18,7 @@ use Rattle.script_scanner.specs.Braces.{in_substitution}
 use Rattle.script_scanner.specs.Lexemes.{lexeme_of, text_in}
 use Rattle.script_scanner.specs.Marks.{Mark, mark_at}
 use Rattle.script_scanner.specs.Names.{is_name_start, name_length}
-use Rattle.script_scanner.specs.Numbers.{numeral_at, is_spoiled_by}
+use Rattle.script_scanner.specs.Numbers.{numeral_at}
 use Rattle.script_scanner.specs.Parts.{Body, body_of}
 use Rattle.script_scanner.specs.Words.{word_at, word_index}
 use Rattle.script_scanner.specs.Stands.{IsValueAmong}

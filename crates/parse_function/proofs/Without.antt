@@ -1,13 +1,13 @@
 -- The points of a part of a file with blanks in place of some bodies of its tokens, as they are made span by span.
-use Rattle.std.proofs.Common.{◌≡◌, ◌∙◌, ℕ, suc, ◌+◌, ◌-◌, ◌<◌, ◌≤◌, List, [], ◌∷◌, ◌++◌, length, map, take, drop, refl, sym, ap, subst, arith, append_assoc}
+use Rattle.std.proofs.Common.{◌≡◌, ◌∙◌, ℕ, ◌+◌, ◌-◌, List, [], ◌∷◌, ◌++◌, map, take, drop, refl, sym, ap, subst, arith, append_assoc}
 use Rattle.std.specs.Char.{len_utf8}
-use Rattle.std.specs.Str.{IsUtf8, chars}
+use Rattle.std.specs.Str.{IsUtf8}
 use Rattle.script_grammar.specs.Lexeme.{Lexeme}
 use Rattle.unit_text.specs.declared.Point.{Point}
 use Rattle.unit_text.specs.Points.{points_from}
 use Rattle.script_scanner.specs.Tokens.{place}
 use Rattle.scan_skip_laws.specs.Spans.{Span, blank, Blanked, whole, part}
-use Rattle.grammar_skip_laws.specs.Holes.{Hole, Braced, all_of, hole_of, LeavesOut, nothing, keeps, skips}
+use Rattle.grammar_skip_laws.specs.Holes.{Hole, all_of, hole_of, LeavesOut, nothing, keeps, skips}
 use Rattle.parse_skip_laws.specs.SkippedText.{span_of}
 use Rattle.parse_function.specs.Without.{IsPart, AreParts, points_between, points_without}
 use Rattle.parse_function.proofs.Slices.{size, size_more, size_append, IsSlice, order, within, bytes_utf8, codes_are}

@@ -1,4 +1,4 @@
-use Rattle.std.proofs.Common.{◌∙◌, suc, take, map, ap}
+use Rattle.std.proofs.Common.{◌∙◌, map}
 use Rattle.script_grammar.specs.Lexeme.{lexeme_of}
 use Rattle.parse_function.proofs.Cut.{node_is, fault_is, fault_on}
 use Rattle.parse_function.proofs.parsing.function_of.Goals as goal

@@ -1,11 +1,10 @@
 -- The texts of a function that is read on its own: those that it began with, and values of tokens of its file.
-use Rattle.std.proofs.Common.{◌≡◌, ◌∙◌, ℕ, zero, suc, ◌<◌, ◌≤◌, Bool, true, List, [], ◌∷◌, ◌++◌, map, length, Some, refl, sym, ap, subst, inl, inr, arith, codes, true≢false}
+use Rattle.std.proofs.Common.{◌≡◌, ◌∙◌, ℕ, zero, suc, ◌≤◌, true, List, [], ◌∷◌, ◌++◌, map, length, Some, refl, sym, ap, subst, inl, inr, arith, true≢false}
 use Rattle.std.specs.Prelude.{◌⊎◌, slice_get}
 use Rattle.std.specs.List.{AllByRecursion}
 use Rattle.std.proofs.lemmas.Option.{slice_get_within}
 use Rattle.script_grammar.specs.declared.token.FuncForm.{FuncForm}
 use Rattle.script_grammar.specs.declared.token.Kind.{Kind}
-use Rattle.script_grammar.specs.declared.token.Kind.TheVariants as kind
 use Rattle.script_grammar.specs.Lexeme.{Lexeme}
 use Rattle.script_grammar.specs.Tree.{Stmts}
 use Rattle.stencil_data.specs.declared.functions.Extent.{Extent}
@@ -13,7 +12,7 @@ use Rattle.unit_text.specs.Points.{points}
 use Rattle.parser_atoms.specs.Places.{StandsIn}
 use Rattle.script_scanner.specs.Lexemes.{lexeme_of, lexemes}
 use Rattle.script_scanner.specs.Stands.{GainsOnly, IsValueAmong}
-use Rattle.script_scanner.specs.Tokens.{Lexed, tokens}
+use Rattle.script_scanner.specs.Tokens.{tokens}
 use Rattle.grammar_parser_specs.specs.Exprs.{last_end}
 use Rattle.scope_analysis.specs.Functions.{Inner}
 use Rattle.track_atoms.specs.Known.{HasWords, known_atoms}
@@ -26,7 +25,7 @@ use Rattle.parse_function.specs.Extents.{IsExtentOf}
 use Rattle.lazy_compile.specs.OwnTexts.{TakesFrom}
 use Rattle.lazy_compile.specs.Texts.{known_texts, IsTextOf, AreTextsOf}
 use Rattle.lazy_compile.proofs.OwnTexts.{either_at}
-use Rattle.parse_function.proofs.TokenValues.{has_text, IsAmong, HasValue, value_among, among_value, among_left, among_right, among_either, tokens_suited}
+use Rattle.parse_function.proofs.TokenValues.{has_text, IsAmong, value_among, among_value, among_left, among_right, among_either, tokens_suited}
 use Rattle.std.proofs.lemmas.List.{append_assoc}
 
 -- ---- a token of the extent is one of the file

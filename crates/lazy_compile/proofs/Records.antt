@@ -26,7 +26,7 @@ use Rattle.compile_specs.specs.Eager.{Site}
 use Rattle.compile_specs.specs.Shown.{closed_of}
 use Rattle.grammar_alone_laws.specs.Alone as alone
 use Rattle.grammar_alone_laws.specs.Functions.{IsFunctionIn, directly, inside}
-use Rattle.parse_function.specs.Extents.{IsExtentOf, IsFunctionExtent}
+use Rattle.parse_function.specs.Extents.{IsExtentOf, IsFunctionExtent, extents_in}
 use Rattle.parse_function.proofs.ReadingExtents.{in_file}
 use Rattle.lazy_compile.specs.Delazified.{CanBeDelazified}
 use Rattle.lazy_compile.specs.Forms.{form_of}
@@ -102,8 +102,8 @@ module _ (file : List ℕ) (lazy : RecordView) (texts : List (List ℕ)) (chain 
     ends = reader_end m.inner.func ∙ ap (λ (e : Extent). e.end) (sym extent_is);
   }
 
-  pub some_extent : (form : FuncForm) → form ≡ form_of lazy.kind → IsFunctionExtent file lazy.extent form
-  some_extent form is = record { items = items; inner = m.inner; is = extent_of_record form is }
+  pub some_extent : (form : FuncForm) → form ≡ form_of lazy.kind → (within : List Extent) → within ≡ extents_in m.inner → IsFunctionExtent file lazy.extent form within
+  some_extent form is within are = record { items = items; inner = m.inner; is = extent_of_record form is; inside_are = are }
 
   pub ends_in_file : lazy.extent.end ≤ length file
   ends_in_file = in_file file lazy.extent (form_of lazy.kind) items m.inner (extent_of_record (form_of lazy.kind) refl)

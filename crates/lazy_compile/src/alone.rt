@@ -1,9 +1,10 @@
 //! A function that is read on its own, with what its record says of it, by texts of its own.
 
-ghost use Rattle.std.specs.Prelude.{IfOk, List};
+ghost use Rattle.std.specs.Prelude.{◌≡◌, IfOk, List};
 ghost use Rattle.script_grammar.specs.Tree.{Stmts};
 ghost use Rattle.stencil_data.specs.LinkView.{LinkView};
 ghost use Rattle.compile_specs.specs.Eager.{Site};
+ghost use Rattle.parse_function.specs.Extents.{extents_in};
 ghost use Rattle.lazy_compile.specs.Alone.{ReadsAlone};
 ghost use Rattle.lazy_compile.specs.Delazified.{CanBeDelazified};
 ghost use Rattle.lazy_compile.specs.Texts.{AreTextsOf};
@@ -14,7 +15,7 @@ use parse_function::read_function;
 use parser_atoms::Atoms;
 use script_grammar::tree::Func;
 use std::alloc::{AllocError, Global};
-use stencil_data::{ClosedName, LazyRecord, Text};
+use stencil_data::{ClosedName, Extent, LazyRecord, Text};
 use track_atoms::known_words;
 
 /// The tree of a function, its name, and its names that functions in it close over. Atoms are indexes into `texts`.
@@ -26,14 +27,16 @@ pub(crate) struct FunctionAlone {
     pub texts: Vec<Text>,
 }
 
-/// Reads the function that has this record in the script that `file` is. The atoms of the record are indexes into `texts`.
+/// Reads the function that has this record in the script that `file` is. `inside` are the extents of the functions directly in
+/// it, and the atoms of the record are indexes into `texts`.
 pub(crate) fn read_alone(
     alloc: Global,
     file: &[u8],
     lazy: &LazyRecord,
+    inside: &[Extent],
     texts: &[Text],
 ) -> Result<FunctionAlone, AllocError>
-    requires { (chain : List LinkView) × (items : Stmts) × (m : Site) × CanBeDelazified file.now lazy.now texts.now chain items m }
+    requires { (chain : List LinkView) × (items : Stmts) × (m : Site) × CanBeDelazified file.now lazy.now texts.now chain items m × (inside.now ≡ extents_in m.inner) }
     ensures read { IfOk result (ReadsAlone file.now lazy.now texts.now) }
     ensures texts { IfOk result (λ alone. AreTextsOf file.now texts.now alone.texts.items) }
 {
@@ -42,7 +45,7 @@ pub(crate) fn read_alone(
     let name = own_name(alloc, &mut atoms, lazy.name, texts)?;
     let closed = own_closed(alloc, &mut atoms, &lazy.closed, texts)?;
     let form = form_of(lazy.kind);
-    let (func, texts) = read_function(alloc, file, lazy.extent, form, known, atoms)?;
+    let (func, texts) = read_function(alloc, file, lazy.extent, inside, form, known, atoms)?;
     Ok(FunctionAlone {
         func,
         name,

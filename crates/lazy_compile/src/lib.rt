@@ -11,9 +11,10 @@
 //! of compile_specs (`specs/Eager.antt`).
 #![tactic(auto)]
 
-ghost use Rattle.std.specs.Prelude.{IfOk};
+ghost use Rattle.std.specs.Prelude.{◌≡◌, IfOk};
 ghost use Rattle.script_grammar.specs.Tree.{Stmts};
 ghost use Rattle.compile_specs.specs.Eager.{Site};
+ghost use Rattle.parse_function.specs.Extents.{extents_in};
 ghost use Rattle.lazy_compile.specs.Delazified.{CanBeDelazified, CompilesAlone};
 ghost use Rattle.lazy_compile.specs.Texts.{AreTextsOf};
 
@@ -26,7 +27,7 @@ use crate::alone::{FunctionAlone, read_alone};
 use crate::chains::chains_of;
 use compile_function::{CompiledFunction, compile_function};
 use std::alloc::{AllocError, Global};
-use stencil_data::{Chain, FunctionStencil, LazyRecord, Text};
+use stencil_data::{Chain, Extent, FunctionStencil, LazyRecord, Text};
 
 /// A function that was compiled on its own.
 #[derive(Drop)]
@@ -38,18 +39,21 @@ pub struct Delazified {
     pub chains: Vec<Chain>,
 }
 
-/// Compiles the function that has this record in the script that `file` is, under the chain of the scopes around it. The atoms
-/// of the record are indexes into `texts`.
+/// Compiles the function that has this record in the script that `file` is, under the chain of the scopes around it. `inside`
+/// are the extents of the functions directly in it, in the order of the source, and the atoms of the record are indexes into
+/// `texts`.
 ///
-/// Of the file the bytes of the function's extent are read and no others. Time is linear in these. Only memory can fail.
+/// Of the file the bytes of the function's extent are read and no others, without those in the braced bodies of functions
+/// directly in it. Time is linear in these. Only memory can fail.
 pub fn delazify(
     alloc: Global,
     file: &[u8],
     lazy: &LazyRecord,
+    inside: &[Extent],
     texts: &[Text],
     chain: &Chain,
 ) -> Result<Delazified, AllocError>
-    requires { (items : Stmts) × (m : Site) × CanBeDelazified file.now lazy.now texts.now chain.now items m }
+    requires { (items : Stmts) × (m : Site) × CanBeDelazified file.now lazy.now texts.now chain.now items m × (inside.now ≡ extents_in m.inner) }
     ensures compiled { IfOk result (CompilesAlone file.now lazy.now texts.now chain.now) }
     ensures texts { IfOk result (λ made. AreTextsOf file.now texts.now made.texts.items) }
 {
@@ -58,11 +62,12 @@ pub fn delazify(
         name,
         closed,
         texts,
-    } = read_alone(alloc, file, lazy, texts)?;
-    let CompiledFunction { stencil, inside } = compile_function(
-        alloc, &func, lazy.kind, name, &closed, chain, &texts,
-    )?;
-    let chains = chains_of(alloc, inside)?;
+    } = read_alone(alloc, file, lazy, inside, texts)?;
+    let CompiledFunction {
+        stencil,
+        inside: sites,
+    } = compile_function(alloc, &func, lazy.kind, name, &closed, chain, &texts)?;
+    let chains = chains_of(alloc, sites)?;
     Ok(Delazified {
         stencil,
         texts,

@@ -1,5 +1,4 @@
 use Rattle.std.proofs.Common.{refl, subst, sym}
-use Rattle.parse_track.specs.declared.region.Known.{Known}
 use Rattle.stencil_data.specs.Views.{RecordView}
 use Rattle.track_atoms.specs.Known.{HasWords}
 use Rattle.lazy_compile.specs.Delazified.{CanBeDelazified}
@@ -11,7 +10,7 @@ use Rattle.lazy_compile.proofs.alone.read_alone.Goals as goal
 pub read_function-requires-clause-function : goal.read_function-requires-clause-function
 read_function-requires-clause-function c =
     let can = subst (λ (v : RecordView). CanBeDelazified c.args.file.now v c.args.texts.now c.requires.0 c.requires.1 c.requires.2) (sym c.lazy.view_is) c.requires.3 in
-    some_extent c.args.file.now _ c.args.texts.now c.requires.0 c.requires.1 c.requires.2 can c.form_of-form.result c.form_of-form.ensures
+    some_extent c.args.file.now _ c.args.texts.now c.requires.0 c.requires.1 c.requires.2 can c.form_of-form.result c.form_of-form.ensures c.args.inside.now c.requires.4
 
 pub read_function-requires-clause-words : goal.read_function-requires-clause-words
 read_function-requires-clause-words c =

@@ -59,20 +59,20 @@ records_few bytes made is =
 
 -- the same script as it was found by another way
 pub shows_same : (bytes : List ℕ) (a b : Stmts) (m n : ℕ) (want : show.Wanted) (shown : MergedView) → IsValid bytes a m → IsValid bytes b n → Shows want a (length bytes) shown → Shows want b (length bytes) shown
-shows_same bytes a b m n want shown h k s = subst (λ (items : Stmts). Shows want items (length bytes) shown) (same_valid bytes a m b n h k).0 s
+shows_same bytes a b m n want shown h k s = subst (λ (items : Stmts). Shows want items (length bytes) shown) (same_valid bytes a b m n h k).0 s
 
 -- ---- what is written
 
-pub listed_written : (command : Command) (name : List ℕ) (shown : MergedView) (out : List ℕ) → shows_scripts command ≡ true → (command ≡ command.Save → ⊥)
-    → ((named : NamedMerged (List Listed)) → MergedStandsFor ShowsListed shown named → out ≡ file_line name ++ listed_text command named) → IsWrittenFor command name shown out
-listed_written command.Code name shown out shows no listed = λ want file items count short valid s. (s.named, s.shown, listed (listed_merged s.named) (commands_as_listed shown s.named s.stands))
-listed_written command.Scopes name shown out shows no listed = λ want file items count short valid s. (s.named, s.shown, listed (listed_merged s.named) (commands_as_listed shown s.named s.stands))
-listed_written command.Check name shown out shows no listed = absurd (cc)
-listed_written command.Save name shown out shows no listed = absurd (no refl)
-listed_written command.Load name shown out shows no listed = absurd (cc)
-listed_written command.Verify name shown out shows no listed = absurd (cc)
+pub listed_written : (c : Command) (name : List ℕ) (shown : MergedView) (out : List ℕ) → shows_scripts c ≡ true → (c ≡ command.Save → ⊥)
+    → ((named : NamedMerged (List Listed)) → MergedStandsFor ShowsListed shown named → out ≡ file_line name ++ listed_text c named) → IsWrittenFor c name shown out
+listed_written command.Code name shown out shows unlike listed = λ want file items count short valid s. (s.named, s.shown, listed (listed_merged s.named) (commands_as_listed shown s.named s.stands))
+listed_written command.Scopes name shown out shows unlike listed = λ want file items count short valid s. (s.named, s.shown, listed (listed_merged s.named) (commands_as_listed shown s.named s.stands))
+listed_written command.Check name shown out shows unlike listed = absurd (cc)
+listed_written command.Save name shown out shows unlike listed = absurd (unlike refl)
+listed_written command.Load name shown out shows unlike listed = absurd (cc)
+listed_written command.Verify name shown out shows unlike listed = absurd (cc)
 
-pub image_written : (command : Command) (name : List ℕ) (shown : MergedView) (image : List ℕ) → command ≡ command.Save → TextsSmall shown.texts → IsWrittenOf shown image → IsWrittenFor command name shown image
-image_written command name shown image is small written =
-    subst (λ (c : Command). IsWrittenFor c name shown image) (sym is)
+pub image_written : (c : Command) (name : List ℕ) (shown : MergedView) (image : List ℕ) → c ≡ command.Save → TextsSmall shown.texts → IsWrittenOf shown image → IsWrittenFor c name shown image
+image_written c name shown image is small written =
+    subst (λ (x : Command). IsWrittenFor x name shown image) (sym is)
     (λ want file items count short valid s. (s.named, s.shown, shown_has_image file items count (length file) (to_show want) shown image short valid s small written))

@@ -14,9 +14,9 @@ returns-in_ok-text-in-Check-clause-is c =
     answers_checked c.args.job.now.command (asked.wanted c.args.job.now.want) c.args.name.now c.args.bytes.now c.args.script c.len-functions.result _ c.in-Check.is c.requires.script
     (let e = c.len-functions.ensures in let o = c.args.script.functions.ok.0 in omega (arith, e, o)) c.in_ok-text-in-Check.ensures refl
 
-pub returns-clause-is : goal.returns-clause-is
-returns-clause-is c =
+pub returns-in_ok-text-in_default-clause-is : goal.returns-in_ok-text-in_default-clause-is
+returns-in_ok-text-in_default-clause-is c =
     let s = c.requires.script in
     let want = asked.wanted c.args.job.now.want in
     answers_script c.args.job.now.command want c.args.name.now c.args.bytes.now c.args.script _ c.requires.source s
-    (c.in_ok-text.ensures want c.args.bytes.now s.is.items (length c.args.script.functions.items) s.is.tokens.short s.is.valid (c.in_ok-shown.ensures.shows s.is)) refl
+    (c.in_ok-text-in_default.ensures want c.args.bytes.now s.is.items (length c.args.script.functions.items) s.is.tokens.short s.is.valid (c.in_ok-shown-in_default.ensures.shows s.is)) refl

@@ -11,5 +11,5 @@ unreachable-requires c =
     let script = c.requires.script in
     not_refused c.args.bytes.now script.0 script.1 _ script.2 (subst (λ (x : SourceText). IsSourceText asked.All c.args.bytes.now x) c.in-Refused.is c.in_ok-source.ensures)
 
-pub returns-in-Script : goal.returns-in-Script
-returns-in-Script c = (script_is asked.All c.args.bytes.now c.in_ok-source.source c.in-Script.script c.in_ok-source.ensures c.in-Script.is).is
+pub returns : goal.returns
+returns c = (script_is asked.All c.args.bytes.now c.in_ok-source.source c.in-Script.script c.in_ok-source.ensures c.in-Script.is).is

@@ -33,7 +33,7 @@ tails_same : {A : Type 0} (x y : A) (xs ys : List A) → x ∷ xs ≡ y ∷ ys �
 tails_same x y xs ys e = cc
 
 -- a record at a place stands for that of the function there
-record_stands : (texts : List (List ℕ)) (starts : List ℕ) (bound : List (Bound (List ℕ))) (records : List RecordView) (all : List Site) (place : ℕ) (m : Site) (lazy : RecordView)
+pub record_stands : (texts : List (List ℕ)) (starts : List ℕ) (bound : List (Bound (List ℕ))) (records : List RecordView) (all : List Site) (place : ℕ) (m : Site) (lazy : RecordView)
     → RecordsWithin (length texts) records → map (named_record texts) records ≡ map (record_of starts bound) (map (λ (s : Site). (compiled_at s).part) all)
     → slice_get all place ≡ Some m → slice_get records place ≡ Some lazy → RecordStandsFor texts lazy (record_of starts bound (compiled_at m).part)
 record_stands texts starts bound [] all place m lazy within e there recorded = absurd (none-some lazy recorded)

@@ -5,3 +5,4 @@ pub mod Outermost
 mod Entries
 pub mod Merging
 pub mod Asking
+pub mod Inside

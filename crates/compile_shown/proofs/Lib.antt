@@ -3,3 +3,4 @@ mod Nested
 mod Unshown
 pub mod Counts
 pub mod Steps
+mod ExtentsInside

@@ -1,18 +1,18 @@
 -- Each step while the functions of a script are passed one after another.
-use Rattle.std.proofs.Common.{◌≡◌, ◌∙◌, ℕ, zero, suc, ◌+◌, ◌-◌, ◌^◌, ◌<◌, ◌≤◌, ◌⊎◌, inl, inr, Bool, true, false, List, [], ◌∷◌, ◌++◌, append-nil, length, map, drop, replicate, Option, Some, None, option_map, refl, sym, ap, ap₂, subst, arith, codes}
+use Rattle.std.proofs.Common.{◌≡◌, ◌∙◌, ℕ, zero, suc, ◌+◌, ◌-◌, ◌^◌, ◌<◌, ◌≤◌, inl, inr, Bool, true, false, List, [], ◌∷◌, ◌++◌, length, map, replicate, Option, Some, None, option_map, refl, sym, ap, ap₂, subst, arith}
 use Rattle.std.specs.Prelude.{slice_get, slice_index_or, reverse, Contains}
 use Rattle.std.specs.List.{All}
 use Rattle.std.proofs.lemmas.List.{length-map}
 use Rattle.std.proofs.lemmas.List.Elements.{All-contains_itself}
-use Rattle.std.proofs.lemmas.Option.{slice_get-map, slice_get_within, slice_get-get_or}
+use Rattle.std.proofs.lemmas.Option.{slice_get-map, slice_get-get_or}
 use Rattle.script_grammar.specs.Shows.{ShowAll}
 use Rattle.script_grammar.specs.Tree.{Function, function, Stmts}
 use Rattle.stencil_data.specs.declared.functions.Extent.{Extent}
 use Rattle.stencil_data.specs.LinkView.{LinkView}
 use Rattle.stencil_data.specs.MergedView.{MergedView}
 use Rattle.stencil_data.specs.Named.{NamedFunction, NamedInitial, NamedRecord}
-use Rattle.stencil_data.specs.StandsFor.{named_record, InitialStandsFor, MergedStandsFor}
-use Rattle.stencil_data.specs.Views.{FunctionView, InitialView, RecordView}
+use Rattle.stencil_data.specs.StandsFor.{named_record, InitialStandsFor}
+use Rattle.stencil_data.specs.Views.{RecordView}
 use Rattle.bytecode_buf.specs.Command.{Command, ShowsCommands}
 use Rattle.bytecode_buf.specs.InRange.{Small, TextsSmall}
 use Rattle.parse_track.specs.ClosedNames.{Bound}
@@ -27,7 +27,10 @@ use Rattle.emit_limit_laws.specs.Offsets.{OffsetsRise, site_starts}
 use Rattle.emit_limit_laws.proofs.Files.{file_stands}
 use Rattle.emit_limit_laws.proofs.RisingSites.{sites_numbered, sites_rise}
 use Rattle.emit_stmts.specs.Functions.{chain_at, extent_of, start_of, top_script}
-use Rattle.compile_specs.specs.Eager.{Site, AllSites, sites_in, top_sites, compiled_at}
+use Rattle.emit_stmts.specs.Functions as functions_of
+use Rattle.grammar_alone_laws.specs.Alone as alone
+use Rattle.parse_function.specs.Extents as read
+use Rattle.compile_specs.specs.Eager.{Site, sites_in, top_sites, compiled_at}
 use Rattle.compile_specs.specs.Shown.{Wanted, is_shown, number_of, record_of, initial, shown, extents_of, starts_of}
 use Rattle.compile_wanted.specs.Flags.{shown_flags, wanted_flags}
 use Rattle.compile_wanted.specs.Shows.{Shows}
@@ -42,6 +45,8 @@ use Rattle.lazy_compile.proofs.Records.{is_in}
 use Rattle.compile_initial.specs.declared.InitialStencil.{InitialStencil}
 use Rattle.compile_initial.specs.Initial.{IsInitialOf, HasTextsOf}
 use Rattle.compile_lazy_laws.proofs.Asking.{can_delazify_part}
+use Rattle.compile_lazy_laws.specs.Inside.{IsNumberOf, extents_at, NamesInside}
+use Rattle.compile_lazy_laws.proofs.Inside.{names_inside}
 use Rattle.compile_lazy_laws.proofs.Merging.{begins_shown, adds_shown, passes_shown, ends_shown, function_at}
 use Rattle.compile_lazy_laws.proofs.Outermost.{outermost_valid}
 use Rattle.compile_shown.specs.Counting.{extents_in, shown_count, trues}
@@ -120,6 +125,23 @@ each P Q (x ∷ xs) f h = (f x (h 0 x (omega arith)), each P Q xs f (λ k d lt. 
 
 each_of : {X : Type 0} (P : X → Type 0) (xs : List X) → ((x : X) → Contains xs x → P x) → AllOf P xs
 each_of P xs f = each P (Contains xs) xs f (All-contains_itself xs)
+
+all_same : (xs ys : List Extent) → map (λ (e : Extent). Some e) xs ≡ map (λ (e : Extent). Some e) ys → xs ≡ ys
+all_same [] [] e = refl
+all_same [] (y ∷ ys) e = absurd (cc)
+all_same (x ∷ xs) [] e = absurd (cc)
+all_same (x ∷ xs) (y ∷ ys) e =
+    let first : x ≡ y = cc in
+    let behind : map (λ (z : Extent). Some z) xs ≡ map (λ (z : Extent). Some z) ys = cc in
+    ap₂ (λ (z : Extent) (zs : List Extent). z ∷ zs) first (all_same xs ys behind)
+
+-- two ways to say where functions stand
+read_extent : (f : Function) → extent_of f ≡ record { start = alone.start_of f; end = alone.end_of f }
+read_extent (function _ _ _ _ _ _ _ _) = refl
+
+read_extents : (is : List Inner) → functions_of.extents_of is ≡ map (λ (j : Inner). record { start = alone.start_of j.func; end = alone.end_of j.func }) is
+read_extents [] = refl
+read_extents (i ∷ is) = ap₂ (λ (e : Extent) (es : List Extent). e ∷ es) (read_extent i.func) (read_extents is)
 
 own_start : (f : Function) → (extent_of f).start ≡ start_of f
 own_start (function _ _ _ _ _ _ _ _) = refl
@@ -345,13 +367,23 @@ module _ (want : Wanted) (bytes : List ℕ) (made : InitialStencil) (is : IsInit
 
   -- ---- as the code asks for them
 
-  pub asked : (place : ℕ) (chain : List LinkView) (hands : Hands) (lazy : RecordView) (merged : MergedView) (texts : List (List ℕ)) → texts ≡ made.parts.texts → slice_get made.parts.records place ≡ Some lazy
-      → IsUpTo want bytes made is place (Some chain ∷ hands) merged → (items : Stmts) × (m : Site) × CanBeDelazified bytes lazy texts chain items m
-  asked place chain hands lazy merged texts same record_at u =
+  -- what its record names
+  names : (place : ℕ) (m : Site) (lazy : RecordView) → slice_get is.all place ≡ Some m → slice_get made.parts.records place ≡ Some lazy → NamesInside made.parts.records lazy m
+  names place m lazy at record_at = names_inside bytes is.items (length made.parts.records) is.all made.parts is.named top place m lazy is.valid is.short is.functions is.is is.stands at record_at
+
+  pub numbers_next : (place : ℕ) (chain : List LinkView) (hands : Hands) (lazy : RecordView) (merged : MergedView) → slice_get made.parts.records place ≡ Some lazy → IsUpTo want bytes made is place (Some chain ∷ hands) merged
+      → All (IsNumberOf made.parts.records) lazy.inner
+  numbers_next place chain hands lazy merged record_at u = let next = can_next place chain hands lazy merged record_at u in (names place next.0 lazy next.1 record_at).within
+
+  pub asked : (place : ℕ) (chain : List LinkView) (hands : Hands) (lazy : RecordView) (merged : MergedView) (texts : List (List ℕ)) (within : List Extent) → texts ≡ made.parts.texts → map (λ (e : Extent). Some e) within ≡ extents_at made.parts.records lazy.inner
+      → slice_get made.parts.records place ≡ Some lazy → IsUpTo want bytes made is place (Some chain ∷ hands) merged
+      → (items : Stmts) × (m : Site) × CanBeDelazified bytes lazy texts chain items m × (within ≡ read.extents_in m.inner)
+  asked place chain hands lazy merged texts within same extents record_at u =
       let next = can_next place chain hands lazy merged record_at u in (
         is.items,
         next.0,
         subst (λ (ts : List (List ℕ)). CanBeDelazified bytes lazy ts chain is.items next.0) (sym same) next.2,
+        all_same within (functions_of.extents_of (inner_function next.0.inner.kind next.0.inner.name next.0.inner.func)) (extents ∙ (names place next.0 lazy next.1 record_at).extents) ∙ read_extents (inner_function next.0.inner.kind next.0.inner.name next.0.inner.func),
       )
 
   pub room_next : (place : ℕ) (chain : List LinkView) (hands : Hands) (lazy : RecordView) (merged : MergedView) (alone : Delazified) (texts : List (List ℕ)) → texts ≡ alone.texts.items → slice_get made.parts.records place ≡ Some lazy

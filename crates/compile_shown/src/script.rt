@@ -1,14 +1,16 @@
 //! A script whose functions are passed one after another.
 
-ghost use Rattle.std.specs.Prelude.{◌≡◌, ◌<◌, ◌∷◌, ℕ, List, true, length, reverse, IfOk, OnOk, Some};
+ghost use Rattle.std.specs.Prelude.{◌≡◌, ◌<◌, ◌∷◌, ℕ, List, true, length, map, reverse, IfOk, OnOk, Some};
+ghost use Rattle.std.specs.List.{All};
 ghost use Rattle.compile_initial.specs.Initial.{IsInitialOf};
+ghost use Rattle.compile_lazy_laws.specs.Inside.{IsNumberOf, extents_at};
 ghost use Rattle.compile_shown.specs.UpTo.{BeginsWith, HasPassed, Passes, PassesOver};
 
 use crate::at_hand::{copies_of, put, put_none};
 use compile_initial::InitialStencil;
 use lazy_compile::{Delazified, delazify};
 use std::alloc::{AllocError, Global};
-use stencil_data::{Chain, LazyRecord};
+use stencil_data::{Chain, Extent, LazyRecord};
 use stencil_merge::Merger;
 
 /// The script of these bytes, before any of its functions is compiled.
@@ -31,6 +33,41 @@ fn inner_count(lazy: &LazyRecord) -> usize
     ensures { result ≡ length lazy.now.inner }
 {
     lazy.inner.len()
+}
+
+/// The extent of the function that has this record.
+fn extent_of(lazy: &LazyRecord) -> Extent
+    ensures { result ≡ lazy.now.extent }
+{
+    lazy.extent
+}
+
+/// The extents of the functions of these numbers, by the records of all functions.
+fn extents_of(
+    alloc: Global,
+    records: &[LazyRecord],
+    numbers: &[u32],
+) -> Result<Vec<Extent>, AllocError>
+    requires { All (IsNumberOf records.now) numbers.now }
+    ensures { IfOk result (λ extents. map Some extents.items ≡ extents_at records.now numbers.now) }
+{
+    let mut extents = Vec::new(alloc);
+    for number in numbers {
+        extents.push(extent_of(&records[*number as usize - 1]))?;
+    }
+    Ok(extents)
+}
+
+/// The extents of the functions directly in the one that has this record.
+fn extents_inside(
+    alloc: Global,
+    records: &[LazyRecord],
+    lazy: &LazyRecord,
+) -> Result<Vec<Extent>, AllocError>
+    requires { All (IsNumberOf records.now) lazy.now.inner }
+    ensures { IfOk result (λ extents. map Some extents.items ≡ extents_at records.now lazy.now.inner) }
+{
+    extents_of(alloc, records, &lazy.inner)
 }
 
 impl Script {
@@ -70,10 +107,13 @@ impl Script {
             (reverse self.new.hands.items) self.old.merger self.new.merger) }
     {
         let parts = &source.initial.parts;
+        let lazy = &parts.records[place];
+        let inside = extents_inside(source.alloc, &parts.records, lazy)?;
         let made = delazify(
             source.alloc,
             source.bytes,
-            &parts.records[place],
+            lazy,
+            &inside,
             &parts.texts,
             chain,
         )?;

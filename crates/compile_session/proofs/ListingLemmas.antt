@@ -1,5 +1,5 @@
 -- The least of the numbers that are missing.
-use Rattle.std.proofs.Common.{◌≡◌, ℕ, ◌+◌, ◌<◌, ◌≤◌, ◌⊎◌, inl, inr, Bool, true, cond, nat_lt, List, [], ◌∷◌, ◌++◌, length, take, get_or, Option, Some, None, MatchOption, ap, sym, subst, ◌∙◌, arith, filter, Contains, append-nil}
+use Rattle.std.proofs.Common.{◌≡◌, ℕ, ◌+◌, ◌<◌, ◌≤◌, ◌⊎◌, inl, inr, Bool, cond, nat_lt, List, [], ◌∷◌, ◌++◌, length, take, get_or, Option, Some, None, MatchOption, ap, sym, subst, ◌∙◌, arith, filter, Contains, append-nil}
 use Rattle.std.proofs.lemmas.Bool.{lt-ltb, le-ltb}
 use Rattle.std.proofs.lemmas.List.Elements.{All-nil, All-same, All-push, All-weaker, Contains-append_left, Contains-push, filter_more}
 use Rattle.session_specs.specs.Sources.{IsLeastOf}

@@ -39,7 +39,7 @@ settles_more job held before name names text later refused later_refused one all
 }
 
 -- the bytes of the files of these names, after so many
-pub total : (List ℕ → List ℕ) → ℕ → List (List ℕ) → ℕ
+unfoldable pub total : (List ℕ → List ℕ) → ℕ → List (List ℕ) → ℕ
 total held before [] = before
 total held before (name ∷ names) = total held (before + length (held name)) names
 
@@ -56,7 +56,7 @@ answering_start job names reads text none =
     subst (λ (t : List ℕ). IsAnswering job names reads 0 t false) (sym none) (record { later = λ held whole more r s. s })
 
 -- what was read of a file in this place
-read_at : (held : List ℕ → List ℕ) (before : ℕ) (names : List (List ℕ)) (reads : List (Option (Vec ℕ Global))) (index : ℕ) (d : List ℕ) (e : Option (Vec ℕ Global)) → index < length names → index < length reads → AreWholeBehind most_bytes held before names reads
+pub read_at : (held : List ℕ → List ℕ) (before : ℕ) (names : List (List ℕ)) (reads : List (Option (Vec ℕ Global))) (index : ℕ) (d : List ℕ) (e : Option (Vec ℕ Global)) → index < length names → index < length reads → AreWholeBehind most_bytes held before names reads
     → IsWholeBehind most_bytes (total held before (take index names)) (held (get_or names index d)) (get_or reads index e)
 unfolding total
 read_at held before [] reads index d e h k whole = absurd (omega (arith, h))
@@ -64,13 +64,13 @@ read_at held before (n ∷ ns) [] index d e h k whole = absurd (omega (arith, k)
 read_at held before (n ∷ ns) (r ∷ rs) zero d e h k whole = whole.0
 read_at held before (n ∷ ns) (r ∷ rs) (suc index) d e h k whole = read_at held (before + length (held n)) ns rs index d e (omega (arith, h)) (omega (arith, k)) whole.1
 
-total_more : (held : List ℕ → List ℕ) (before : ℕ) (names : List (List ℕ)) (index : ℕ) (d : List ℕ) → index < length names → total held before (take (suc index) names) ≡ total held before (take index names) + length (held (get_or names index d))
+pub total_more : (held : List ℕ → List ℕ) (before : ℕ) (names : List (List ℕ)) (index : ℕ) (d : List ℕ) → index < length names → total held before (take (suc index) names) ≡ total held before (take index names) + length (held (get_or names index d))
 unfolding total
 total_more held before [] index d h = absurd (omega (arith, h))
 total_more held before (n ∷ ns) zero d h = refl
 total_more held before (n ∷ ns) (suc index) d h = total_more held (before + length (held n)) ns index d (omega (arith, h))
 
-drop_more : (names : List (List ℕ)) (index : ℕ) (d : List ℕ) → index < length names → drop index names ≡ get_or names index d ∷ drop (suc index) names
+pub drop_more : (names : List (List ℕ)) (index : ℕ) (d : List ℕ) → index < length names → drop index names ≡ get_or names index d ∷ drop (suc index) names
 drop_more [] index d h = absurd (omega (arith, h))
 drop_more (n ∷ ns) zero d h = refl
 drop_more (n ∷ ns) (suc index) d h = drop_more ns index d (omega (arith, h))
@@ -98,13 +98,13 @@ answering_more job names reads index text new text_of refused refused_of name re
           (subst (λ (x : Bool). SettlesAll job held 0 names (text ++ (text_of ++ more)) x) (sym (or_assoc refused refused_of r)) got);
     }))
 
-same_length : (held : List ℕ → List ℕ) (before : ℕ) (names : List (List ℕ)) (reads : List (Option (Vec ℕ Global))) → AreWholeBehind most_bytes held before names reads → length names ≡ length reads
+pub same_length : (held : List ℕ → List ℕ) (before : ℕ) (names : List (List ℕ)) (reads : List (Option (Vec ℕ Global))) → AreWholeBehind most_bytes held before names reads → length names ≡ length reads
 same_length held before [] [] w = refl
 same_length held before [] (r ∷ rs) w = absurd w
 same_length held before (n ∷ ns) [] w = absurd w
 same_length held before (n ∷ ns) (r ∷ rs) w = ap suc (same_length held (before + length (held n)) ns rs w.1)
 
-drop_all : (names : List (List ℕ)) (index : ℕ) → length names ≤ index → drop index names ≡ []
+pub drop_all : (names : List (List ℕ)) (index : ℕ) → length names ≤ index → drop index names ≡ []
 drop_all [] zero h = refl
 drop_all [] (suc index) h = refl
 drop_all (n ∷ ns) zero h = absurd (omega (arith, h))

@@ -1,3 +1,6 @@
+pub mod CompiledLemmas
+pub mod CountLemmas
+pub mod CountingLemmas
 pub mod FaultLemmas
 pub mod FileLemmas
 pub mod FilesLemmas

@@ -1,5 +1,5 @@
 -- The command: what the sink has taken is a front of the answer.
-use Rattle.std.proofs.Common.{◌≡◌, ℕ, Bool, true, false, List, [], ◌∷◌, ◌++◌, Option, Some, None, Vec, refl, ap, sym, ◌∙◌, subst, append-nil, if◌then◌else◌}
+use Rattle.std.proofs.Common.{◌≡◌, ℕ, ◌+◌, ◌≤◌, Bool, true, false, List, [], ◌∷◌, ◌++◌, Option, Some, None, Vec, refl, ap, sym, ◌∙◌, subst, append-nil, arith, if◌then◌else◌}
 use Rattle.std.specs.declared.alloc.Global.{Global}
 use Rattle.session_outside.specs.Shelf.{TurnsToFront, opened}
 use Rattle.session_outside.specs.Sink.{Gains, GainsFront}
@@ -7,11 +7,14 @@ use Rattle.session_outside.specs.Loops.{ReadsAllWithin, opened_within}
 use Rattle.session_words.specs.Asked.{Asked, Files, Trial, Churn}
 use Rattle.session_words.specs.Words.{asked_of}
 use Rattle.session_specs.specs.Answer.{IsAnswer, IsAnswerTo, IsOfFiles, IsTrial, IsChurn, most_bytes}
+use Rattle.session_specs.specs.Compiled.{CompilesAsked, ShowsCompiled, words_compile_none}
+use Rattle.compile_tally.specs.Tally.{Rises}
 use Rattle.compile_session.specs.declared.answer.FileAnswer.{FileAnswer}
 use Rattle.compile_session.specs.Built.{built, built_of, is_built_work, files_of, names_of}
 use Rattle.compile_session.specs.Alike.{AskAlike, IsAlike}
-use Rattle.compile_session.specs.Files.{AnswersWork, SettlesWork, status_of}
+use Rattle.compile_session.specs.Files.{AnswersWork, SettlesWork, CountsWork, status_of}
 use Rattle.compile_session.specs.declared.status.Status.{Status}
+use Rattle.compile_session.proofs.CompiledLemmas.{one_number}
 
 -- what the words ask for is built
 pub built_is : (words : List (List ℕ)) (a : Asked) → asked_of words ≡ Some a → is_built_work a ≡ true → built_of words ≡ Some a
@@ -128,3 +131,38 @@ pub opened_some : (words : List (List ℕ)) (a : Asked) (held : List ℕ → Lis
     → TurnsToFront before now (opened_within most_bytes held 0 names) → TurnsToFront before now (opened_within most_bytes held 0 (names_of (built_of words)))
 opened_some words a held names before now is same turned =
     subst (λ (ns : List (List ℕ)). TurnsToFront before now (opened_within most_bytes held 0 ns)) (names_are words a names is same) turned
+
+-- ---- what is counted
+
+-- so many functions are compiled, where the shelf tells what it holds, by what the calls saw of the names and of what was read
+pub counted_seen : (a : Asked) (shelf : Option (List ℕ → List ℕ)) (held : List ℕ → List ℕ) (names : List (List ℕ)) (reads seen : List (Option (Vec ℕ Global))) (count : ℕ) → names ≡ files_of a → seen ≡ reads → shelf ≡ Some held
+    → ReadsAllWithin shelf names most_bytes reads → CountsWork a seen count → CompilesAsked a held count
+counted_seen a shelf held names reads seen count named is tells read counts =
+    counts.is held
+    (subst (λ (l : List (Option (Vec ℕ Global))). ReadsAllWithin (Some held) (files_of a) most_bytes l) (sym is)
+    (subst (λ (s : Option (List ℕ → List ℕ)). ReadsAllWithin s (files_of a) most_bytes reads) tells (subst (λ (l : List (List ℕ)). ReadsAllWithin shelf l most_bytes reads) named read)))
+
+-- as many as the answer to the words shows
+pub shows_compiled : (words : List (List ℕ)) (a : Asked) (held : List ℕ → List ℕ) (count : ℕ) → asked_of words ≡ Some a → CompilesAsked a held count → ShowsCompiled words held count
+shows_compiled words a held count asked c = record { asked = a; form = asked; compiled = c }
+
+module _ (before room now left count : ℕ) (rises : Rises before room now left count) where
+  pub risen_sum : now + left ≡ before + room
+  risen_sum = let c = rises.count in let r = rises.room in omega (arith, c, r)
+
+  pub risen : before ≤ now
+  risen = let c = rises.count in omega (arith, c)
+
+  module _ (words : List (List ℕ)) (held : List ℕ → List ℕ) (shows : ShowsCompiled words held count) (compiled : ℕ) (other : ShowsCompiled words held compiled) where
+    pub risen_only : now ≡ before + compiled
+    risen_only = let c = rises.count in let one = one_number words held count compiled shows other in omega (arith, c, one)
+
+    pub risen_most : now ≤ before + compiled
+    risen_most = let e = risen_only in omega (arith, e)
+
+  -- where none is compiled for these words
+  pub risen_none : (words : List (List ℕ)) (a : Asked) (reads : List (Option (Vec ℕ Global))) → asked_of words ≡ Some a → CountsWork a reads count → words_compile_none (asked_of words) ≡ true → now ≡ before
+  risen_none words a reads asked counts none =
+      let c = rises.count in
+      let zero = counts.none (subst (λ (o : Option Asked). words_compile_none o ≡ true) asked none) in
+      omega (arith, c, zero)

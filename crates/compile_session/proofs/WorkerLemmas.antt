@@ -9,7 +9,7 @@ use Rattle.session_outside.specs.Loops.{HasAtMost, HaveAtMost}
 use Rattle.session_words.specs.declared.options.FileJob.{FileJob}
 use Rattle.session_words.specs.Asked.{job}
 use Rattle.compile_session.specs.declared.answer.FileAnswer.{FileAnswer}
-use Rattle.compile_session.specs.Answers.{SettlesRead}
+use Rattle.compile_session.specs.Answers.{CountsRead, SettlesRead}
 use Rattle.compile_session.specs.Workers.{SettlesFile, SettleFiles}
 
 -- what was read of a file has no more bytes than there may be
@@ -33,19 +33,22 @@ named_at (x ∷ xs) (suc n) e name h = named_at xs n e name h
 
 -- an answer for a file by its name and what was read of it is that for the file of this number
 pub settles_named : (j : FileJob) (reads : List (Option (Vec ℕ Global))) (number : ℕ) (e : String Global) (d : Option (Vec ℕ Global)) (answer : FileAnswer)
-    → SettlesRead (job j) (string_bytes (slice_index_or j.files.items number e)) (slice_index_or reads number d) answer → answer.compiled < 2 ^ 32 → SettlesFile (job j) reads number answer
-settles_named j reads number e d answer settles few = record {
+    → SettlesRead (job j) (string_bytes (slice_index_or j.files.items number e)) (slice_index_or reads number d) answer → CountsRead (job j) (slice_index_or reads number d) answer.compiled → answer.compiled < 2 ^ 32
+    → SettlesFile (job j) reads number answer
+settles_named j reads number e d answer settles counts few = record {
   settles = λ name read named is.
       subst (λ (r : Option (Vec ℕ Global)). SettlesRead (job j) name r answer) (got reads number d read is)
       (subst (λ (n : List ℕ). SettlesRead (job j) n (slice_index_or reads number d) answer) (named_at j.files.items number e name named) settles);
+  counts = λ read is. subst (λ (r : Option (Vec ℕ Global)). CountsRead (job j) r answer.compiled) (got reads number d read is) counts;
   few = few;
 }
 
 -- the same of a name as it was taken out of the list
 pub settles_taken : (j : FileJob) (reads : List (Option (Vec ℕ Global))) (number : ℕ) (item : String Global) (text : List ℕ) (d : Option (Vec ℕ Global)) (answer : FileAnswer)
-    → item ≡ slice_index_or j.files.items number item → text ≡ string_bytes item → SettlesRead (job j) text (slice_index_or reads number d) answer → answer.compiled < 2 ^ 32 → SettlesFile (job j) reads number answer
-settles_taken j reads number item text d answer is_item is_text settles few =
-    settles_named j reads number item d answer (subst (λ (n : List ℕ). SettlesRead (job j) n (slice_index_or reads number d) answer) (is_text ∙ ap string_bytes is_item) settles) few
+    → item ≡ slice_index_or j.files.items number item → text ≡ string_bytes item → SettlesRead (job j) text (slice_index_or reads number d) answer → CountsRead (job j) (slice_index_or reads number d) answer.compiled → answer.compiled < 2 ^ 32
+    → SettlesFile (job j) reads number answer
+settles_taken j reads number item text d answer is_item is_text settles counts few =
+    settles_named j reads number item d answer (subst (λ (n : List ℕ). SettlesRead (job j) n (slice_index_or reads number d) answer) (is_text ∙ ap string_bytes is_item) settles) counts few
 
 -- what all tasks give are the answers for all files
 pub settle_files : (j : FileJob) (reads : List (Option (Vec ℕ Global))) (count : ℕ) (answers : List FileAnswer) → length answers ≡ count → GivesEach (λ (number : ℕ) (answer : FileAnswer). SettlesFile (job j) reads number answer) answers → SettleFiles (job j) reads count answers

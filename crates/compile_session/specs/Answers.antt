@@ -1,11 +1,12 @@
 -- What the calls for one file answer.
-use Rattle.std.specs.Prelude.{◌≡◌, ℕ, Bool, List, [], length, Option, Some, None, Vec}
+use Rattle.std.specs.Prelude.{◌≡◌, ℕ, Bool, true, List, [], length, Option, Some, None, Vec}
 use Rattle.std.specs.declared.alloc.Global.{Global}
 use Rattle.session_outside.specs.Loops.{IsWholeBehind}
 use Rattle.session_words.specs.declared.options.Command.{Command}
-use Rattle.session_words.specs.Asked.{Wanted, Job}
+use Rattle.session_words.specs.Asked.{Wanted, Job, Files}
 use Rattle.session_specs.specs.Answer as answer
 use Rattle.session_specs.specs.Answer.{IsOfFile, most_bytes}
+use Rattle.session_specs.specs.Compiled.{CompilesFile, compiles_none}
 use Rattle.session_specs.specs.Refusals as line
 use Rattle.session_specs.specs.Sources.{IsSource, IsRefused, IsLeastOf, missing}
 use Rattle.compile_first_pass.specs.declared.pass.SyntaxScript.{SyntaxScript}
@@ -52,3 +53,9 @@ pub record Settles (job : Job) (before : ℕ) (name file : List ℕ) (text : Lis
 -- the same of whatever file was read so, after so many bytes of others
 abbrev pub SettlesRead : Job → List ℕ → Option (Vec ℕ Global) → FileAnswer → Type 0
 SettlesRead job name read answer = (before : ℕ) (file : List ℕ) → IsWholeBehind most_bytes before file read → Settles job before name file answer.text.items answer.refused
+
+-- So many functions were compiled for what was read of a file: as many as whatever file was read so, after so many bytes of others,
+-- shows compiled, and none where the command compiles none whatever its files hold.
+pub record CountsRead (job : Job) (read : Option (Vec ℕ Global)) (count : ℕ) : Type 0 where
+  pub is : (before : ℕ) (file : List ℕ) → IsWholeBehind most_bytes before file read → CompilesFile job.command job.want before file count
+  pub none : compiles_none (Files job) ≡ true → count ≡ 0

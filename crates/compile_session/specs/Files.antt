@@ -1,9 +1,10 @@
 -- How a command ends, and what it answers for all its files.
-use Rattle.std.specs.Prelude.{◌≡◌, ℕ, ◌≤◌, Bool, true, false, List, length, Vec, Option}
+use Rattle.std.specs.Prelude.{◌≡◌, ℕ, ◌^◌, ◌≤◌, Bool, true, false, List, length, Vec, Option}
 use Rattle.std.specs.declared.alloc.Global.{Global}
 use Rattle.session_outside.specs.Loops.{AreWholeBehind}
 use Rattle.session_words.specs.Asked.{Job, Asked, Files, Trial, Churn}
 use Rattle.session_specs.specs.Answer.{IsAnswerTo, IsOfFiles, most_bytes}
+use Rattle.session_specs.specs.Compiled.{CompilesAsked, compiles_none}
 use Rattle.compile_session.specs.declared.answer.FileAnswer.{FileAnswer}
 use Rattle.compile_session.specs.Built.{files_of}
 use Rattle.compile_session.specs.declared.status.Status.{Status}
@@ -48,6 +49,17 @@ pub record SettlesWork (asked : Asked) (held : List ℕ → List ℕ) (text : Li
 -- the same of what was read of its files
 abbrev pub AnswersWork : Asked → List (Option (Vec ℕ Global)) → FileAnswer → Type 0
 AnswersWork asked reads answer = (held : List ℕ → List ℕ) → AreWholeBehind most_bytes held 0 (files_of asked) reads → SettlesWork asked held answer.text.items answer.refused
+
+-- So many functions were compiled for what is asked, by what was read of its files: as many as whatever files were read so show
+-- compiled, and none where none are whatever the files hold. They are at most 2^38.
+pub record CountsWork (asked : Asked) (reads : List (Option (Vec ℕ Global))) (count : ℕ) : Type 0 where
+  pub is : (held : List ℕ → List ℕ) → AreWholeBehind most_bytes held 0 (files_of asked) reads → CompilesAsked asked held count
+  pub few : count ≤ 2 ^ 38
+  pub none : compiles_none asked ≡ true → count ≡ 0
+
+-- the same of a generated text, whatever else is asked
+abbrev pub CountsTrial : (number size : ℕ) → ℕ → Type 0
+CountsTrial number size count = (workers : ℕ) (reads : List (Option (Vec ℕ Global))) → CountsWork (Trial number size workers) reads count
 
 -- what words may ask for is no more than this
 abbrev pub IsBounded : Asked → Type 0

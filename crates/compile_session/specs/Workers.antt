@@ -6,7 +6,7 @@ use Rattle.session_words.specs.declared.options.FileJob.{FileJob}
 use Rattle.session_words.specs.Asked.{Job}
 use Rattle.session_specs.specs.Answer.{most_bytes}
 use Rattle.compile_session.specs.declared.answer.FileAnswer.{FileAnswer}
-use Rattle.compile_session.specs.Answers.{SettlesRead}
+use Rattle.compile_session.specs.Answers.{CountsRead, SettlesRead}
 use Rattle.compile_session.specs.Built.{is_built}
 
 -- the command is built, and so many of its files were read, none of more bytes than there may be
@@ -16,9 +16,11 @@ pub record CanBeAnswered (job : FileJob) (reads : List (Option (Vec ℕ Global))
   pub named : count ≤ length job.files.items
   pub read : count ≤ length reads
 
--- This is the answer for the file of this number, by what was read of it. The functions that were compiled for it can be counted in 32 bits.
+-- This is the answer for the file of this number, by what was read of it, and so many functions were compiled for it, which can be
+-- counted in 32 bits.
 pub record SettlesFile (job : Job) (reads : List (Option (Vec ℕ Global))) (number : ℕ) (answer : FileAnswer) : Type 0 where
   pub settles : (name : List ℕ) (read : Option (Vec ℕ Global)) → slice_get job.files number ≡ Some name → slice_get reads number ≡ Some read → SettlesRead job name read answer
+  pub counts : (read : Option (Vec ℕ Global)) → slice_get reads number ≡ Some read → CountsRead job read answer.compiled
   pub few : answer.compiled < 2 ^ 32
 
 -- these are the answers for so many files, in their order

@@ -1,11 +1,14 @@
 //! One command, from its words to the bytes that the sink takes.
 
-ghost use Rattle.std.specs.Prelude.{◌≡◌, ◌≢◌, ℕ, ◌-◌, ◌^◌, ◌<◌, ◌≤◌, ◌++◌, ◌⊎◌, Bool, List, Some, None, map};
+ghost use Rattle.std.specs.Prelude.{◌≡◌, ◌≢◌, ℕ, ◌+◌, ◌-◌, ◌^◌, ◌<◌, ◌≤◌, ◌++◌, ◌⊎◌, Bool, true, List, Some, None, map};
 ghost use Rattle.std.specs.String.{string_bytes};
 ghost use Rattle.session_outside.specs.Shelf.{TurnsToFront};
 ghost use Rattle.session_outside.specs.Sink.{Gains, GainsFront};
 ghost use Rattle.session_outside.specs.Loops.{opened_within};
+ghost use Rattle.session_words.specs.Words.{asked_of};
 ghost use Rattle.session_specs.specs.Answer.{IsAnswer, most_bytes};
+ghost use Rattle.session_specs.specs.Compiled.{ShowsCompiled, words_compile_none};
+ghost use Rattle.compile_tally.specs.Tally.{Rises};
 ghost use Rattle.compile_session.specs.Alike.{AskAlike};
 ghost use Rattle.compile_session.specs.Built.{built_of, names_of};
 ghost use Rattle.compile_session.specs.Files.{IsBefore, IsWhole, status_of};
@@ -20,7 +23,8 @@ use std::alloc::Global;
 use std::sync::Wait;
 use std::thread::Threads;
 
-/// Runs the command of these words: reads its files from the shelf, and gives the sink what is printed for them.
+/// Runs the command of these words: reads its files from the shelf, and gives the sink what is printed for them. The functions that
+/// were compiled for that are counted on the tally, each once.
 pub fn run<R: Threads + Wait + Sync, L: Shelf, K: Sink, G: Gate, T: Tally>(
     rt: &R,
     alloc: Global,
@@ -66,8 +70,18 @@ pub fn run<R: Threads + Wait + Sync, L: Shelf, K: Sink, G: Gate, T: Tally>(
         L.turned shelf.new ≡ L.turned shelf.old ++ opened_within most_bytes held 0 (names_of (built_of (map string_bytes words.now))) }
     ensures unread { result ≡ Status.BadWords → L.turned shelf.new ≡ L.turned shelf.old }
     ensures same { L.held shelf.new ≡ L.held shelf.old }
-    ensures count { T.count tally.new ≡ T.count tally.old }
-    ensures left { T.room tally.new ≡ T.room tally.old }
+
+    // What is counted on the tally, whatever the status is: no more functions than the answer shows compiled, out of the room; where
+    // all was done, just so many. None where none is for these words, whatever the files hold.
+    ensures sum { T.count tally.new + T.room tally.new ≡ T.count tally.old + T.room tally.old }
+    ensures rising { T.count tally.old ≤ T.count tally.new }
+    ensures lazy { (held : List ℕ → List ℕ) → L.held shelf.old ≡ Some held → (compiled : ℕ) →
+        ShowsCompiled (map string_bytes words.now) held compiled → T.count tally.new ≤ T.count tally.old + compiled }
+    ensures counted { (held : List ℕ → List ℕ) → L.held shelf.old ≡ Some held → IsWhole result →
+        (compiled : ℕ) × ShowsCompiled (map string_bytes words.now) held compiled × (T.count tally.new ≡ T.count tally.old + compiled) }
+    ensures counted_only { (held : List ℕ → List ℕ) → L.held shelf.old ≡ Some held → IsWhole result → (compiled : ℕ) →
+        ShowsCompiled (map string_bytes words.now) held compiled → T.count tally.new ≡ T.count tally.old + compiled }
+    ensures idle { words_compile_none (asked_of (map string_bytes words.now)) ≡ true → T.count tally.new ≡ T.count tally.old }
 {
     let work = match work_of(alloc, words) {
         Ok(work) => work,
@@ -83,11 +97,20 @@ pub fn run<R: Threads + Wait + Sync, L: Shelf, K: Sink, G: Gate, T: Tally>(
         Ok(answer) => answer,
         Err(_) => return Status::NoMemory,
     };
+    count_compiled(tally, answer.compiled);
     match write_bytes(sink, &answer.text) {
         Ok(()) => status_of(answer.refused),
         Err(SinkRefusal::Failed) => Status::WriteFault,
         Err(SinkRefusal::NoMemory) => Status::NoMemory,
     }
+}
+
+/// Counts so many functions at once: a tally of that room is lent, and is never given back.
+fn count_compiled<T: Tally>(tally: &mut T, amount: u64)
+    requires room { amount ≤ T.room tally.old }
+    ensures { Rises (T.count tally.old) (T.room tally.old) (T.count tally.new) (T.room tally.new) amount }
+{
+    let _lent = tally.lend(amount);
 }
 
 fn status_of(refused: bool) -> Status

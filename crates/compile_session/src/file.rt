@@ -5,7 +5,7 @@ ghost use Rattle.session_outside.specs.Loops.{HasAtMost};
 ghost use Rattle.session_specs.specs.Answer.{most_bytes};
 ghost use Rattle.session_words.specs.Asked as asked;
 ghost use Rattle.compile_session.specs.Built.{is_built};
-ghost use Rattle.compile_session.specs.Answers.{SettlesRead};
+ghost use Rattle.compile_session.specs.Answers.{CountsRead, SettlesRead};
 
 use crate::answer::{FileAnswer, refused};
 use crate::image::{load_answer, verify_answer};
@@ -28,6 +28,7 @@ pub(crate) fn answer_of(
     requires within { HasAtMost most_bytes bytes.now }
     ensures settles { IfOk result (SettlesRead (asked.job job.now) name.now bytes.now) }
     ensures few { IfOk result (λ answer. answer.compiled < 2 ^ 32) }
+    ensures counts { IfOk result (λ answer. CountsRead (asked.job job.now) bytes.now answer.compiled) }
 {
     let Some(bytes) = bytes else {
         return refused(alloc, name, Refusal::TooLong);

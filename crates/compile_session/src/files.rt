@@ -5,7 +5,7 @@ ghost use Rattle.session_outside.specs.Loops.{HaveAtMost};
 ghost use Rattle.session_specs.specs.Answer.{most_bytes};
 ghost use Rattle.session_words.specs.Asked as asked;
 ghost use Rattle.compile_session.specs.Built.{is_built};
-ghost use Rattle.compile_session.specs.Files.{AnswersAll};
+ghost use Rattle.compile_session.specs.Files.{AnswersAll, CountsWork};
 
 use crate::answer::FileAnswer;
 use crate::workers::file_answers;
@@ -28,7 +28,8 @@ pub(crate) fn answers_of<R: Threads + Wait + Sync, G: Gate>(
     requires within { HaveAtMost most_bytes reads.now }
     requires files { length job.now.files.items ≤ 64 }
     requires workers { (1 ≤ job.now.workers) × (job.now.workers ≤ 16) }
-    ensures { IfOk result (AnswersAll (asked.job job.now) reads.now) }
+    ensures settles { IfOk result (AnswersAll (asked.job job.now) reads.now) }
+    ensures counts { IfOk result (λ answer. CountsWork (asked.Files (asked.job job.now)) reads.now answer.compiled) }
 {
     let count = job.files.len().min(reads.len()) as u32;
     let answers = file_answers(rt, alloc, job, reads, count, gate)?;

@@ -7,6 +7,7 @@ ghost use Rattle.bytecode_buf.specs.Command.{Listed};
 ghost use Rattle.bytecode_buf.specs.InRange.{TextsSmall};
 ghost use Rattle.script_image.specs.Listed.{ShowsListed};
 ghost use Rattle.session_specs.specs.Answer as answer;
+ghost use Rattle.session_specs.specs.Compiled.{Compiles};
 ghost use Rattle.compile_wanted.specs.Numbers.{to_show};
 ghost use Rattle.session_words.specs.Asked as asked;
 ghost use Rattle.compile_wanted.specs.Shows.{Shows};
@@ -116,6 +117,7 @@ pub(crate) fn stencil_of(
     ensures few { IfOk result (λ shown. length shown.stencil.texts < 2 ^ 31) }
     ensures small { IfOk result (λ shown. TextsSmall shown.stencil.texts) }
     ensures counted { IfOk result (λ shown. shown.compiled < 2 ^ 32) }
+    ensures compiled { IfOk result (λ shown. (is : IsSyntaxOf bytes.now script) → Compiles (asked.wanted want.now) is.items (length bytes.now) shown.compiled) }
 {
     let before = initial(alloc, script, bytes.len() as u32)?;
     let mut sheet = sheet_for(&before.parts);

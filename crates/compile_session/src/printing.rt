@@ -3,7 +3,7 @@
 ghost use Rattle.std.specs.Prelude.{◌≡◌, ◌≤◌, ◌<◌, ◌^◌, true, length, IfOk};
 ghost use Rattle.bytecode_buf.specs.InRange.{TextsSmall};
 ghost use Rattle.session_specs.specs.Answer.{most_bytes};
-ghost use Rattle.session_specs.specs.Compiled.{shows_scripts};
+ghost use Rattle.session_specs.specs.Compiled.{CompilesOf, shows_scripts};
 ghost use Rattle.session_words.specs.Asked as asked;
 ghost use Rattle.compile_session.specs.Built.{is_source};
 ghost use Rattle.compile_session.specs.Answers.{IsAnswerFor, IsScriptOf};
@@ -55,6 +55,7 @@ fn script_answer(
     requires script { IsScriptOf (asked.wanted job.now.want) bytes.now script }
     ensures is { IfOk result (IsAnswerFor job.now.command (asked.wanted job.now.want) name.now bytes.now) }
     ensures few { IfOk result (λ answer. answer.compiled < 2 ^ 32) }
+    ensures compiled { IfOk result (λ answer. CompilesOf (shows_scripts job.now.command) (asked.wanted job.now.want) bytes.now answer.compiled) }
 {
     match job.command {
         Command::Check => {
@@ -89,6 +90,7 @@ pub(crate) fn source_answer(
     requires short { length bytes.now ≤ most_bytes }
     ensures is { IfOk result (IsAnswerFor job.now.command (asked.wanted job.now.want) name.now bytes.now) }
     ensures few { IfOk result (λ answer. answer.compiled < 2 ^ 32) }
+    ensures compiled { IfOk result (λ answer. CompilesOf (shows_scripts job.now.command) (asked.wanted job.now.want) bytes.now answer.compiled) }
 {
     let source = read_source(alloc, &job.want, bytes)?;
     match source {

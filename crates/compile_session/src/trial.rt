@@ -8,7 +8,7 @@ ghost use Rattle.session_specs.specs.Answer.{most_bytes};
 ghost use Rattle.session_specs.specs.Sources.{HasAll};
 ghost use Rattle.session_words.specs.Asked as asked;
 ghost use Rattle.compile_first_pass.specs.Passes.{IsSyntaxOf};
-ghost use Rattle.compile_session.specs.Files.{SettlesWork};
+ghost use Rattle.compile_session.specs.Files.{CountsTrial, SettlesWork};
 
 use crate::answer::FileAnswer;
 use crate::listing::stencil_of;
@@ -90,7 +90,8 @@ fn script_in(alloc: Global, bytes: &[u8]) -> Result<SyntaxScript, AllocError>
 /// What `trial` prints. All functions of the text are compiled; it is a script without errors, so there is no refusal.
 pub(crate) fn trial_answer(alloc: Global, number: u32, size: u32) -> Result<FileAnswer, AllocError>
     requires { size ≤ 100000 }
-    ensures { IfOk result (λ given. (workers : ℕ) (held : List ℕ → List ℕ) → SettlesWork (asked.Trial number size workers) held given.text.items given.refused) }
+    ensures settles { IfOk result (λ given. (workers : ℕ) (held : List ℕ → List ℕ) → SettlesWork (asked.Trial number size workers) held given.text.items given.refused) }
+    ensures counts { IfOk result (λ given. CountsTrial number size given.compiled) }
 {
     let text = generated_text(alloc, number, size)?;
     let bytes = text.as_slice();

@@ -7,7 +7,7 @@ ghost use Rattle.session_specs.specs.Answer.{most_bytes};
 ghost use Rattle.session_words.specs.Asked.{asked};
 ghost use Rattle.compile_session.specs.Built as definition;
 ghost use Rattle.compile_session.specs.Built.{IsWorkOf, is_built_work};
-ghost use Rattle.compile_session.specs.Files.{AnswersWork, IsBounded};
+ghost use Rattle.compile_session.specs.Files.{AnswersWork, CountsWork, IsBounded};
 
 use crate::answer::FileAnswer;
 use crate::files::answers_of;
@@ -76,7 +76,8 @@ pub(crate) fn answer_to<R: Threads + Wait + Sync, G: Gate>(
     requires built { is_built_work (asked work.now) ≡ true }
     requires within { HaveAtMost most_bytes reads.now }
     requires bounded { IsBounded (asked work.now) }
-    ensures { IfOk result (AnswersWork (asked work.now) reads.now) }
+    ensures settles { IfOk result (AnswersWork (asked work.now) reads.now) }
+    ensures counts { IfOk result (λ answer. CountsWork (asked work.now) reads.now answer.compiled) }
 {
     match work {
         Options::Files(job) => {

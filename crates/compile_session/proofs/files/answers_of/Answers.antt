@@ -1,9 +1,10 @@
-use Rattle.std.proofs.Common.{◌++◌, map, ap, ◌∙◌, refl, sym, arith, subst, List, length}
+use Rattle.std.proofs.Common.{◌≤◌, ◌++◌, map, ap, ◌∙◌, refl, sym, arith, subst, List, length}
 use Rattle.std.specs.String.{string_bytes}
 use Rattle.std.proofs.lemmas.Option.{slice_get_read}
 use Rattle.session_words.specs.Asked as asked
 use Rattle.compile_session.specs.declared.answer.FileAnswer.{FileAnswer}
 use Rattle.compile_session.specs.Workers.{SettleFiles}
+use Rattle.compile_session.proofs.CountingLemmas.{counting_start, counted_more, counted_end}
 use Rattle.compile_session.proofs.FilesLemmas.{answering_start, answered_more, answered_end, few_at, or_first, or_second}
 use Rattle.compile_session.proofs.files.answers_of.Goals.{then-refused, else-refused}
 use Rattle.compile_session.proofs.files.answers_of.Goals as goal
@@ -16,7 +17,7 @@ file_answers-requires-clause-can g c = λ κs within.
     record { built = c.requires.built; within = c.requires.within; named = omega (arith, least, files, long); read = omega (arith, least) }
 
 pub loop-answer-init : goal.loop-answer-init
-loop-answer-init g c = (answering_start (asked.job c.args.job.now) (map string_bytes c.args.job.now.files.items) c.args.reads.now c.new-text.result.items c.new-text.ensures.items, omega arith)
+loop-answer-init g c = (answering_start (asked.job c.args.job.now) (map string_bytes c.args.job.now.files.items) c.args.reads.now c.new-text.result.items c.new-text.ensures.items, counting_start (asked.job c.args.job.now) (map string_bytes c.args.job.now.files.items) c.args.reads.now)
 
 pub overflow_add-compiled : goal.overflow_add-compiled
 overflow_add-compiled g c =
@@ -30,7 +31,7 @@ overflow_add-compiled g c =
     (subst (λ (l : List FileAnswer). SettleFiles (asked.job c.args.job.now) c.args.reads.now c.min-count.result l) (sym same) c.in_ok-answers.ensures) at in
     let below = few.0 in
     let one = few.1 in
-    let so_far = c.loop-answer.invariant.1 in
+    let so_far = c.loop-answer.invariant.1.few in
     let most = c.requires.files in
     omega (arith, least, files, long, below, one, so_far, most)
 
@@ -42,23 +43,22 @@ loop-answer-preserved g c =
     let same = c.deref-answer-items.ensures.value in
     let at = slice_get_read c.deref-answer-items.result.now (length c.deref-answer-items.result.now) c.loop-answer.answer-index c.answer-item.result refl c.loop-answer-test.true c.answer-item.is in
     let all = subst (λ (l : List FileAnswer). SettleFiles (asked.job c.args.job.now) c.args.reads.now c.min-count.result l) (sym same) c.in_ok-answers.ensures in
-    let few = few_at c.args.job.now c.args.reads.now c.min-count.result c.loop-answer.answer-index c.deref-answer-items.result.now c.answer-item.result all at in
-    let one = few.1 in
-    let so_far = c.loop-answer.invariant.1 in (
+    let named : c.min-count.result ≤ length c.args.job.now.files.items = omega (arith, least, files, long) in
+    let read : c.min-count.result ≤ length c.args.reads.now = omega (arith, least) in (
       answered_more c.args.job.now c.args.reads.now c.min-count.result c.loop-answer.answer-index _ c.deref-answer-items.result.now c.loop-answer.text.items c.extend_from_slice.new.self.items c.loop-answer.refused c.if-refused.refused c.answer-item.result
           all
-          (omega (arith, least, files, long)) (omega (arith, least)) at
+          named read at
           (c.in_ok-extend_from_slice.ensures.items ∙ ap (λ l. c.loop-answer.text.items ++ l) c.deref.ensures.value)
           (elim c.if-refused.branch [
             | then-refused w ↦ or_first c.loop-answer.refused c.answer-item.result.refused c.if-refused.refused w.if-refused.true (w.refused-is ∙ w.if-refused.true)
             | else-refused w ↦ or_second c.loop-answer.refused c.answer-item.result.refused c.if-refused.refused w.if-refused.false w.refused-is
           ])
           refl c.loop-answer.invariant.0,
-      omega (arith, one, so_far),
+      counted_more c.args.job.now c.args.reads.now c.min-count.result c.loop-answer.answer-index _ c.deref-answer-items.result.now c.loop-answer.compiled _ c.answer-item.result all named read at refl refl c.loop-answer.invariant.1,
     )
 
-pub returns : goal.returns
-returns g c =
+pub returns-clause-settles : goal.returns-clause-settles
+returns-clause-settles g c =
     let least = c.min-count.ensures in
     let files = c.len.ensures in
     let long = c.args.job.now.files.ok.0 in
@@ -66,3 +66,13 @@ returns g c =
     let counted = (subst (λ (l : List FileAnswer). SettleFiles (asked.job c.args.job.now) c.args.reads.now c.min-count.result l) (sym same) c.in_ok-answers.ensures).long in
     let past = c.loop-answer-test.false in
     answered_end c.args.job.now c.args.reads.now c.min-count.result c.loop-answer.answer-index c.loop-answer.text.items c.loop-answer.refused (omega (arith, least, files, long)) (omega (arith, counted, past)) c.loop-answer.invariant.0
+
+pub returns-clause-counts : goal.returns-clause-counts
+returns-clause-counts g c =
+    let least = c.min-count.ensures in
+    let files = c.len.ensures in
+    let long = c.args.job.now.files.ok.0 in
+    let same = c.deref-answer-items.ensures.value in
+    let counted = (subst (λ (l : List FileAnswer). SettleFiles (asked.job c.args.job.now) c.args.reads.now c.min-count.result l) (sym same) c.in_ok-answers.ensures).long in
+    let past = c.loop-answer-test.false in
+    counted_end c.args.job.now c.args.reads.now c.min-count.result c.loop-answer.answer-index c.loop-answer.compiled (omega (arith, least, files, long)) (omega (arith, counted, past)) c.requires.files c.loop-answer.invariant.1

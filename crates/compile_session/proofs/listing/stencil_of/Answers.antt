@@ -1,7 +1,10 @@
-use Rattle.std.proofs.Common.{length, refl, subst, arith}
+use Rattle.std.proofs.Common.{◌≡◌, ◌∙◌, ap, length, refl, subst, arith}
 use Rattle.compile_specs.specs.Shown.{Wanted}
 use Rattle.compile_wanted.specs.Numbers.{to_show}
 use Rattle.compile_wanted.specs.Shows.{Shows}
+use Rattle.compile_shown.specs.Shown.{shown_in}
+use Rattle.session_words.specs.Asked as asked
+use Rattle.compile_session.proofs.CompiledLemmas.{script_compiles}
 use Rattle.compile_session.proofs.ShownLemmas.{records_few, shown_few, shows_same}
 use Rattle.compile_session.proofs.listing.stencil_of.Goals as goal
 
@@ -32,3 +35,12 @@ returns-clause-counted c =
     let most = c.in_ok-stencil.ensures.most in
     let counted = c.count-compiled.ensures in
     omega (arith, records, few, none, most, counted)
+
+pub returns-clause-compiled : goal.returns-clause-compiled
+returns-clause-compiled c =
+    let none = c.sheet_for-sheet.ensures.count in
+    let counted = c.in_ok-stencil.ensures.counted in
+    let told = c.count-compiled.ensures in
+    let same : c.count-compiled.result ≡ shown_in (to_show c.wanted_of.result) c.in_ok-before.before = omega (arith, none, counted, told) in
+    script_compiles (asked.wanted c.args.want.now) c.args.bytes.now c.args.script c.in_ok-before.before c.count-compiled.result (c.in_ok-before.ensures c.args.bytes.now c.requires refl)
+    (same ∙ ap (λ (want : Wanted). shown_in want c.in_ok-before.before) c.wanted_of.ensures)

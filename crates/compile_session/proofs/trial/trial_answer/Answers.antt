@@ -3,6 +3,7 @@ use Rattle.session_trial_laws.proofs.Valid.{generated_has_all, generated_is_shor
 use Rattle.session_words.specs.Asked as asked
 use Rattle.session_specs.specs.Answer.{most_bytes}
 use Rattle.session_specs.specs.Sources.{HasAll}
+use Rattle.compile_session.proofs.CountLemmas.{trial_counts}
 use Rattle.compile_session.proofs.TrialLemmas.{trial_settles, trial_text}
 use Rattle.compile_session.proofs.trial.trial_answer.Goals as goal
 
@@ -18,8 +19,8 @@ script_in-requires-clause-script c =
 pub stencil_of-requires : goal.stencil_of-requires
 stencil_of-requires c = c.in_ok-script.ensures
 
-pub returns : goal.returns
-returns c = λ workers held.
+pub returns-clause-settles : goal.returns-clause-settles
+returns-clause-settles c = λ workers held.
     let is = c.in_ok-script.ensures in
     let functions = length c.in_ok-script.script.functions.items in
     let count = c.instructions-count.result in
@@ -29,3 +30,9 @@ returns c = λ workers held.
     let o = c.in_ok-script.script.functions.ok.0 in
     let same : c.len-functions.result ≡ functions = omega (arith, e, o) in
     c.in_ok-line.ensures ∙ ap (λ (n : ℕ). trial_text c.args.number c.args.size (length c.as_slice-bytes.result.now) n count) same)
+
+pub returns-clause-counts : goal.returns-clause-counts
+returns-clause-counts c =
+    let is = c.in_ok-script.ensures in
+    trial_counts c.args.number c.args.size c.as_slice-bytes.result.now is.items (length c.in_ok-script.script.functions.items) c.in_ok-shown.shown.compiled (c.as_slice-bytes.ensures.value ∙ c.in_ok-text.ensures) (record { valid = is.valid; present = refl })
+    (c.in_ok-shown.ensures.compiled is) c.in_ok-shown.ensures.counted

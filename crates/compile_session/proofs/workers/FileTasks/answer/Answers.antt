@@ -11,4 +11,4 @@ answer_of-requires-clause-within c =
 
 pub returns : goal.returns
 returns c = settles_taken c.args.self.now.job.now c.args.self.now.reads.now c.args.number c.index-name.result.now c.as_str.result.now c.index-self-number.result c.in_ok-answer.answer
-    c.index-name.ensures c.as_str.ensures.value c.in_ok-answer.ensures.settles c.in_ok-answer.ensures.few
+    c.index-name.ensures c.as_str.ensures.value c.in_ok-answer.ensures.settles c.in_ok-answer.ensures.counts c.in_ok-answer.ensures.few

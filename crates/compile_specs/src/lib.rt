@@ -2,6 +2,6 @@
 //! some of its functions are wanted. Definitions, and rows computed on small scripts.
 //!
 //! They stand above the code of functions (emit_stmts) and the names that inner functions close over (parse_track). Every way
-//! to compile is held against them: compile_eager's, and lazy_compile's of one function from its extent. What a command prints
+//! to compile is held against them: lazy_compile's of one function from its extent, and compile_shown's. What a command prints
 //! of a file is said of them in session_specs.
 #![tactic(auto)]

@@ -7,7 +7,7 @@
 //!
 //! The main contract is that of [`check_told`]: it answers the first early error of the script (`early_error` of parse_track),
 //! how many functions it has, and the names that its inner functions close over. [`check_track`] answers the same of a
-//! track that was told the script by someone else, as `early_errors` does from trees.
+//! track that was told the script by someone else.
 #![tactic(auto)]
 
 mod checking;

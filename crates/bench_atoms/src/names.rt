@@ -17,7 +17,7 @@ pub enum Spelling {
 /// The digits of a padded name.
 const WIDTH: usize = 8;
 
-/// So many names in this spelling, and then the same once more.
+/// n names in this spelling, and then the same once more.
 pub fn doubled_names(alloc: Global, spelling: Spelling, count: u32) -> Result<TextList, AllocError>
     requires { count ≤ 100000000 }
     ensures { IfOk result (λ list. length list ≡ 2 * count) }

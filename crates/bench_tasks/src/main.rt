@@ -39,7 +39,7 @@ fn read_options<R: Env + AllocGlobal>(rt: &R) -> Result<Options> {
     Ok(Options { rounds, times })
 }
 
-// Runs all tasks by so many workers, and prints what came of it.
+// Runs all tasks by n workers, and prints what came of it.
 fn measure<R: Threads + Wait + Sync + Clock + Print>(
     rt: &R,
     alloc: Global,

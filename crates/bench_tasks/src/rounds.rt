@@ -37,7 +37,7 @@ impl Job for Rounds {
     }
 }
 
-// The number that so many rounds make of a seed.
+// The number that n rounds make of a seed.
 fn turned(seed: u32, rounds: u64) -> u64 {
     let mut state = u64::from(seed);
     for _ in 0..rounds {

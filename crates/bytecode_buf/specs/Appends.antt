@@ -85,7 +85,7 @@ abbrev pub kept : Aim → List Wait → List Wait
 kept aim [] = []
 kept aim (w ∷ ws) = kept_one (same_aim aim w.aim) w (kept aim ws)
 
--- each of these jumps lies within so many bytes
+-- each of these jumps lies within n bytes
 abbrev pub AllRoom : ℕ → List Wait → Type 0
 AllRoom size [] = Unit {0}
 AllRoom size (w ∷ ws) = (w.at + 9 ≤ size) × AllRoom size ws

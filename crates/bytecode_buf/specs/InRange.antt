@@ -60,7 +60,7 @@ ScopesInRange number [] = Unit {0}
 ScopesInRange number (scope ∷ scopes) =
     IfSome scope.parent (λ parent. parent < number) × Small (length scope.bindings) × Small scope.env_slots × ScopesInRange (number + 1) scopes
 
--- a compiled function among so many texts and functions
+-- a compiled function among n texts and functions
 pub record FunctionInRange (texts functions : ℕ) (part : FunctionView) : Type 0 where
   pub name : NameWithin texts part.name
   pub params : Small part.params

@@ -50,7 +50,7 @@ abbrev pub followed : Option Numbered → (Numbered → List Numbered) → List 
 followed None behind = []
 followed (Some i) behind = i ∷ behind i
 
--- at most so many instructions from the beginning on
+-- at most n instructions from the beginning on
 unfoldable pub instructions_within : ℕ → List ℕ → List Numbered
 instructions_within zero code = []
 instructions_within (suc n) code = followed (decoded code) (λ i. instructions_within n (drop (width_of i.op) code))

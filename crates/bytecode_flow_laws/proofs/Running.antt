@@ -46,7 +46,7 @@ runs_waiting exits o aim d e h = record {
 
 -- ---- counts
 
--- an instruction takes so many values and gives others, and goes on
+-- an instruction takes n values and gives others, and goes on
 pub goes_on : (t g rest d e : ℕ) → d ≡ rest + t → e ≡ rest + g → Leads (λ depth. e ≡ depth) t g d
 goes_on t g rest d e b a = record { depth = e; fit = refl; changes = record { rest = rest; before_is = b; after_is = a } }
 

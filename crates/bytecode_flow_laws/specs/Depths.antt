@@ -109,13 +109,13 @@ pub record Runs (exits : Exits) (code : Code) (first last : ℕ) : Type 0 where
 
 -- ---- commands one after another, without jumps
 
--- so many values less, where there are so many
+-- n values less, where there are m
 abbrev pub lowered : ℕ → ℕ → Option ℕ
 lowered zero depth = Some depth
 lowered (suc n) zero = None
 lowered (suc n) (suc depth) = lowered n depth
 
--- so many values more
+-- n values more
 abbrev pub raised : ℕ → ℕ → ℕ
 raised zero depth = depth
 raised (suc n) depth = suc (raised n depth)

@@ -5,7 +5,7 @@ use Rattle.code_check.specs.declared.note_index.Entry.{Entry}
 
 -- ---- the nodes
 
--- half of a number, so many times
+-- half of a number, n times
 abbrev pub halved : ℕ → ℕ → ℕ
 halved zero number = number
 halved (suc times) number = halved times number / 2

@@ -26,7 +26,7 @@ goes_further Jump = false
 goes_further Branch = true
 goes_further Terminates = false
 
--- where an instruction that gives so many values may go
+-- where an instruction that gives n values may go
 abbrev pub next_landing : Instr → ℕ → Option Landing
 next_landing instr given = if goes_further (flow_of instr.op) then Some (record { at = instr.next; given = given }) else None
 
@@ -38,7 +38,7 @@ target_landing at instr given =
 abbrev pub GainsLittle : Step → Type 0
 GainsLittle step = IfSome step.next (λ l. l.given ≤ step.taken + 2) × IfSome step.target (λ l. l.given ≤ step.taken + 2)
 
--- the state that is reached where so many values are taken
+-- the state that is reached where n values are taken
 abbrev pub landed : ℕ → ℕ → Landing → State
 landed depth taken l = record { at = l.at; depth = depth - taken + l.given }
 

@@ -96,7 +96,7 @@ impl Survey {
         }
     }
 
-    /// Goes where an instruction may go that takes so many values.
+    /// Goes where an instruction may go that takes n values.
     fn land(
         &mut self,
         starts: &[bool],

@@ -7,7 +7,6 @@ use Rattle.script_grammar.specs.Tree.{Stmts}
 use Rattle.parse_track_handler.specs.declared.piece.Piece.{Piece}
 use Rattle.parse_track_handler.specs.Says.{SaysBody}
 use Rattle.parse_handlers.specs.FoundOf.{HoldsBody}
-use Rattle.parse_pair_handler.proofs.Taken.{all-more, all-kept}
 use Rattle.parse_early_handler.specs.declared.nodes.BodyErrors.{BodyErrors}
 use Rattle.parse_early_handler.specs.HasErrors.{HasErrorsBody}
 use Rattle.parse_function_list.specs.declared.list.FoundBody.{FoundBody}
@@ -15,6 +14,23 @@ use Rattle.parse_function_list.specs.Strict.{HasStrict}
 use Rattle.compile_first_pass.specs.declared.skim.Skimmed.{Skimmed}
 use Rattle.compile_first_pass.specs.declared.skim.SkimmedScript.{SkimmedScript}
 use Rattle.compile_first_pass.specs.Skims.{IsSkimmed, IsApart, found_in, AreSkimmed, SkimsScript}
+
+-- one more of each
+all-more : {A B : Type 0} (R : A → B → Type 0) (xs : List A) (ys : List B) (x : A) (y : B) → ShowAll R xs ys → R x y → ShowAll R (xs ++ (x ∷ [])) (ys ++ (y ∷ []))
+all-more R [] [] x y h r = (r, tt)
+all-more R [] (b ∷ ys) x y h r = absurd h
+all-more R (a ∷ xs) [] x y h r = absurd h
+all-more R (a ∷ xs) (b ∷ ys) x y h r = (h.0, all-more R xs ys x y h.1 r)
+
+-- what stands in the places of some values is what they are
+all-kept : {N M X : Type 0} (has : N → M → Type 0) (R : N → X → Type 0) (Q : M → X → Type 0) → ((n : N) (m : M) (x : X) → has n m → R n x → Q m x)
+    → (ns : List N) (ms : List M) (xs : List X) → ShowAll has ns ms → ShowAll R ns xs → ShowAll Q ms xs
+all-kept has R Q keep [] [] [] s h = tt
+all-kept has R Q keep [] [] (x ∷ xs) s h = absurd h
+all-kept has R Q keep [] (m ∷ ms) xs s h = absurd s
+all-kept has R Q keep (n ∷ ns) [] xs s h = absurd s
+all-kept has R Q keep (n ∷ ns) (m ∷ ms) [] s h = absurd h
+all-kept has R Q keep (n ∷ ns) (m ∷ ms) (x ∷ xs) s h = (keep n m x s.0 h.0, all-kept has R Q keep ns ms xs s.1 h.1)
 
 module _ {B : Type 0} (shows : Interpretation → B → Stmts → Type 0) where
   -- no bodies

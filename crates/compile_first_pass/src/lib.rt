@@ -6,8 +6,8 @@
 //! say of the file's bytes. `check` of `compile_session` asks it, and so does whoever compiles a script's functions later.
 //!
 //! A script is read once. The handler has to keep of each body what its functions are, what it tells of its names, and its first
-//! early error of a rule that looks at no region (`Skims` of `skim`), in whatever form its nodes have. Those that are read
-//! by three handlers, each of which keeps one of these, are taken apart there.
+//! early error of a rule that looks at no region (`Skims` of `skim`), in whatever form its nodes have. `Skimming` of
+//! `parse_skim_handler` keeps all three.
 //!
 //! The main contract is that of [`first_pass`]: the script is without errors, its functions come in order of number, each with its
 //! extent, kind, name and the extents of those directly in it, and with the names that inner functions close over; or the

@@ -4,11 +4,11 @@ ghost use Rattle.std.specs.Prelude.{IfOk};
 ghost use Rattle.compile_first_pass.specs.Skims.{AreSkimmed, IsApart, IsScriptApart};
 
 use parse_bodies::whole::Script;
-use parse_early_handler::{BodyErrors, EarlyErrorHandler};
+use parse_early_handler::BodyErrors;
 use parse_function_list::FoundBody;
-use parse_handlers::{Syntax, SyntaxBody};
-use parse_pair_handler::{Both, Pair};
-use parse_track_handler::{Piece, Telling};
+use parse_handlers::SyntaxBody;
+use parse_skim_handler::{SkimBody, Skimming};
+use parse_track_handler::Piece;
 use script_grammar::handler::Handler;
 use std::alloc::{AllocError, Global};
 
@@ -30,16 +30,13 @@ pub trait Skims: Handler {
         ensures { IsApart Self.shows_body body result };
 }
 
-impl Skims for Both<Telling, Both<Syntax, EarlyErrorHandler>> {
-    fn apart(body: Pair<Piece, Pair<SyntaxBody, BodyErrors>>) -> Skimmed {
-        let Pair {
-            first: told,
-            second: others,
+impl Skims for Skimming {
+    fn apart(body: SkimBody) -> Skimmed {
+        let SkimBody {
+            told,
+            found,
+            errors,
         } = body;
-        let Pair {
-            first: found,
-            second: errors,
-        } = others;
         Skimmed {
             told,
             found,

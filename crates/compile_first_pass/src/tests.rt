@@ -3,21 +3,16 @@
 ghost use Rattle.std.specs.Prelude.{◌≤◌, length};
 
 use crate::pass::{FirstPass, SourceFault, SyntaxScript, first_pass};
-use parse_early_handler::EarlyErrorHandler;
-use parse_handlers::Syntax;
-use parse_pair_handler::Both;
-use parse_track_handler::Telling;
+use parse_skim_handler::Skimming;
 use std::alloc::{AllocError, Global};
 use std::test::Fail;
 use stencil_data::FuncKind;
 
-// What the pass comes to by these three handlers.
+// What the pass comes to.
 fn pass_of(alloc: Global, bytes: &[u8]) -> Result<FirstPass, AllocError>
     requires { length bytes.now ≤ 16777215 }
 {
-    let others = Both::new(alloc, Syntax::new(alloc), EarlyErrorHandler::new());
-    let handler = Both::new(alloc, Telling::new(alloc), others);
-    let pass = first_pass(alloc, handler, bytes)?;
+    let pass = first_pass(alloc, Skimming::new(alloc), bytes)?;
     Ok(pass)
 }
 

@@ -22,14 +22,14 @@ use Rattle.scope_analysis.specs.Walked.{AreScopes, ScopesFit}
 use Rattle.emit_exprs.specs.Rising.{Rises}
 use Rattle.emit_stmts.specs.Functions.{extents_of, function_script}
 use Rattle.emit_functions.specs.FunctionCode.{FunctionFits, Belong, IsFunctionStencil, scopes_in}
-use Rattle.scope_inner.specs.declared.sites.InnerSite.{InnerSite}
+use Rattle.scope_inner.specs.declared.sites.FunctionSite.{FunctionSite}
 use Rattle.scope_inner.specs.FunctionSites.{AreFunctionSites}
 use Rattle.scope_inner.specs.Sites.{Sited, sited, sited_in}
 use Rattle.compile_function.specs.Compiling.{CanBeCompiled, IsCompiledFunction}
 use Rattle.compile_function.proofs.Atoms.{scopes_within, name_within}
 
 -- the extents are those of the functions that were found
-abbrev pub ExtentsOf : List Extent → List InnerSite → Type 0
+abbrev pub ExtentsOf : List Extent → List FunctionSite → Type 0
 ExtentsOf extents found = (i : Interpretation) (scopes : List NamedScope) (outer : List LinkView) (inner : List Inner) → map (sited i) found ≡ map (sited_in scopes outer) inner → extents ≡ extents_of inner
 
 -- the scopes are those of the function, where its body was read
@@ -76,12 +76,12 @@ module _ (texts : List (List ℕ)) (bodies : ℕ → Stmts) (tree : Func) (kind 
 
     -- ---- the functions directly in it
 
-    sites_are : (found : List InnerSite) → AreFunctionSites texts scopes chain tree found → map (sited (under texts bodies)) found ≡ map (sited_in (scopes_of f) f.chain) (inner_of f)
+    sites_are : (found : List FunctionSite) → AreFunctionSites texts scopes chain tree found → map (sited (under texts bodies)) found ≡ map (sited_in (scopes_of f) f.chain) (inner_of f)
     sites_are found h =
         subst (λ (x : Sited). map (named_scope texts) scopes ≡ function_scopes x.kind x.name x.func → map (sited (under texts bodies)) found ≡ map (sited_in (function_scopes x.kind x.name x.func) x.chain) (inner_function x.kind x.name x.func)) can.is
         (h bodies can.body kind (option_map (text_at texts) name) can.read) are
 
-    extents_are : (found : List InnerSite) (extents : List Extent) → AreFunctionSites texts scopes chain tree found → ExtentsOf extents found → extents ≡ extents_of (inner_of f)
+    extents_are : (found : List FunctionSite) (extents : List Extent) → AreFunctionSites texts scopes chain tree found → ExtentsOf extents found → extents ≡ extents_of (inner_of f)
     extents_are found extents h e = e (under texts bodies) (scopes_of f) f.chain (inner_of f) (sites_are found h)
 
     module _ (extents : List Extent) (extents_same : extents ≡ extents_of (inner_of f)) where
@@ -108,7 +108,7 @@ module _ (texts : List (List ℕ)) (bodies : ℕ → Stmts) (tree : Func) (kind 
 
   -- ---- by what was called
 
-  module _ (scopes : List ScopeView) (found : List InnerSite) (extents : List Extent) (scopes_seen : List ScopeView) (found_seen : List InnerSite)
+  module _ (scopes : List ScopeView) (found : List FunctionSite) (extents : List Extent) (scopes_seen : List ScopeView) (found_seen : List FunctionSite)
       (scoped : ScopesOf texts tree kind name closed scopes)
       (scopes_same : scopes_seen ≡ scopes) (sites : AreFunctionSites texts scopes_seen chain tree found)
       (found_same : found_seen ≡ found) (ends : ExtentsOf extents found_seen) where
@@ -119,7 +119,7 @@ module _ (texts : List (List ℕ)) (bodies : ℕ → Stmts) (tree : Func) (kind 
     sites_found = subst (λ (ss : List ScopeView). AreFunctionSites texts ss chain tree found) scopes_same sites
 
     extents_same : extents ≡ extents_of (inner_of f)
-    extents_same = extents_are scopes are found extents sites_found (subst (λ (fs : List InnerSite). ExtentsOf extents fs) found_same ends)
+    extents_same = extents_are scopes are found extents sites_found (subst (λ (fs : List FunctionSite). ExtentsOf extents fs) found_same ends)
 
     pub asks : Asks texts chain scopes extents
     asks = record { chain = chain_fits scopes are; few_scopes = few_scopes scopes are; slots = slots_fit scopes are; few_inner = few_inner scopes are extents extents_same; ordered = ordered scopes are extents extents_same }

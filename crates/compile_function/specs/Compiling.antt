@@ -16,7 +16,7 @@ use Rattle.scope_analysis.specs.Functions.{inner_function}
 use Rattle.scope_analysis.specs.Kept.{under}
 use Rattle.scope_analysis.specs.Scopes.{function_scopes}
 use Rattle.emit_stmts.specs.Functions.{function_script}
-use Rattle.scope_inner.specs.declared.sites.InnerSite.{InnerSite}
+use Rattle.scope_inner.specs.declared.sites.FunctionSite.{FunctionSite}
 use Rattle.scope_inner.specs.Sites.{Sited, sited, sited_in}
 use Rattle.emit_limit_laws.specs.Limits.{FunctionWithin}
 use Rattle.emit_limit_laws.specs.FullNames.{ScopesFull, NameFull}
@@ -39,6 +39,6 @@ pub record CanBeCompiled (texts : List (List ℕ)) (bodies : ℕ → Stmts) (tre
 
 -- The stencil stands for what the function is compiled to, and these are the functions directly in it, each under the chain
 -- that it gets there.
-pub record IsCompiledFunction (texts : List (List ℕ)) (bodies : ℕ → Stmts) (stencil : FunctionView) (inside : List InnerSite) (f : Sited) : Type 0 where
+pub record IsCompiledFunction (texts : List (List ℕ)) (bodies : ℕ → Stmts) (stencil : FunctionView) (inside : List FunctionSite) (f : Sited) : Type 0 where
   pub stands : FunctionStandsFor ShowsCommands texts stencil (function_script f.kind f.name f.func f.chain).part
   pub found : map (sited (under texts bodies)) inside ≡ map (sited_in (function_scopes f.kind f.name f.func) f.chain) (inner_function f.kind f.name f.func)

@@ -15,7 +15,7 @@ ghost use Rattle.compile_function.specs.Compiling.{CanBeCompiled, IsCompiledFunc
 
 use emit_functions::function;
 use scope_functions::scopes;
-use scope_inner::{InnerSite, extents_of, function_sites};
+use scope_inner::{FunctionSite, extents_of, function_sites};
 use script_grammar::tree::Func;
 use std::alloc::{AllocError, Global};
 use stencil_data::{Chain, ClosedName, FuncKind, FunctionStencil, Text};
@@ -25,7 +25,7 @@ use stencil_data::{Chain, ClosedName, FuncKind, FunctionStencil, Text};
 pub struct CompiledFunction<'a> {
     /// In its code a function is named by its place among those directly inside.
     pub stencil: FunctionStencil,
-    pub inside: Vec<InnerSite<'a>>,
+    pub inside: Vec<FunctionSite<'a>>,
 }
 
 /// Compiles a function of this kind and name under the chain of the scopes around it. The name in the tree is not looked at.

@@ -50,7 +50,7 @@ use Rattle.compile_specs.specs.Shown as shown
 use Rattle.compile_function.specs.Sites.{IsFunctionAt}
 use Rattle.compile_numbers.specs.Sorted.{NamesView, AreSorted}
 use Rattle.compile_script.specs.Compiling.{CanBeCompiled, IsCompiledScript}
-use Rattle.scope_inner.specs.declared.sites.InnerSite.{InnerSite}
+use Rattle.scope_inner.specs.declared.sites.FunctionSite.{FunctionSite}
 use Rattle.parse_function_list.specs.declared.list.FoundFunction.{FoundFunction}
 use Rattle.parse_function_list.specs.Placed.{Placed, placed_of}
 use Rattle.compile_first_pass.specs.declared.pass.SyntaxScript.{SyntaxScript}
@@ -140,7 +140,7 @@ module _ (bytes : List ℕ) (script : SyntaxScript) (is : IsSyntaxOf bytes scrip
     pub asks : (bs : ℕ → Stmts) × (t : Stmts) × CanBeCompiled seen_texts bs seen_top names t
     asks = (bodies, is.items, asked)
 
-    pub compiled : (stencil : FunctionView) (inside : List InnerSite) (end : ℕ) → ((bs : ℕ → Stmts) (t : Stmts) → CanBeCompiled seen_texts bs seen_top names t → IsCompiledScript seen_texts stencil inside t end)
+    pub compiled : (stencil : FunctionView) (inside : List FunctionSite) (end : ℕ) → ((bs : ℕ → Stmts) (t : Stmts) → CanBeCompiled seen_texts bs seen_top names t → IsCompiledScript seen_texts stencil inside t end)
         → end ≡ length bytes → IsCompiledScript texts stencil inside is.items (length bytes)
     compiled stencil inside end made size =
         subst (IsCompiledScript texts stencil inside is.items) size
@@ -190,8 +190,8 @@ module _ (bytes : List ℕ) (script : SyntaxScript) (is : IsSyntaxOf bytes scrip
       subst (λ (starts : List ℕ). RecordsStandFor texts (map (record_at (map start_at found) closed) found) (map (shown.record_of starts (closed_names is.items)) (map (λ (s : Site). (compiled_at s).part) sited.all))) starts_are
       (records_stand texts i script.closed.items closed is.items (record { texts_are = refl; sound = sound; full = full; sorted = sorted; closed_are = is.closed }) (map start_at found) top_chains sited.all found sited.all listed at_sites)
 
-  pub initial_is : (made : InitialStencil) (inside : List InnerSite) (closed : NamesView) → AreSorted script.closed.items closed → made.parts.texts ≡ texts
-      → IsCompiledScript texts made.parts.top inside is.items (length bytes) → made.chains.items ≡ map (λ (s : InnerSite). s.chain) inside
+  pub initial_is : (made : InitialStencil) (inside : List FunctionSite) (closed : NamesView) → AreSorted script.closed.items closed → made.parts.texts ≡ texts
+      → IsCompiledScript texts made.parts.top inside is.items (length bytes) → made.chains.items ≡ map (λ (s : FunctionSite). s.chain) inside
       → (HaveNumbers (map start_at found) → made.parts.records ≡ map (record_at (map start_at found) closed) found) → made.around.items ≡ map around_at found → IsInitialOf bytes made
   initial_is made inside closed sorted texts_are top chains records around =
       let kept : made.parts.records ≡ map (record_at (map start_at found) closed) found = records numbered in

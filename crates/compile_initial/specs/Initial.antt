@@ -33,7 +33,7 @@ AllAround top all number [] (s ∷ ss) = ⊥
 AllAround top all number (a ∷ around) [] = ⊥
 AllAround top all number (a ∷ around) (s ∷ ss) = IsAround top all number a s × AllAround top all (suc number) around ss
 
--- all functions of a script of so many bytes, in order of number, from 1
+-- all functions of a script of n bytes, in order of number, from 1
 abbrev pub AreAround : Stmts → (end : ℕ) → List Around → List Site → Type 0
 AreAround items end around all = AllAround (top_script items end).chains all 1 around all
 

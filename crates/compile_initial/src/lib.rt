@@ -46,7 +46,7 @@ pub struct InitialStencil {
     pub around: Vec<Around>,
 }
 
-/// What a script that was read without trees, of a file of so many bytes, is before any of its functions is compiled. Takes time
+/// What a script that was read without trees, of a file of n bytes, is before any of its functions is compiled. Takes time
 /// and memory in proportion to the bytes. Only memory can fail.
 pub fn initial(alloc: Global, script: SyntaxScript, size: u32) -> Result<InitialStencil, AllocError>
     requires { (bytes : List ℕ) × IsSyntaxOf bytes script × (size ≡ length bytes) × (length bytes ≤ 16777215) }

@@ -17,7 +17,7 @@ pub data IsForest : (at : ℕ) → List ℕ → List (List ℕ) → Type 0 where
 abbrev is_among : ℕ → List ℕ → Bool
 is_among k numbers = list_any (λ n. nat_eq n k) numbers
 
--- a number is none of so many from this one on
+-- a number is none of n from this one on
 abbrev IsOut : (at count k : ℕ) → Type 0
 IsOut at count k = (k < at) ⊎ (at + count ≤ k)
 

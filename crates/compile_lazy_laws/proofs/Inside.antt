@@ -38,7 +38,7 @@ further : (front all : List Site) (s : Site) → IsListed all s → IsListed (fr
 further [] all s h = h
 further (x ∷ front) all s h = let r = further front all s h in record { place = suc r.place; is = r.is }
 
--- and behind it
+-- and after it
 longer : (all after : List Site) (s : Site) → IsListed all s → IsListed (all ++ after) s
 longer all after s h = record { place = h.place; is = by all h.place h.is }
   where

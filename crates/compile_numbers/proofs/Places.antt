@@ -44,7 +44,7 @@ passing-count : {A : Type 0} (p : A → Bool) (xs : List A) → passing p xs ≡
 unfolding passing
 passing-count p xs = is_count_by (passing p) p refl (λ x xs. refl) xs
 
--- so many of them are below the offset
+-- n of them are below the offset
 pub place_of : (ns : List ℕ) (start place : ℕ) → place ≤ length ns → IsPartitionPoint (λ (n : ℕ). nat_lt n start ≡ true) (λ (n : ℕ). nat_lt n start ≡ false) ns place → place ≡ length (filter (λ (n : ℕ). nat_lt n start) ns)
 place_of ns start place le point =
     sym (passing-front (λ (n : ℕ). nat_lt n start) ns place point.0 point.1 le) ∙ passing-count (λ (n : ℕ). nat_lt n start) ns ∙ sym (length-filter (λ (n : ℕ). nat_lt n start) ns)

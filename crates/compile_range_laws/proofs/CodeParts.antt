@@ -45,7 +45,7 @@ tries (Whole c ∷ ps) = tries ps
 tries (Waiting o aim ∷ ps) = tries ps
 tries (Trying long depth ∷ ps) = suc (tries ps)
 
--- this holds of the numbers of the functions that it makes, its jumps stay within it, and it has at most so many try notes
+-- this holds of the numbers of the functions that it makes, its jumps stay within it, and it has at most n try notes
 pub record CodeSmall (Holds : ℕ → Type 0) (most : ℕ) (code : Code) : Type 0 where
   pub made : EachMakes Holds code
   pub stays : EachStays (size code) 0 code
@@ -245,7 +245,7 @@ landed {H} {n} {code} aim h =
 pub at_here : {H : ℕ → Type 0} {n : ℕ} {code : Code} (aim : Aim) → CodeSmall H n code → CodeSmall H n (here aim code)
 at_here aim h = before (landed aim h) (command (plain op.JumpTarget) tt)
 
--- a jump over so many bytes, from after them
+-- a jump over n bytes, from after them
 back_to_start : (long more : ℕ) → long ≤ more → Stays more (0 + long) (Distance (2 ^ 64 - long))
 back_to_start long more le = elim (leb_tells long (2 ^ 64)) [
   | inl low ↦ (0, omega arith, inr (omega (arith, low.1)))

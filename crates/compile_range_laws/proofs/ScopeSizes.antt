@@ -30,7 +30,7 @@ abbrev pub weight : List NamedScope → ℕ
 weight [] = 0
 weight (s ∷ ss) = length s.bindings + s.env_slots + weight ss
 
--- so many scopes from a number on, with at most so many names
+-- n scopes from a number on, with at most m names
 pub record ScopesStand (number count names : ℕ) (ss : List NamedScope) : Type 0 where
   pub many : length ss ≡ count
   pub parents : ParentsBelow number ss

@@ -19,14 +19,14 @@ use Rattle.scope_analysis.specs.Walked.{AreScopes, ScopesFit}
 use Rattle.emit_exprs.specs.Rising.{Rises}
 use Rattle.emit_stmts.specs.Functions.{chain_at, extents_of, top_script}
 use Rattle.emit_stmts.specs.ScriptCode.{WholeFits, Belong, IsTop, script_in}
-use Rattle.scope_inner.specs.declared.sites.InnerSite.{InnerSite}
+use Rattle.scope_inner.specs.declared.sites.FunctionSite.{FunctionSite}
 use Rattle.scope_inner.specs.FunctionSites.{AreScriptSites}
 use Rattle.scope_inner.specs.Sites.{Sited, sited, sited_in}
 use Rattle.compile_function.proofs.Atoms.{scopes_within}
 use Rattle.compile_script.specs.Compiling.{CanBeCompiled, IsCompiledScript}
 
 -- the extents are those of the functions that were found
-abbrev pub ExtentsOf : List Extent → List InnerSite → Type 0
+abbrev pub ExtentsOf : List Extent → List FunctionSite → Type 0
 ExtentsOf extents found = (i : Interpretation) (scopes : List NamedScope) (outer : List LinkView) (inner : List Inner) → map (sited i) found ≡ map (sited_in scopes outer) inner → extents ≡ extents_of inner
 
 -- the scopes are those of the script
@@ -45,7 +45,7 @@ pub record Asks (texts : List (List ℕ)) (scopes : List ScopeView) (extents : L
 chain_of : Sited → List LinkView
 chain_of s = s.chain
 
-chains_found : (i : Interpretation) (found : List InnerSite) → map (λ (s : InnerSite). s.chain) found ≡ map chain_of (map (sited i) found)
+chains_found : (i : Interpretation) (found : List FunctionSite) → map (λ (s : FunctionSite). s.chain) found ≡ map chain_of (map (sited i) found)
 unfolding chain_of
 chains_found i [] = refl
 chains_found i (s ∷ found) = ap (λ (cs : List (List LinkView)). s.chain ∷ cs) (chains_found i found)
@@ -76,17 +76,17 @@ module _ (texts : List (List ℕ)) (bodies : ℕ → Stmts) (ss : List Stmt) (cl
 
     -- ---- the functions directly in it
 
-    sites_are : (found : List InnerSite) → AreScriptSites texts scopes ss found → map (sited (under texts bodies)) found ≡ map (sited_in (script_scopes items) []) (inner_script items)
+    sites_are : (found : List FunctionSite) → AreScriptSites texts scopes ss found → map (sited (under texts bodies)) found ≡ map (sited_in (script_scopes items) []) (inner_script items)
     sites_are found h =
         subst (λ (t : Stmts). map (named_scope texts) scopes ≡ script_scopes t → map (sited (under texts bodies)) found ≡ map (sited_in (script_scopes t) []) (inner_script t)) can.is
         (h bodies) are
 
-    chains_are : (found : List InnerSite) (end : ℕ) → AreScriptSites texts scopes ss found → map (λ (s : InnerSite). s.chain) found ≡ (top_script items end).chains
+    chains_are : (found : List FunctionSite) (end : ℕ) → AreScriptSites texts scopes ss found → map (λ (s : FunctionSite). s.chain) found ≡ (top_script items end).chains
     chains_are found end h =
         chains_found (under texts bodies) found
         ∙ (ap (map chain_of) (sites_are found h) ∙ chains_defined (script_scopes items) [] (inner_script items))
 
-    extents_are : (found : List InnerSite) (extents : List Extent) → AreScriptSites texts scopes ss found → ExtentsOf extents found → extents ≡ extents_of (inner_script items)
+    extents_are : (found : List FunctionSite) (extents : List Extent) → AreScriptSites texts scopes ss found → ExtentsOf extents found → extents ≡ extents_of (inner_script items)
     extents_are found extents h e = e (under texts bodies) (script_scopes items) [] (inner_script items) (sites_are found h)
 
     module _ (extents : List Extent) (extents_same : extents ≡ extents_of (inner_script items)) where
@@ -111,7 +111,7 @@ module _ (texts : List (List ℕ)) (bodies : ℕ → Stmts) (ss : List Stmt) (cl
 
   -- ---- by what was called
 
-  module _ (scopes : List ScopeView) (found : List InnerSite) (extents : List Extent) (scopes_seen : List ScopeView) (found_seen : List InnerSite)
+  module _ (scopes : List ScopeView) (found : List FunctionSite) (extents : List Extent) (scopes_seen : List ScopeView) (found_seen : List FunctionSite)
       (scoped : ScopesOf texts ss closed scopes)
       (scopes_same : scopes_seen ≡ scopes) (sites : AreScriptSites texts scopes_seen ss found)
       (found_same : found_seen ≡ found) (ends : ExtentsOf extents found_seen) where
@@ -122,7 +122,7 @@ module _ (texts : List (List ℕ)) (bodies : ℕ → Stmts) (ss : List Stmt) (cl
     sites_found = subst (λ (vs : List ScopeView). AreScriptSites texts vs ss found) scopes_same sites
 
     extents_same : extents ≡ extents_of (inner_script items)
-    extents_same = extents_are scopes are found extents sites_found (subst (λ (fs : List InnerSite). ExtentsOf extents fs) found_same ends)
+    extents_same = extents_are scopes are found extents sites_found (subst (λ (fs : List FunctionSite). ExtentsOf extents fs) found_same ends)
 
     pub asks : Asks texts scopes extents
     asks = record { few_scopes = few_scopes scopes are; slots = slots_fit scopes are; few_inner = few_inner scopes are extents extents_same; ordered = ordered scopes are extents extents_same }

@@ -11,7 +11,7 @@ use Rattle.scope_analysis.specs.FunctionTree.{KnowsNames}
 use Rattle.scope_analysis.specs.Scopes.{script_scopes}
 use Rattle.emit_stmts.specs.Functions.{top_script}
 use Rattle.emit_stmts.specs.ScriptCode.{script_in}
-use Rattle.scope_inner.specs.declared.sites.InnerSite.{InnerSite}
+use Rattle.scope_inner.specs.declared.sites.FunctionSite.{FunctionSite}
 use Rattle.emit_limit_laws.specs.Limits.{ScriptWithin}
 use Rattle.emit_limit_laws.specs.FullNames.{ScopesFull}
 
@@ -26,11 +26,11 @@ pub record CanBeCompiled (texts : List (List ℕ)) (bodies : ℕ → Stmts) (ss 
 
 -- The stencil stands for what the script itself is compiled to, whose text ends here, and each function directly in it gets
 -- the chain that the script hands down there.
-pub record IsCompiledScript (texts : List (List ℕ)) (stencil : FunctionView) (inside : List InnerSite) (items : Stmts) (end : ℕ) : Type 0 where
+pub record IsCompiledScript (texts : List (List ℕ)) (stencil : FunctionView) (inside : List FunctionSite) (items : Stmts) (end : ℕ) : Type 0 where
   pub stands : FunctionStandsFor ShowsCommands texts stencil (top_script items end).part
-  pub chains_are : map (λ (s : InnerSite). s.chain) inside ≡ (top_script items end).chains
+  pub chains_are : map (λ (s : FunctionSite). s.chain) inside ≡ (top_script items end).chains
 
 -- whatever bodies stand where some were passed over, the statements are compiled to this
-abbrev pub CompilesTo : List (List ℕ) → List Stmt → List ClosedName → (end : ℕ) → FunctionView → List InnerSite → Type 0
+abbrev pub CompilesTo : List (List ℕ) → List Stmt → List ClosedName → (end : ℕ) → FunctionView → List FunctionSite → Type 0
 CompilesTo texts ss closed end stencil inside =
     (bodies : ℕ → Stmts) (items : Stmts) → CanBeCompiled texts bodies ss closed items → IsCompiledScript texts stencil inside items end

@@ -14,7 +14,7 @@ ghost use Rattle.compile_script.specs.Compiling.{CanBeCompiled, CompilesTo};
 
 use emit_stmts::scripts::top as emit_top;
 use scope_analysis::top_scopes;
-use scope_inner::{InnerSite, extents_of, script_sites};
+use scope_inner::{FunctionSite, extents_of, script_sites};
 use script_grammar::tree::Stmt;
 use std::alloc::{AllocError, Global};
 use stencil_data::{ClosedName, FunctionStencil, Text};
@@ -24,10 +24,10 @@ use stencil_data::{ClosedName, FunctionStencil, Text};
 pub struct CompiledScript<'a> {
     /// In its code a function is named by its place among those directly inside.
     pub stencil: FunctionStencil,
-    pub inside: Vec<InnerSite<'a>>,
+    pub inside: Vec<FunctionSite<'a>>,
 }
 
-/// Compiles the script that has these statements, whose text is so many bytes long. `closed` has its names that functions in it
+/// Compiles the script that has these statements, whose text is n bytes long. `closed` has its names that functions in it
 /// close over; atoms are indexes into `texts`. Only memory can fail.
 pub fn compile_script<'a>(
     alloc: Global,

@@ -16,7 +16,7 @@ use Rattle.compile_session.specs.Files.{CountsWork}
 use Rattle.compile_session.specs.Workers.{SettlesFile, SettleFiles}
 use Rattle.compile_session.proofs.FilesLemmas.{total, read_at, total_more, drop_more, drop_all, same_length}
 
--- In the middle of the files: with whatever is compiled for those that are left, so many are compiled for all. `reads` are what was
+-- In the middle of the files: with whatever is compiled for those that are left, n are compiled for all. `reads` are what was
 -- read of all.
 pub record IsCounting (j : Job) (names : List (List ℕ)) (reads : List (Option (Vec ℕ Global))) (index : ℕ) (count : ℕ) : Type 0 where
   pub later : (held : List ℕ → List ℕ) → AreWholeBehind most_bytes held 0 names reads → (more : ℕ)

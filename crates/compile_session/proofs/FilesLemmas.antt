@@ -38,7 +38,7 @@ settles_more job held before name names text later refused later_refused one all
       (h.6 ∙ ap (λ (t : List ℕ). t ++ h.2) a.0 ∙ ap (λ (t : List ℕ). text ++ t) b.0, h.7 ∙ ap (λ (x : Bool). x || h.3) a.1 ∙ ap (λ (x : Bool). refused || x) b.1);
 }
 
--- the bytes of the files of these names, after so many
+-- the bytes of the files of these names, after n
 unfoldable pub total : (List ℕ → List ℕ) → ℕ → List (List ℕ) → ℕ
 total held before [] = before
 total held before (name ∷ names) = total held (before + length (held name)) names

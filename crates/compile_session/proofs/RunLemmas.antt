@@ -134,7 +134,7 @@ opened_some words a held names before now is same turned =
 
 -- ---- what is counted
 
--- so many functions are compiled, where the shelf tells what it holds, by what the calls saw of the names and of what was read
+-- n functions are compiled, where the shelf tells what it holds, by what the calls saw of the names and of what was read
 pub counted_seen : (a : Asked) (shelf : Option (List ℕ → List ℕ)) (held : List ℕ → List ℕ) (names : List (List ℕ)) (reads seen : List (Option (Vec ℕ Global))) (count : ℕ) → names ≡ files_of a → seen ≡ reads → shelf ≡ Some held
     → ReadsAllWithin shelf names most_bytes reads → CountsWork a seen count → CompilesAsked a held count
 counted_seen a shelf held names reads seen count named is tells read counts =

@@ -83,7 +83,7 @@ few_taken g (word ∷ v ∷ rest) t few e =
 files_same : (a b : Job) → ◌≡◌ {A = Option Asked} (Some (Files a)) (Some (Files b)) → a ≡ b
 files_same a b e = cc
 
--- a job of names that are no more than so many
+-- a job of names that are no more than n
 bounded_names : (c : Command) (most : ℕ) (t : Taken) (j : Job) → most ≤ 64 → FewWorkers t.given.workers → with_names c most t ≡ Some (Files j) → Bounded j
 bounded_names c most t j small few e =
     by (nat_le 1 (length t.names)) (nat_le (length t.names) most) (all_file_names t.names) refl e

@@ -50,11 +50,11 @@ pub record Settles (job : Job) (before : ℕ) (name file : List ℕ) (text : Lis
   pub is : IsOfFile job.command job.want before name file text refused
   pub only : (other : List ℕ) (other_refused : Bool) → IsOfFile job.command job.want before name file other other_refused → (other ≡ text) × (other_refused ≡ refused)
 
--- the same of whatever file was read so, after so many bytes of others
+-- the same of whatever file was read so, after n bytes of others
 abbrev pub SettlesRead : Job → List ℕ → Option (Vec ℕ Global) → FileAnswer → Type 0
 SettlesRead job name read answer = (before : ℕ) (file : List ℕ) → IsWholeBehind most_bytes before file read → Settles job before name file answer.text.items answer.refused
 
--- So many functions were compiled for what was read of a file: as many as whatever file was read so, after so many bytes of others,
+-- n functions were compiled for what was read of a file: as many as whatever file was read so, after m bytes of others,
 -- shows compiled, and none where the command compiles none whatever its files hold.
 pub record CountsRead (job : Job) (read : Option (Vec ℕ Global)) (count : ℕ) : Type 0 where
   pub is : (before : ℕ) (file : List ℕ) → IsWholeBehind most_bytes before file read → CompilesFile job.command job.want before file count

@@ -32,7 +32,7 @@ IsBefore status.ReadFault = Unit {0}
 IsBefore status.WriteFault = ⊥
 IsBefore status.NoMemory = ⊥
 
--- The text and whether a file is refused are the answer for these files, after so many bytes of others, and there is no other.
+-- The text and whether a file is refused are the answer for these files, after n bytes of others, and there is no other.
 pub record SettlesAll (job : Job) (held : List ℕ → List ℕ) (before : ℕ) (names : List (List ℕ)) (text : List ℕ) (refused : Bool) : Type 0 where
   pub is : IsOfFiles job.command job.want held before names text refused
   pub only : (other : List ℕ) (other_refused : Bool) → IsOfFiles job.command job.want held before names other other_refused → (other ≡ text) × (other_refused ≡ refused)
@@ -50,7 +50,7 @@ pub record SettlesWork (asked : Asked) (held : List ℕ → List ℕ) (text : Li
 abbrev pub AnswersWork : Asked → List (Option (Vec ℕ Global)) → FileAnswer → Type 0
 AnswersWork asked reads answer = (held : List ℕ → List ℕ) → AreWholeBehind most_bytes held 0 (files_of asked) reads → SettlesWork asked held answer.text.items answer.refused
 
--- So many functions were compiled for what is asked, by what was read of its files: as many as whatever files were read so show
+-- n functions were compiled for what is asked, by what was read of its files: as many as whatever files were read so show
 -- compiled, and none where none are whatever the files hold. They are at most 2^38.
 pub record CountsWork (asked : Asked) (reads : List (Option (Vec ℕ Global))) (count : ℕ) : Type 0 where
   pub is : (held : List ℕ → List ℕ) → AreWholeBehind most_bytes held 0 (files_of asked) reads → CompilesAsked asked held count

@@ -4,7 +4,7 @@ use Rattle.std.specs.List.{range_with_len}
 use Rattle.session_words.specs.declared.options.Order.{Order}
 use Rattle.session_words.specs.declared.options.Order.TheVariants as order
 
--- the numbers below so many, rising
+-- the numbers below n, rising
 abbrev pub rising : ℕ → List ℕ
 rising count = range_with_len 0 count
 

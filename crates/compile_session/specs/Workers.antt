@@ -9,21 +9,21 @@ use Rattle.compile_session.specs.declared.answer.FileAnswer.{FileAnswer}
 use Rattle.compile_session.specs.Answers.{CountsRead, SettlesRead}
 use Rattle.compile_session.specs.Built.{is_built}
 
--- the command is built, and so many of its files were read, none of more bytes than there may be
+-- the command is built, and n of its files were read, none of more bytes than there may be
 pub record CanBeAnswered (job : FileJob) (reads : List (Option (Vec ℕ Global))) (count : ℕ) : Type 0 where
   pub built : is_built job.command ≡ true
   pub within : HaveAtMost most_bytes reads
   pub named : count ≤ length job.files.items
   pub read : count ≤ length reads
 
--- This is the answer for the file of this number, by what was read of it, and so many functions were compiled for it, which can be
+-- This is the answer for the file of this number, by what was read of it, and n functions were compiled for it, which can be
 -- counted in 32 bits.
 pub record SettlesFile (job : Job) (reads : List (Option (Vec ℕ Global))) (number : ℕ) (answer : FileAnswer) : Type 0 where
   pub settles : (name : List ℕ) (read : Option (Vec ℕ Global)) → slice_get job.files number ≡ Some name → slice_get reads number ≡ Some read → SettlesRead job name read answer
   pub counts : (read : Option (Vec ℕ Global)) → slice_get reads number ≡ Some read → CountsRead job read answer.compiled
   pub few : answer.compiled < 2 ^ 32
 
--- these are the answers for so many files, in their order
+-- these are the answers for n files, in their order
 pub record SettleFiles (job : Job) (reads : List (Option (Vec ℕ Global))) (count : ℕ) (answers : List FileAnswer) : Type 0 where
   pub long : length answers ≡ count
   pub each : (number : ℕ) (answer : FileAnswer) → slice_get answers number ≡ Some answer → SettlesFile job reads number answer

@@ -72,7 +72,7 @@ pub fn run<R: Threads + Wait + Sync, L: Shelf, K: Sink, G: Gate, T: Tally>(
     ensures same { L.held shelf.new ≡ L.held shelf.old }
 
     // What is counted on the tally, whatever the status is: no more functions than the answer shows compiled, out of the room; where
-    // all was done, just so many. None where none is for these words, whatever the files hold.
+    // all was done, just n. None where none is for these words, whatever the files hold.
     ensures sum { T.count tally.new + T.room tally.new ≡ T.count tally.old + T.room tally.old }
     ensures rising { T.count tally.old ≤ T.count tally.new }
     ensures lazy { (held : List ℕ → List ℕ) → L.held shelf.old ≡ Some held → (compiled : ℕ) →
@@ -105,7 +105,7 @@ pub fn run<R: Threads + Wait + Sync, L: Shelf, K: Sink, G: Gate, T: Tally>(
     }
 }
 
-/// Counts so many functions at once: a tally of that room is lent, and is never given back.
+/// Counts n functions at once: a tally of that room is lent, and is never given back.
 fn count_compiled<T: Tally>(tally: &mut T, amount: u64)
     requires room { amount ≤ T.room tally.old }
     ensures { Rises (T.count tally.old) (T.room tally.old) (T.count tally.new) (T.room tally.new) amount }

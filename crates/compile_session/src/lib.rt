@@ -2,7 +2,7 @@
 //!
 //! It stands on `session_words`, which reads the words of every command, on `session_outside`, which reads files and writes output, on
 //! `helper_tasks`, by whose workers files are worked on side by side, and on `compile_first_pass`, which reads the script of a
-//! file without trees, by the three handlers that it is given here. Commands that show scripts stand on `compile_initial`, which
+//! file without trees, by the handler that it is given here. Commands that show scripts stand on `compile_initial`, which
 //! makes of it what the script is before any of its functions is compiled, on `compile_shown`, which compiles those functions that
 //! are wanted and those around them, each from its own text, on `compile_tally`, on which these are counted, on `script_image`, which
 //! lists what is shown, and on `stencil_xdr_write`, which writes its image; those over images on `session_images`, and that over

@@ -22,7 +22,7 @@ pub(crate) fn file_text(alloc: Global, name: &str) -> Result<Vec<u8>, AllocError
     Ok(out)
 }
 
-/// The line of a script without errors, which has so many functions.
+/// The line of a script without errors, which has n functions.
 pub(crate) fn fine_text(alloc: Global, name: &str, functions: usize) -> Result<Vec<u8>, AllocError>
     ensures { IfOk result (λ text. text.items ≡ name.now ++ codes ": ok, " ++ decimal functions ++ codes " functions\n") }
 {

@@ -69,7 +69,7 @@ fn lesser(one: Option<u32>, other: u32) -> u32
     }
 }
 
-/// The least wanted number that none of so many functions has.
+/// The least wanted number that none of n functions has.
 pub(crate) fn missing_of(want: &Want, count: usize) -> Option<u32>
     ensures { IsMissing (asked.wanted want.now) count result }
 {

@@ -9,10 +9,7 @@ ghost use Rattle.compile_session.specs.Answers.{IsSourceText};
 use crate::listing::missing_of;
 use crate::refusal::Refusal;
 use compile_first_pass::{FirstPass, SyntaxScript, first_pass};
-use parse_early_handler::EarlyErrorHandler;
-use parse_handlers::Syntax;
-use parse_pair_handler::Both;
-use parse_track_handler::Telling;
+use parse_skim_handler::Skimming;
 use session_words::Want;
 use std::alloc::{AllocError, Global};
 
@@ -22,13 +19,6 @@ use std::alloc::{AllocError, Global};
 pub enum SourceText {
     Script(SyntaxScript),
     Refused(Refusal),
-}
-
-/// The handlers of a first pass: for what a script tells of its names, for its functions, and for its early errors of the rules
-/// that look at no region.
-fn first_handlers(alloc: Global) -> Both<Telling, Both<Syntax, EarlyErrorHandler>> {
-    let others = Both::new(alloc, Syntax::new(alloc), EarlyErrorHandler::new());
-    Both::new(alloc, Telling::new(alloc), others)
 }
 
 /// What a script without errors is, where these functions are wanted.
@@ -50,7 +40,7 @@ pub(crate) fn read_source(
     requires short { length bytes.now ≤ most_bytes }
     ensures { IfOk result (IsSourceText (asked.wanted want.now) bytes.now) }
 {
-    let pass = first_pass(alloc, first_handlers(alloc), bytes)?;
+    let pass = first_pass(alloc, Skimming::new(alloc), bytes)?;
     match pass {
         FirstPass::Script(script) => Ok(script_text(want, script)),
         FirstPass::Refused(fault) => Ok(SourceText::Refused(Refusal::Source(fault))),

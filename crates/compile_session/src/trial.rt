@@ -55,7 +55,7 @@ fn append_counts(
     Ok(())
 }
 
-/// The line of a trial of a text of so many bytes.
+/// The line of a trial of a text of n bytes.
 fn trial_line(
     alloc: Global,
     number: u32,

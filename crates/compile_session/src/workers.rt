@@ -67,7 +67,7 @@ impl<'a> FileTasks<'a> {
     }
 }
 
-/// So many workers, none of which has answered a file.
+/// n workers, none of which has answered a file.
 fn idle_workers(alloc: Global, count: u32) -> Result<Vec<Worker>, AllocError>
     ensures { IfOk result (λ workers. length workers.items ≡ count) }
 {

@@ -62,7 +62,7 @@ at_most c r d s n most h le =
 pub has_room : (c r d s n k most : ℕ) → Rises c r d s n → n + k ≤ most → most ≤ r → k ≤ s
 has_room c r d s n k most h le room = let b = h.room in omega (arith, b, le, room)
 
--- ---- the count where so many were passed
+-- ---- the count where n were passed
 
 pub room_at : (flags : List Bool) (place : ℕ) (c r d s : ℕ) → place < length flags → Rises c r d s (trues (take place flags)) → trues flags ≤ r → counted (slice_index_or flags place false) ≤ s
 room_at flags place c r d s lt h room =

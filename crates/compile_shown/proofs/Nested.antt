@@ -44,7 +44,7 @@ last_append : (k : ℕ) (u v : List Lexeme) → last_end k (u ++ v) ≡ last_end
 last_append k [] v = refl
 last_append k (t ∷ u) v = last_append t.end u v
 
--- what is in front of the last token, where more than nothing is behind a part
+-- what is in front of the last token, where more than nothing is after a part
 without_last : (xs ys zs : List Lexeme) (x y : Lexeme) → xs ++ x ∷ [] ≡ ys ++ y ∷ zs → (more : List Lexeme) × (xs ≡ ys ++ more)
 without_last xs [] zs x y e = (xs, refl)
 without_last [] (z ∷ ys) zs x y e =
@@ -57,7 +57,7 @@ without_last (w ∷ xs) (z ∷ ys) zs x y e =
     let r = without_last xs ys zs x y tails in
     (r.0, ap₂ (λ (a : Lexeme) (b : List Lexeme). a ∷ b) heads r.1)
 
--- a part of some tokens, those in front of it and those behind it
+-- a part of some tokens, those in front of it and those after it
 split_at : (words before deep more tail : List Lexeme) → words ≡ (before ++ deep) ++ more → words ++ tail ≡ before ++ (deep ++ (more ++ tail))
 split_at words before deep more tail e = ap (λ (w : List Lexeme). w ++ tail) e ∙ (append_assoc (before ++ deep) more tail ∙ append_assoc before deep (more ++ tail))
 

@@ -23,7 +23,7 @@ abbrev pub IsAtHand : (Extent → Bool) → Option (List LinkView) → Site → 
 IsAtHand shown (Some chain) s = chain ≡ s.chain
 IsAtHand shown None s = shown (extent_of s.inner.func) ≡ false
 
--- Of the functions in order of number so many were passed: of these the ones that are shown are compiled. There is a chain at
+-- Of the functions in order of number n were passed: of these the ones that are shown are compiled. There is a chain at
 -- hand, or none, for each of the functions that come next; the others that are left are in these.
 pub record IsUpTo (want : Wanted) (bytes : List ℕ) (initial : InitialStencil) (is : IsInitialOf bytes initial) (count : ℕ) (hands : List (Option (List LinkView))) (merged : MergedView) : Type 0 where
   pub next : List Site
@@ -45,7 +45,7 @@ AreFlags want records flags = flags ≡ map (is_shown want (extents_in records))
 
 -- ---- what is asked of a step, and what it does, where the script of these bytes is this before any of its functions is compiled
 
--- so many functions were passed, for some that are wanted
+-- n functions were passed, for some that are wanted
 abbrev pub HasPassed : List ℕ → InitialStencil → (count : ℕ) → List (Option (List LinkView)) → MergedView → Type 0
 HasPassed bytes initial count hands merged = (want : Wanted) × (is : IsInitialOf bytes initial) × IsUpTo want bytes initial is count hands merged
 

@@ -16,7 +16,7 @@ pub(crate) fn put(hands: &mut Vec<Option<Chain>>, mut chains: Vec<Chain>) -> Res
     Ok(())
 }
 
-/// Puts none for each of so many functions in front of those at hand.
+/// Puts none for each of n functions in front of those at hand.
 pub(crate) fn put_none(hands: &mut Vec<Option<Chain>>, count: usize) -> Result<(), AllocError>
     ensures { OnOk result (reverse hands.new.items ≡ replicate count None ++ reverse hands.old.items) }
 {

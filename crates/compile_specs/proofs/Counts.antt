@@ -1,4 +1,4 @@
--- The functions of a script are so many, and no other number.
+-- The functions of a script are n, and no other number.
 use Rattle.std.proofs.Common.{◌≡◌, ℕ, ◌+◌, List, refl, ap, ◌∙◌}
 use Rattle.script_grammar.specs.Tree.{Stmts}
 use Rattle.scope_analysis.specs.Functions.{Inner, inner_function, inner_script}

@@ -3,7 +3,7 @@ use Rattle.std.specs.Prelude.{ℕ, Bool, false, ◌&&◌, ◌||◌, nat_le, List
 use Rattle.std.specs.List.{range_with_len}
 use Rattle.compile_specs.specs.Shown.{Wanted, wants}
 
--- of so many functions, numbered from 1, whether each is wanted
+-- of n functions, numbered from 1, whether each is wanted
 abbrev pub wanted_flags : Wanted → ℕ → List Bool
 wanted_flags want count = map (wants want) (range_with_len 1 count)
 

@@ -26,7 +26,7 @@ fn mark(flags: &mut [bool], number: u32)
     flags[number - 1] = true;
 }
 
-/// Of each of so many functions, whether its number is among these.
+/// Of each of n functions, whether its number is among these.
 fn marked(alloc: Global, numbers: &[u32], count: usize) -> Result<Vec<bool>, AllocError>
     ensures { IfOk result (λ all. all.items ≡ flag.wanted_flags (shown.Numbers numbers.now) count) }
 {
@@ -37,7 +37,7 @@ fn marked(alloc: Global, numbers: &[u32], count: usize) -> Result<Vec<bool>, All
     Ok(flags)
 }
 
-/// Of each of so many functions, whether it is wanted.
+/// Of each of n functions, whether it is wanted.
 fn wanted_flags(alloc: Global, wanted: Wanted<'_>, count: usize) -> Result<Vec<bool>, AllocError>
     ensures { IfOk result (λ all. all.items ≡ flag.wanted_flags (to_show wanted.entry) count) }
 {

@@ -50,7 +50,7 @@ pub fn check_told(
 
 /// Checks the script that the track was told, and nothing else; `first` is its first early error of a rule that looks at no
 /// region.
-pub fn check_track(mut track: Track, first: Option<Early>) -> Result<Checked, AllocError>
+fn check_track(mut track: Track, first: Option<Early>) -> Result<Checked, AllocError>
     requires { track.noted ≡ None }
     ensures early { IfOk result (λ checked. (texts : List (List ℕ)) (items : Stmts) → IsTrackOf texts track first items → checked.early ≡ early_error items) }
     ensures functions { IfOk result (λ checked. (texts : List (List ℕ)) (items : Stmts) → IsTrackOf texts track first items → checked.functions ≡ function_count (tells_script items)) }

@@ -27,7 +27,7 @@ fn count_within(count: usize, most: u32) -> u32
     }
 }
 
-/// A call with so many arguments.
+/// A call with n arguments.
 pub fn call(out: &mut CodeBuf, site: &Site, count: usize, wanted: Use) -> Result<(), AllocError>
     ensures { OnOk result (Calls site.now out.old out.new count (one (command.counted Op.Call count) ++ code.used_value wanted)) }
 {
@@ -36,7 +36,7 @@ pub fn call(out: &mut CodeBuf, site: &Site, count: usize, wanted: Use) -> Result
     Ok(())
 }
 
-/// A `new` with so many arguments.
+/// A `new` with n arguments.
 pub fn construct(
     out: &mut CodeBuf,
     site: &Site,
@@ -52,7 +52,7 @@ pub fn construct(
     Ok(())
 }
 
-/// An array with room for so many items.
+/// An array with room for n items.
 pub fn new_array(out: &mut CodeBuf, site: &Site, count: usize) -> Result<(), AllocError>
     ensures { OnOk result (Written site.now out.old out.new (λ bodies. count < 2 ^ 32) (λ bodies. one (command.counted Op.NewArray count))) }
 {

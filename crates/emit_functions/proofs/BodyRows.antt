@@ -34,7 +34,7 @@ use Rattle.emit_exprs.specs.declared.uses.Use.TheVariants.{Plainly}
 use Rattle.emit_exprs.specs.Sites.{EmitsAt}
 use Rattle.emit_exprs.specs.TreeCode.{ExprEmits}
 use Rattle.emit_exprs.specs.Whole.{just}
-use Rattle.emit_stmts.specs.declared.stmt_site.StmtSite.{StmtSite}
+use Rattle.emit_stmts.specs.declared.stmt_site.StmtContext.{StmtContext}
 use Rattle.emit_stmts.specs.Declares.{declares}
 use Rattle.emit_stmts.specs.Frames.{scope_at, chain_link, global_link, has_env}
 use Rattle.emit_stmts.specs.Functions.{copies_code, body_code, body_setting, body_vars_code, body_base}
@@ -67,7 +67,7 @@ passes s outer chain is chain_is = record {
       ∙ ap (λ (b : Bool). resolve_beyond (environments_of (if b then global_link else link_of s)) outer name) (sym (not_global s.kind is)));
 }
 
-pub vars_entered : {a b c : List ℕ} (s inside : StmtSite) (number : ℕ) (ps : List Param) (chain passing : List LinkView) (bindings : List Binding)
+pub vars_entered : {a b c : List ℕ} (s inside : StmtContext) (number : ℕ) (ps : List Param) (chain passing : List LinkView) (bindings : List Binding)
     → is_body_var (scope_in s number).kind ≡ true
     → EmitsAt s.exprs a b (push_env op.PushVarEnv (scope_in s number) number)
     → chain ≡ chain_link (scope_in s number) ∷ s.exprs.chain.now
@@ -131,7 +131,7 @@ top_made {p} {q} {old} {new} {number} {next} chain items at x =
       is = λ bodies fits small. y.code.is (record { bodies = bodies; base = chain }) (record { chain = refl }) fits small;
     }
 
-pub braced_vars : {a b c d : List ℕ} {ws ws_new : List Wait} {ns ns_in ns_new : List TryNote} {number j l : ℕ} (s inside : StmtSite) (ps : List Param) (items : List Stmt)
+pub braced_vars : {a b c d : List ℕ} {ws ws_new : List Wait} {ns ns_in ns_new : List TryNote} {number j l : ℕ} (s inside : StmtContext) (ps : List Param) (items : List Stmt)
     → is_body_var (scope_in s number).kind ≡ true → VarsEntered s a b number ps → ns_in ≡ ns → (number + 1 < 2 ^ 64 → j ≡ number + 1)
     → position_of inside ≡ at_body (chain_link (scope_in s number) ∷ s.exprs.chain.now) (position_of s)
     → TopWritten (position_of inside) (emitted b ws ns_in) (emitted c ws_new ns_new) j l items → EmitsAt s.exprs c d (just op.RetRval)
@@ -159,7 +159,7 @@ braced_vars {a} {b} {c} {d} {ws} {ws_new} {ns} {ns_in} {ns_new} {number} {j} {l}
     top : TopMade (position_of s) (emitted b ws ns_in) (emitted c ws_new ns_new) j base items
     top = top_made base items at x
 
-pub braced_plain : {a b c : List ℕ} {ws ws_new : List Wait} {ns ns_new : List TryNote} {number l : ℕ} (s inside : StmtSite) (ps : List Param) (items : List Stmt)
+pub braced_plain : {a b c : List ℕ} {ws ws_new : List Wait} {ns ns_new : List TryNote} {number l : ℕ} (s inside : StmtContext) (ps : List Param) (items : List Stmt)
     → is_body_var (scope_in s number).kind ≡ false
     → position_of inside ≡ at_body s.exprs.chain.now (position_of s)
     → TopWritten (position_of inside) (emitted a ws ns) (emitted b ws_new ns_new) number l items → EmitsAt s.exprs b c (just op.RetRval)
@@ -200,7 +200,7 @@ body_braced {p} b items ss is ss_is x =
     (λ bodies. ap (body_of (under p.texts bodies)) is ∙ (body_of-Braced (under p.texts bodies) items ∙ ap (λ (l : List Stmt). Some (BracedBody (stmts_under p.texts bodies l))) (sym ss_is)))
     x.appends x.is
 
-pub body_short : {a b c : List ℕ} {number : ℕ} (s : StmtSite) (ps : List Param) (body : FuncBody) (value : Box Expr Global) (e : Expr) (ws : List Wait) (ns : List TryNote) → body ≡ in_body.Short value → e ≡ value.value → ExprEmits s.exprs a b Plainly e → EmitsAt s.exprs b c (just op.Return)
+pub body_short : {a b c : List ℕ} {number : ℕ} (s : StmtContext) (ps : List Param) (body : FuncBody) (value : Box Expr Global) (e : Expr) (ws : List Wait) (ns : List TryNote) → body ≡ in_body.Short value → e ≡ value.value → ExprEmits s.exprs a b Plainly e → EmitsAt s.exprs b c (just op.Return)
     → BodyWritten (position_of s) (emitted a ws ns) (emitted c ws ns) number ps body
 body_short s ps body value e ws ns is e_is x end =
     body_at body (λ bodies. ShortBody (expr_of (under s.exprs.texts.now bodies) e)) (x.row.code.written ++ just op.Return)

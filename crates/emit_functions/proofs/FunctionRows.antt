@@ -30,7 +30,7 @@ use Rattle.bytecode_buf.specs.Emits.{emitted}
 use Rattle.bytecode_buf.specs.Pieces.{Code, settled, notes}
 use Rattle.bytecode_buf.proofs.AppendLemmas.{appends_both}
 use Rattle.emit_exprs.specs.Sites.{EmitsAt, scene_of}
-use Rattle.emit_stmts.specs.declared.stmt_site.StmtSite.{StmtSite}
+use Rattle.emit_stmts.specs.declared.stmt_site.StmtContext.{StmtContext}
 use Rattle.emit_stmts.specs.Declares.{declares}
 use Rattle.emit_stmts.specs.Frames.{scope_at, chain_link}
 use Rattle.emit_stmts.specs.Functions.{specials_code, params_code, body_code, params_base, code_in, start_of, extent_of, starts_of, extents_of, count_of, function_code, function_script}
@@ -46,7 +46,7 @@ use Rattle.emit_functions.proofs.VarScopes.{vars_scope}
 
 -- ---- the code
 
-pub function_row : {a b c : List ℕ} {ws : List Wait} {ns : List TryNote} {new : Emitted} {number next : ℕ} (s : StmtSite) (f : Func) (bindings : List Binding) (ps qs : List Param)
+pub function_row : {a b c : List ℕ} {ws : List Wait} {ns : List TryNote} {new : Emitted} {number next : ℕ} (s : StmtContext) (f : Func) (bindings : List Binding) (ps qs : List Param)
     → named_bindings s.exprs.texts.now bindings ≡ (scope_in s number).bindings → ps ≡ (out-Func f).params.items → qs ≡ (out-Func f).params.items → next ≡ number + 1
     → EmitsAt s.exprs a b (specials_code (scene_of s.exprs) (named_bindings s.exprs.texts.now bindings))
     → ParamsEmit s.exprs b c ps
@@ -67,7 +67,7 @@ function_row {ws = ws} {ns} {number = number} {next} s f bindings ps qs names ps
     under_site bodies l = params_under s.exprs.texts.now bodies l
 
 -- code that was made from nothing
-pub function_made : {bytes first : List ℕ} {ws first_waits : List Wait} {ns first_notes : List TryNote} {number : ℕ} (s inside : StmtSite) (f : Func) (chain : List LinkView)
+pub function_made : {bytes first : List ℕ} {ws first_waits : List Wait} {ns first_notes : List TryNote} {number : ℕ} (s inside : StmtContext) (f : Func) (chain : List LinkView)
     → first ≡ [] → first_waits ≡ [] → first_notes ≡ []
     → position_of inside ≡ at_body chain (position_of s) → chain ≡ chain_link (scope_in s number) ∷ s.exprs.chain.now
     → FunctionWritten (position_of inside) (emitted first first_waits first_notes) (emitted bytes ws ns) number f → FunctionMade (position_of s) bytes ns number f

@@ -17,7 +17,7 @@ use Rattle.emit_exprs.specs.Exprs.{Scene}
 use Rattle.emit_exprs.specs.Sites.{EmitsAt, scene_of}
 use Rattle.emit_exprs.specs.TreeCode.{at_site}
 use Rattle.emit_exprs.proofs.Writing.{written_of, written_as, Left, left_begin, left_step, left_end}
-use Rattle.emit_stmts.specs.declared.stmt_site.StmtSite.{StmtSite}
+use Rattle.emit_stmts.specs.declared.stmt_site.StmtContext.{StmtContext}
 use Rattle.emit_stmts.specs.Declares.{declares}
 use Rattle.emit_stmts.specs.Frames.{kept_values, leave_scope}
 use Rattle.emit_stmts.specs.Functions.{top_function, top_functions}
@@ -96,14 +96,14 @@ items_count items q w = count_stmts (stmts_in q w items)
 abbrev items_code : List Stmt → Position → World → ℕ → Code
 items_code items q w i = top_functions (scene_at (setting q w) q.frames) (stmts_in q w items) ++ stmts_code (setting q w) (stmts_in q w items) i q.frames
 
-items_written : {a b c : List ℕ} {ws ws_new : List Wait} {ns ns_new : List TryNote} {k l : ℕ} (s : StmtSite) (items : List Stmt) → TopFunctionsEmit s.exprs a b items → StmtsWritten (position_of s) (emitted b ws ns) (emitted c ws_new ns_new) k l items
+items_written : {a b c : List ℕ} {ws ws_new : List Wait} {ns ns_new : List TryNote} {k l : ℕ} (s : StmtContext) (items : List Stmt) → TopFunctionsEmit s.exprs a b items → StmtsWritten (position_of s) (emitted b ws ns) (emitted c ws_new ns_new) k l items
     → Written (position_of s) (emitted a ws ns) (emitted c ws_new ns_new) k l (items_fit items (position_of s)) (items_count items (position_of s)) (items_code items (position_of s))
 items_written {ws = ws} {ns = ns} {k = k} s items x y =
     written_by (λ w f. (tt, f)) (λ w f. zero-add _)
     (λ w stands f. ap₂ (λ (c : Scene) (i : ℕ). top_functions c (stmts_in (position_of s) w items) ++ stmts_code (setting (position_of s) w) (stmts_in (position_of s) w items) i (position_of s).frames) (scene_is (position_of s) w stands) (add-zero k))
     (written_both (written_plain s ws ns k x.made) y.code)
 
-pub top_scoped : {a b c d e : List ℕ} {ws ws_new : List Wait} {ns ns_in ns_new : List TryNote} {k j l number : ℕ} {flag : Bool} (s inside : StmtSite) (items : List Stmt)
+pub top_scoped : {a b c d e : List ℕ} {ws ws_new : List Wait} {ns ns_in ns_new : List TryNote} {k j l number : ℕ} {flag : Bool} (s inside : StmtContext) (items : List Stmt)
     → ((w : World) → flag ≡ declares (top_lexical_names (stmts_in (position_of s) w items))) → (flag && nat_lt 0 (position_of s).room) ≡ true
     → position_of inside ≡ inner_position (position_of s) k → ((w : World) → EmitsAt s.exprs a b (enter_scope (setting (position_of s) w) k)) → (k + 1 < 2 ^ 64 → j ≡ k + 1) → ns_in ≡ ns
     → TopFunctionsEmit inside.exprs b c items → StmtsWritten (position_of inside) (emitted c ws ns_in) (emitted d ws_new ns_new) j l items
@@ -123,7 +123,7 @@ top_scoped {k = k} {flag = flag} s inside items flag_is enters is into next same
     some : (w : World) → declares (names w) ≡ true
     some w = sym (flag_is w) ∙ declared_some flag (position_of s).room enters
 
-pub top_plain : {a b c : List ℕ} {ws ws_new : List Wait} {ns ns_new : List TryNote} {k l : ℕ} {flag : Bool} (s : StmtSite) (items : List Stmt)
+pub top_plain : {a b c : List ℕ} {ws ws_new : List Wait} {ns ns_new : List TryNote} {k l : ℕ} {flag : Bool} (s : StmtContext) (items : List Stmt)
     → ((w : World) → flag ≡ declares (top_lexical_names (stmts_in (position_of s) w items))) → (flag && nat_lt 0 (position_of s).room) ≡ false
     → TopFunctionsEmit s.exprs a b items → StmtsWritten (position_of s) (emitted b ws ns) (emitted c ws_new ns_new) k l items
     → TopWritten (position_of s) (emitted a ws ns) (emitted c ws_new ns_new) k l items

@@ -19,7 +19,7 @@ use Rattle.bytecode_buf.specs.Appends.{Appends, Emitted}
 use Rattle.bytecode_buf.specs.Pieces.{Code}
 use Rattle.emit_exprs.specs.Fitting.{ExprFits}
 use Rattle.emit_exprs.specs.TreeCode.{Written}
-use Rattle.emit_stmts.specs.declared.stmt_site.StmtSite.{StmtSite}
+use Rattle.emit_stmts.specs.declared.stmt_site.StmtContext.{StmtContext}
 use Rattle.emit_stmts.specs.Declares.{declares}
 use Rattle.emit_stmts.specs.Frames.{scope_at, chain_link}
 use Rattle.emit_stmts.specs.Functions.{copies_code, body_code}
@@ -60,7 +60,7 @@ entered_code scopes starts params number base =
     push_env op.PushVarEnv (scope_at scopes number) number
     ++ copies_code (record { chain = chain_link (scope_at scopes number) ∷ base; starts = starts }) base (environments_of (chain_link (scope_at scopes number))) params (scope_at scopes number).bindings
 
-pub record VarsEntered (s : StmtSite) (old new : List ℕ) (number : ℕ) (ps : List Param) : Type 0 where
+pub record VarsEntered (s : StmtContext) (old new : List ℕ) (number : ℕ) (ps : List Param) : Type 0 where
   pub made : Written s.exprs old new (λ bodies. Unit {0}) (λ bodies. entered_code (position_of s).scopes (position_of s).starts (param_names (params_under s.exprs.texts.now bodies ps)) number s.exprs.chain.now)
 
 -- ---- bodies

@@ -17,7 +17,7 @@ use Rattle.emit_exprs.specs.Whole.{whole, just}
 use Rattle.emit_stmts.specs.Functions.{copies_code}
 use Rattle.emit_functions.specs.ParamCode.{params_in}
 
--- a name is found on the chain as on the outer one by who has passed so many environments
+-- a name is found on the chain as on the outer one by who has passed n environments
 pub record Passes (chain : List LinkView) (hops : ℕ) (outer : List LinkView) : Type 0 where
   pub same : (name : List ℕ) → resolve chain name ≡ resolve_beyond hops outer name
 

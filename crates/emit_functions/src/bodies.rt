@@ -13,13 +13,13 @@ use bytecode_buf::{Op, Wait};
 use emit_exprs::steps::plain;
 use emit_exprs::{Use, emit_expr};
 use emit_stmts::scoping::{chain_inside, has_env, push_env};
-use emit_stmts::{Draft, StmtSite};
+use emit_stmts::{Draft, StmtContext};
 use script_grammar::tree::{FuncBody, Param, Stmt};
 use std::alloc::AllocError;
 use stencil_data::{Chain, Link, ScopeKind};
 
 // Whether the scope with this number is that of a body's var names.
-fn has_vars(site: &StmtSite, number: usize) -> bool
+fn has_vars(site: &StmtContext, number: usize) -> bool
     ensures { result ≡ is_body_var (scope_in site.now number).kind }
 {
     match site.scopes.get(number) {
@@ -29,7 +29,7 @@ fn has_vars(site: &StmtSite, number: usize) -> bool
 }
 
 // The chain inside the scope of a body's var names, as if it had none of them.
-fn chain_passing(site: &StmtSite, number: usize) -> Result<Chain, AllocError>
+fn chain_passing(site: &StmtContext, number: usize) -> Result<Chain, AllocError>
     ensures chain { IfOk result (λ chain. chain ≡ record { kind = ScopeKind.FunctionBodyVar; env = around.has_env (scope_in site.now number); names = [] } ∷ site.now.exprs.chain.now) }
     ensures slots { IfOk result (λ chain. LinksFit chain) }
 {
@@ -44,7 +44,7 @@ fn chain_passing(site: &StmtSite, number: usize) -> Result<Chain, AllocError>
 
 // Enters the scope of a body's var names, which is the next one, and gives those that are named as parameters the values
 // of these. Answers the chain inside.
-fn enter_vars(out: &mut Draft, site: &StmtSite, params: &[Param]) -> Result<Chain, AllocError>
+fn enter_vars(out: &mut Draft, site: &StmtContext, params: &[Param]) -> Result<Chain, AllocError>
     requires links { length site.now.exprs.chain.now ≤ 60002 }
     requires vars { is_body_var (scope_in site.now out.old.next).kind ≡ true }
     ensures code { OnOk result (VarsEntered site.now out.old.code out.new.code out.old.next params.now) }
@@ -68,7 +68,7 @@ fn enter_vars(out: &mut Draft, site: &StmtSite, params: &[Param]) -> Result<Chai
 fn braced_body(
     out: &mut Draft,
     waits: &mut Vec<Wait>,
-    site: &StmtSite,
+    site: &StmtContext,
     params: &[Param],
     items: &[Stmt],
 ) -> Result<(), AllocError>
@@ -93,7 +93,7 @@ fn braced_body(
 pub fn emit_body(
     out: &mut Draft,
     waits: &mut Vec<Wait>,
-    site: &StmtSite,
+    site: &StmtContext,
     params: &[Param],
     body: &FuncBody,
 ) -> Result<(), AllocError>

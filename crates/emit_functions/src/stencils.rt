@@ -15,7 +15,7 @@ use crate::sites::{ROOM, bindings_of, site_under};
 use bytecode_buf::{CodeBuf, Wait};
 use emit_exprs::Site;
 use emit_stmts::scoping::chain_inside;
-use emit_stmts::{Draft, StmtSite};
+use emit_stmts::{Draft, StmtContext};
 use script_grammar::tree::{Func, Param};
 use std::alloc::{AllocError, Global};
 use stencil_data::{Chain, Extent, FuncKind, FunctionStencil, ScopeData, Text};
@@ -46,7 +46,7 @@ fn param_count(params: &[Param]) -> u32
 fn emit_function(
     out: &mut Draft,
     waits: &mut Vec<Wait>,
-    site: &StmtSite,
+    site: &StmtContext,
     func: &Func,
     number: usize,
 ) -> Result<(), AllocError>
@@ -61,7 +61,7 @@ fn emit_function(
 }
 
 // The code of a function whose own scope has this number, and stands in the innermost one here.
-fn draft_inside(site: &StmtSite, func: &Func, number: usize) -> Result<Draft, AllocError>
+fn draft_inside(site: &StmtContext, func: &Func, number: usize) -> Result<Draft, AllocError>
     requires links { length site.now.exprs.chain.now ≤ 60001 }
     requires first { number < 2 }
     ensures { IfOk result (λ draft. FunctionMade (position_of site.now) draft.code draft.notes.items number func.now) }
@@ -103,7 +103,7 @@ fn draft_function<'a>(
         texts,
         inner,
     };
-    let outside = StmtSite {
+    let outside = StmtContext {
         exprs,
         frames: &[],
         scopes,

@@ -17,7 +17,7 @@ use emit_stmts::functions::assigning_function;
 use emit_stmts::inside::{enter_next, may_enter, within_scope};
 use emit_stmts::scoping::leave_scope;
 use emit_stmts::stmts::emit_stmts;
-use emit_stmts::{Draft, StmtSite};
+use emit_stmts::{Draft, StmtContext};
 use script_grammar::tree::{Func, Stmt};
 use std::alloc::AllocError;
 
@@ -77,7 +77,7 @@ fn top_functions(out: &mut CodeBuf, site: &Site, items: &[Stmt]) -> Result<(), A
 pub fn top_scope(
     out: &mut Draft,
     waits: &mut Vec<Wait>,
-    site: &StmtSite,
+    site: &StmtContext,
     items: &[Stmt],
 ) -> Result<(), AllocError>
     ensures { OnOk result (TopWritten (position_of site.now) (state out.old waits.old.items) (state out.new waits.new.items) out.old.next out.new.next items.now) }

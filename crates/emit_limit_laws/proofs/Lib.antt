@@ -26,5 +26,4 @@ pub mod FullStatements
 pub mod RisingSites
 mod Rows
 pub mod SiteCounts
-pub mod StartsBehind
 pub mod TellingFunctions

@@ -95,7 +95,7 @@ pub fit_both : (ss ts : List NamedScope) → ScopesFit ss → ScopesFit ts → S
 fit_both [] ts f g = g
 fit_both (s ∷ ss) ts f g = (f.0, fit_both ss ts f.1 g)
 
--- at most so many parameters, and room for these names and those of the content
+-- at most n parameters, and room for these names and those of the content
 pub and_fits : (kind : ScopeKind) (ds : List Declaration) (inner : List Text) (content : Within → List NamedScope) (w : Within) (n : ℕ) → param_count ds ≤ 2 ^ 16 → w.frame + (length ds + n) ≤ 2 ^ 24
     → ((v : Within) → v.frame + n ≤ 2 ^ 24 → ScopesFit (content v)) → ScopesFit (scope_and kind ds inner content w)
 and_fits kind ds inner content w n few room fits =

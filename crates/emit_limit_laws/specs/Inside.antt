@@ -15,7 +15,7 @@ pub record Cut {A : Type 0} (all part back : List A) : Type 0 where
   pub front : List A
   pub is : all ≡ front ++ (part ++ back)
 
--- A function in a part of its function, which begins after so many levels: where it is printed, and where it is listed. Of
+-- A function in a part of its function, which begins after n levels: where it is printed, and where it is listed. Of
 -- the scopes around it at most four are entered at each level.
 pub record Here (behind : ℕ) (i : Inner) (depths depths_left : List ℕ) (starts starts_left : List Started) (notes notes_left : List Early) : Type 0 where
   pub depth : ℕ

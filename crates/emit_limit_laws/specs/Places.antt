@@ -14,6 +14,6 @@ abbrev pub AllUpTo : ℕ → List ℕ → Type 0
 AllUpTo limit [] = Unit {0}
 AllUpTo limit (n ∷ ns) = (n ≤ limit) × AllUpTo limit ns
 
--- at least so many tokens
+-- at least n tokens
 pub record Has (n : ℕ) (ps : List Piece) : Type 0 where
   pub tokens : n ≤ length (depths_of ps)

@@ -15,7 +15,7 @@
 //!
 //! It also says what holds of every function that compiling a script lists (`Site` of compile_specs), at any depth:
 //! - The parameters of all functions start at offsets that rise strictly, and there are fewer functions than 2^32
-//!   (`proofs/RisingSites.antt`); those directly in a function start after it (`proofs/StartsBehind.antt`).
+//!   (`proofs/RisingSites.antt`).
 //! - The functions that are listed are as many as the regions of functions that the script tells (`proofs/SiteCounts.antt`,
 //!   `proofs/TellingFunctions.antt`).
 //! - Where no token that is a name is empty, no name is that the script or a function binds, nor the name of a function

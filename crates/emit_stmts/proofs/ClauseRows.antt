@@ -12,7 +12,7 @@ use Rattle.bytecode_buf.specs.declared.waits.Wait.{Wait}
 use Rattle.bytecode_buf.specs.Appends.{Appends, AllRoom, waits_of}
 use Rattle.bytecode_buf.specs.Emits.{emitted, Waits}
 use Rattle.bytecode_buf.specs.Pieces.{Code, Waiting}
-use Rattle.emit_stmts.specs.declared.stmt_site.StmtSite.{StmtSite}
+use Rattle.emit_stmts.specs.declared.stmt_site.StmtContext.{StmtContext}
 use Rattle.emit_stmts.specs.declared.switching.ClauseJumps.{ClauseJumps}
 use Rattle.emit_stmts.specs.Apart.{is_clause, place_of}
 use Rattle.emit_stmts.specs.Clauses.{NoClause, InOrder, Among, ClauseLanded, waiting}
@@ -47,7 +47,7 @@ pub record SwitchLeft (p : Position) (start : List ℕ) (notes : List TryNote) (
   pub among : Among place (length all) jumps.otherwise.items
   pub apart : NoClause rest
 
-pub switch_begin : {a b c : List ℕ} {w0 o0 rest : List Wait} {level : ℕ} {goal : Aim} (s : StmtSite) (notes : List TryNote) (number : ℕ) (all : List Clause) (tests otherwise : Vec Wait Global) (at : ℕ)
+pub switch_begin : {a b c : List ℕ} {w0 o0 rest : List Wait} {level : ℕ} {goal : Aim} (s : StmtContext) (notes : List TryNote) (number : ℕ) (all : List Clause) (tests otherwise : Vec Wait Global) (at : ℕ)
     → w0 ≡ [] → CasesWritten s a w0 b tests.items all → (w0 ≡ [] → InOrder 0 (length all) tests.items)
     → o0 ≡ [] → Waits op.Default goal b o0 c otherwise.items → otherwise.items ≡ o0 ++ record { at = at; aim = goal } ∷ []
     → ((i : Interpretation) → goal ≡ default_aim level 0 (clauses_of (map (clause_of i) all))) → (is_clause goal ≡ true → place_of goal < length all)

@@ -20,7 +20,7 @@ use Rattle.emit_exprs.specs.Sites.{EmitsAt}
 use Rattle.emit_exprs.specs.Whole.{just}
 use Rattle.emit_exprs.proofs.Writing.{written_of}
 use Rattle.emit_exprs.proofs.Writing as expr
-use Rattle.emit_stmts.specs.declared.stmt_site.StmtSite.{StmtSite}
+use Rattle.emit_stmts.specs.declared.stmt_site.StmtContext.{StmtContext}
 use Rattle.emit_stmts.specs.Declares.{declares}
 use Rattle.emit_stmts.specs.Frames.{Frame, Loop, KeysLoop, Entered, kept_values, leave_scope}
 use Rattle.emit_stmts.specs.HeadCode.{freshen_head}
@@ -47,7 +47,7 @@ for_part fresh init test update body q w i frames =
 abbrev body_count : Stmt → Position → World → ℕ
 body_count body q w = count_stmt (stmt_of (within q w) body)
 
-for_written : {a b c d : List ℕ} {ws ws_new : List Wait} {ns ns_new : List TryNote} {k l : ℕ} (s : StmtSite) (head : Option ℕ) (init : Init) (test update : Option Expr) (body : Stmt)
+for_written : {a b c d : List ℕ} {ws ws_new : List Wait} {ns ns_new : List TryNote} {k l : ℕ} (s : StmtContext) (head : Option ℕ) (init : Init) (test update : Option Expr) (body : Stmt)
     → InitEmits s.exprs a b init → EmitsAt s.exprs b c (freshen_head (position_of s).scopes head) → ForWritten (position_of s) (emitted c ws ns) (emitted d ws_new ns_new) k l head test update body
     → Written (position_of s) (emitted a ws ns) (emitted d ws_new ns_new) k l (for_fits init test update body (position_of s)) (body_count body (position_of s)) (λ w i. for_part (freshen_head (position_of s).scopes head) init test update body (position_of s) w i (position_of s).frames)
 for_written {ws = ws} {ns = ns} {k = k} s head init test update body x y z =
@@ -55,7 +55,7 @@ for_written {ws = ws} {ns = ns} {k = k} s head init test update body x y z =
     (λ w stands f. ap₂ (λ (c : Scene) (i : ℕ). init_code c (init_of (within (position_of s) w) init) ++ freshen_head (position_of s).scopes head ++ turns_code (setting (position_of s) w) head (maybe_in (position_of s) w test) (maybe_in (position_of s) w update) (stmt_of (within (position_of s) w) body) i (position_of s).frames) (scene_is (position_of s) w stands) (add-zero k))
     (written_both (written_plain s ws ns k (expr.written_both x.made (written_of y))) z.code)
 
-pub for_scoped : {a b c d e f : List ℕ} {ws ws_new : List Wait} {ns ns_in ns_new : List TryNote} {k j l number : ℕ} {flag : Bool} (s inside : StmtSite) (init : Init) (test update : Option Expr) (body : Stmt)
+pub for_scoped : {a b c d e f : List ℕ} {ws ws_new : List Wait} {ns ns_in ns_new : List TryNote} {k j l number : ℕ} {flag : Bool} (s inside : StmtContext) (init : Init) (test update : Option Expr) (body : Stmt)
     → ((w : World) → flag ≡ declares (init_lexical_names (init_of (within (position_of s) w) init))) → (flag && nat_lt 0 (position_of s).room) ≡ true
     → position_of inside ≡ inner_position (position_of s) k → ((w : World) → EmitsAt s.exprs a b (enter_scope (setting (position_of s) w) k)) → (k + 1 < 2 ^ 64 → j ≡ k + 1) → ns_in ≡ ns
     → InitEmits inside.exprs b c init → number ≡ k → EmitsAt inside.exprs c d (freshen_head (position_of inside).scopes (Some number)) → ForWritten (position_of inside) (emitted d ws ns_in) (emitted e ws_new ns_new) j l (Some number) test update body
@@ -78,7 +78,7 @@ for_scoped {k = k} {number = number} {flag = flag} s inside init test update bod
     some : (w : World) → declares (names w) ≡ true
     some w = sym (flag_is w) ∙ declared_some flag (position_of s).room enters
 
-pub for_plain : {a b c : List ℕ} {ws ws_new : List Wait} {ns ns_new : List TryNote} {k l : ℕ} {flag : Bool} (s : StmtSite) (init : Init) (test update : Option Expr) (body : Stmt)
+pub for_plain : {a b c : List ℕ} {ws ws_new : List Wait} {ns ns_new : List TryNote} {k l : ℕ} {flag : Bool} (s : StmtContext) (init : Init) (test update : Option Expr) (body : Stmt)
     → ((w : World) → flag ≡ declares (init_lexical_names (init_of (within (position_of s) w) init))) → (flag && nat_lt 0 (position_of s).room) ≡ false
     → InitEmits s.exprs a b init → ForWritten (position_of s) (emitted b ws ns) (emitted c ws_new ns_new) k l None test update body
     → RowWritten (position_of s) (emitted a ws ns) (emitted c ws_new ns_new) k l (λ w. model.For (init_of (within (position_of s) w) init) (maybe_in (position_of s) w test) (maybe_in (position_of s) w update) (stmt_of (within (position_of s) w) body))
@@ -108,7 +108,7 @@ for_in_part fresh each over body q w i frames =
 abbrev for_in_fits : Each → Expr → Stmt → Position → World → Type 0
 for_in_fits each over body q w = EachFits (each_of (within q w) each) × ExprFits (expr_of (within q w) over) × StmtFits q.room (2 + kept_values q.frames) (stmt_of (within q w) body)
 
-pub for_in_scoped : {a b c d : List ℕ} {ws ws_new : List Wait} {ns ns_in ns_new : List TryNote} {k j l number : ℕ} {flag : Bool} (s inside : StmtSite) (each : Each) (over : Expr) (body : Stmt)
+pub for_in_scoped : {a b c d : List ℕ} {ws ws_new : List Wait} {ns ns_in ns_new : List TryNote} {k j l number : ℕ} {flag : Bool} (s inside : StmtContext) (each : Each) (over : Expr) (body : Stmt)
     → ((w : World) → flag ≡ declares (each_lexical_names (each_of (within (position_of s) w) each))) → (flag && nat_lt 0 (position_of s).room) ≡ true
     → position_of inside ≡ inner_position (position_of s) k → ((w : World) → EmitsAt s.exprs a b (enter_scope (setting (position_of s) w) k)) → (k + 1 < 2 ^ 64 → j ≡ k + 1) → ns_in ≡ ns
     → number ≡ k → ForInWritten (position_of inside) (emitted b ws ns_in) (emitted c ws_new ns_new) j l (Some number) each over body
@@ -131,7 +131,7 @@ for_in_scoped {k = k} {number = number} {flag = flag} s inside each over body fl
     some : (w : World) → declares (names w) ≡ true
     some w = sym (flag_is w) ∙ declared_some flag (position_of s).room enters
 
-pub for_in_plain : {a b : List ℕ} {ws ws_new : List Wait} {ns ns_new : List TryNote} {k l : ℕ} {flag : Bool} (s : StmtSite) (each : Each) (over : Expr) (body : Stmt)
+pub for_in_plain : {a b : List ℕ} {ws ws_new : List Wait} {ns ns_new : List TryNote} {k l : ℕ} {flag : Bool} (s : StmtContext) (each : Each) (over : Expr) (body : Stmt)
     → ((w : World) → flag ≡ declares (each_lexical_names (each_of (within (position_of s) w) each))) → (flag && nat_lt 0 (position_of s).room) ≡ false
     → ForInWritten (position_of s) (emitted a ws ns) (emitted b ws_new ns_new) k l None each over body
     → RowWritten (position_of s) (emitted a ws ns) (emitted b ws_new ns_new) k l (λ w. model.ForIn (each_of (within (position_of s) w) each) (expr_of (within (position_of s) w) over) (stmt_of (within (position_of s) w) body))

@@ -24,7 +24,7 @@ use Rattle.emit_exprs.specs.TreeCode.{Written, ExprEmits, at_site}
 use Rattle.emit_exprs.specs.Whole.{just}
 use Rattle.emit_exprs.proofs.Writing.{written_of}
 use Rattle.emit_exprs.proofs.Writing as expr
-use Rattle.emit_stmts.specs.declared.stmt_site.StmtSite.{StmtSite}
+use Rattle.emit_stmts.specs.declared.stmt_site.StmtContext.{StmtContext}
 use Rattle.emit_stmts.specs.Frames.{kept_values}
 use Rattle.emit_stmts.specs.HeadCode.{Tested, KeysTested, keys_code, Choosing, CaseWritten, CasesWritten}
 use Rattle.emit_stmts.specs.PartCode.{clauses_in}
@@ -35,12 +35,12 @@ use Rattle.emit_stmts.proofs.Writing.{written_plain, written_wait, written_both,
 
 -- ---- loops
 
-pub tested_some : {a b c : List ℕ} {ws ws_new : List Wait} (s : StmtSite) (level : ℕ) (test : Option Expr) (e : Expr) → test ≡ Some e → ExprEmits s.exprs a b Plainly e → Waits op.JumpIfFalse (aim.Break level) b ws c ws_new → Tested s a ws c ws_new level test
+pub tested_some : {a b c : List ℕ} {ws ws_new : List Wait} (s : StmtContext) (level : ℕ) (test : Option Expr) (e : Expr) → test ≡ Some e → ExprEmits s.exprs a b Plainly e → Waits op.JumpIfFalse (aim.Break level) b ws c ws_new → Tested s a ws c ws_new level test
 tested_some {a} {c = c} {ws} {ws_new} s level test e is x jump = subst (λ (t : Option Expr). Tested s a ws c ws_new level t) (sym is) (record {
   made = λ ns number. written_by (λ w f. (f, tt)) (λ w f. refl) (λ w stands f. refl) (written_both (written_plain s ws ns number x.row.code) (written_wait op.JumpIfFalse (aim.Break level) (position_of s) ns number refl jump));
 })
 
-pub tested_none : (s : StmtSite) (now : List ℕ) (ws : List Wait) (level : ℕ) (test : Option Expr) → test ≡ None → Tested s now ws now ws level test
+pub tested_none : (s : StmtContext) (now : List ℕ) (ws : List Wait) (level : ℕ) (test : Option Expr) → test ≡ None → Tested s now ws now ws level test
 tested_none s now ws level test is = subst (λ (t : Option Expr). Tested s now ws now ws level t) (sym is) (record {
   made = λ ns number. written_by (λ w f. tt) (λ w f. refl) (λ w stands f. refl) (written_none (position_of s) (emitted now ws ns) number);
 })
@@ -58,7 +58,7 @@ keys_tested {ws = ws} level x y z jump = record {
 
 -- ---- the tests of a switch
 
-pub case_some : {a b c d e : List ℕ} {ws ws_new : List Wait} (s : StmtSite) (place : ℕ) (test : Option Expr) (value : Expr) → test ≡ Some value → EmitsAt s.exprs a b (just op.Dup) → ExprEmits s.exprs b c Plainly value → EmitsAt s.exprs c d (just op.StrictEq) → Waits op.Case (aim.Clause place) d ws e ws_new → CaseWritten s a ws e ws_new place test
+pub case_some : {a b c d e : List ℕ} {ws ws_new : List Wait} (s : StmtContext) (place : ℕ) (test : Option Expr) (value : Expr) → test ≡ Some value → EmitsAt s.exprs a b (just op.Dup) → ExprEmits s.exprs b c Plainly value → EmitsAt s.exprs c d (just op.StrictEq) → Waits op.Case (aim.Clause place) d ws e ws_new → CaseWritten s a ws e ws_new place test
 case_some {a} {d = d} {e} {ws} {ws_new} s place test value is dup x equal jump = subst (λ (t : Option Expr). CaseWritten s a ws e ws_new place t) (sym is) (record {
   made = λ ns. record {
     written = u.written ++ (Waiting op.Case (aim.Clause place) ∷ []);
@@ -70,7 +70,7 @@ case_some {a} {d = d} {e} {ws} {ws_new} s place test value is dup x equal jump =
     u : Written s.exprs a d (λ bodies. (Unit {0} × ExprFits (expr_of (at_site s.exprs bodies) value)) × Unit {0}) (λ bodies. just op.Dup ++ code_of (scene_of s.exprs) Plainly (expr_of (at_site s.exprs bodies) value) ++ just op.StrictEq)
     u = expr.written_both (expr.written_both (written_of dup) x.row.code) (written_of equal)
 
-pub case_none : (s : StmtSite) (now : List ℕ) (ws : List Wait) (place : ℕ) (test : Option Expr) → test ≡ None → CaseWritten s now ws now ws place test
+pub case_none : (s : StmtContext) (now : List ℕ) (ws : List Wait) (place : ℕ) (test : Option Expr) → test ≡ None → CaseWritten s now ws now ws place test
 case_none s now ws place test is = subst (λ (t : Option Expr). CaseWritten s now ws now ws place t) (sym is) (record {
   made = λ ns. record { written = []; appends = appends_none (position_of s).texts (emitted now ws ns); is = λ w f. refl };
 })
@@ -89,14 +89,14 @@ pub record ChoosingLeft (p : Position) (start now : Emitted) (all left : World �
   pub fits : (w : World) → all w → left w
   pub is : (w : World) → all w → written ++ rest w ≡ code w
 
-pub record CasesLeft (s : StmtSite) (bytes : List ℕ) (waits : List Wait) (bytes_now : List ℕ) (waits_now : List Wait) (place : ℕ) (all left : List Clause) : Type 0 where
+pub record CasesLeft (s : StmtContext) (bytes : List ℕ) (waits : List Wait) (bytes_now : List ℕ) (waits_now : List Wait) (place : ℕ) (all left : List Clause) : Type 0 where
   pub loop : (notes : List TryNote) → ChoosingLeft (position_of s) (emitted bytes waits notes) (emitted bytes_now waits_now notes) (fits_in (position_of s) all) (fits_in (position_of s) left)
       (λ w. cases_code (scene (position_of s)) 0 (clauses_in (position_of s) w all)) (λ w. cases_code (scene (position_of s)) place (clauses_in (position_of s) w left))
 
-pub cases_begin : (s : StmtSite) (bytes : List ℕ) (waits : List Wait) (all : List Clause) → CasesLeft s bytes waits bytes waits 0 all all
+pub cases_begin : (s : StmtContext) (bytes : List ℕ) (waits : List Wait) (all : List Clause) → CasesLeft s bytes waits bytes waits 0 all all
 cases_begin s bytes waits all = record { loop = λ notes. record { written = []; appends = appends_none (position_of s).texts (emitted bytes waits notes); fits = λ w f. f; is = λ w f. refl } }
 
-pub cases_next : {s : StmtSite} {a b c : List ℕ} {ws0 ws ws_new : List Wait} {place : ℕ} {all : List Clause} (left further : List Clause) (x : Clause) → left ≡ x ∷ further → CaseWritten s b ws c ws_new place x.test → CasesLeft s a ws0 b ws place all left → CasesLeft s a ws0 c ws_new (place + 1) all further
+pub cases_next : {s : StmtContext} {a b c : List ℕ} {ws0 ws ws_new : List Wait} {place : ℕ} {all : List Clause} (left further : List Clause) (x : Clause) → left ≡ x ∷ further → CaseWritten s b ws c ws_new place x.test → CasesLeft s a ws0 b ws place all left → CasesLeft s a ws0 c ws_new (place + 1) all further
 cases_next {s} {a} {b} {c} {ws0} {ws} {ws_new} {place} {all} left further x is y l = record { loop = λ notes. next notes (y.made notes) (l.loop notes) }
   where
     p : Position
@@ -122,7 +122,7 @@ cases_next {s} {a} {b} {c} {ws0} {ws} {ws_new} {place} {all} left further x is y
           ∙ (ap (λ (m : model.Clauses). v.written ++ cases_code (scene p) place m) (sym (same w)) ∙ v.is w f));
     }
 
-pub cases_end : {s : StmtSite} {a b : List ℕ} {ws0 ws : List Wait} {place : ℕ} {all : List Clause} (left : List Clause) → left ≡ [] → CasesLeft s a ws0 b ws place all left → CasesWritten s a ws0 b ws all
+pub cases_end : {s : StmtContext} {a b : List ℕ} {ws0 ws : List Wait} {place : ℕ} {all : List Clause} (left : List Clause) → left ≡ [] → CasesLeft s a ws0 b ws place all left → CasesWritten s a ws0 b ws all
 cases_end {s} {a} {b} {ws0} {ws} {place} {all} left none l = record { made = λ notes. end notes (l.loop notes) }
   where
     p : Position

@@ -24,7 +24,7 @@ use Rattle.emit_exprs.specs.TreeCode.{ExprEmits}
 use Rattle.emit_exprs.specs.Whole.{just}
 use Rattle.emit_exprs.proofs.Writing.{written_of}
 use Rattle.emit_exprs.proofs.Writing as expr
-use Rattle.emit_stmts.specs.declared.stmt_site.StmtSite.{StmtSite}
+use Rattle.emit_stmts.specs.declared.stmt_site.StmtContext.{StmtContext}
 use Rattle.emit_stmts.specs.Frames.{Frame, Loop, KeysLoop, kept_values, chain_of}
 use Rattle.emit_stmts.specs.HeadCode.{freshen_head, keys_code, Tested, KeysTested}
 use Rattle.emit_stmts.specs.PartCode.{ForWritten, ForInWritten, maybe_in}
@@ -61,7 +61,7 @@ pub turn_landed : {p : Position} {a e f : List ℕ} {w2 t0 t1 : List Wait} {ns n
 turn_landed level u none lands = written_from_none none (written_here (aim.Continue level) lands u)
 
 -- a row of a statement with one more frame around its parts
-pub framed_row : {a b : Emitted} {k l : ℕ} (s inside : StmtSite) (frame : Frame) (f : Position → World → Type 0) (n : Position → World → ℕ) (x : Position → World → ℕ → Code) {g : World → Type 0} {m : World → ℕ} {y : World → ℕ → Code}
+pub framed_row : {a b : Emitted} {k l : ℕ} (s inside : StmtContext) (frame : Frame) (f : Position → World → Type 0) (n : Position → World → ℕ) (x : Position → World → ℕ → Code) {g : World → Type 0} {m : World → ℕ} {y : World → ℕ → Code}
     → position_of inside ≡ framed (frame ∷ (position_of s).frames) (position_of s)
     → ((base : List _) → chain_of (position_of s).scopes base (position_of s).frames ≡ chain_of (position_of s).scopes base (frame ∷ (position_of s).frames))
     → ((w : World) → g w → f (framed (frame ∷ (position_of s).frames) (position_of s)) w)
@@ -88,7 +88,7 @@ value_code test q w = expr_code (scene q) (expr_of (within q w) test)
 
 -- ---- while
 
-pub while_turn : {a b c d e : List ℕ} {w0 w1 w2 : List Wait} {ns ns_new : List TryNote} {k l : ℕ} (inside : StmtSite) (test : Expr) (body : Stmt) (level : ℕ) → w0 ≡ []
+pub while_turn : {a b c d e : List ℕ} {w0 w1 w2 : List Wait} {ns ns_new : List TryNote} {k l : ℕ} (inside : StmtContext) (test : Expr) (body : Stmt) (level : ℕ) → w0 ≡ []
     → EmitsAt inside.exprs a b (just op.LoopHead) → ExprEmits inside.exprs b c Plainly test → Waits op.JumpIfFalse (aim.Break level) c w0 d w1 → StmtWritten (position_of inside) (emitted d w1 ns) (emitted e w2 ns_new) k l body
     → Written (position_of inside) (emitted a [] ns) (emitted e w2 ns_new) k l (λ w. test_fits test (position_of inside) w × body_fits body (position_of inside) w) (body_count body (position_of inside))
     (λ w i. just op.LoopHead ++ value_code test (position_of inside) w ++ (Waiting op.JumpIfFalse (aim.Break level) ∷ []) ++ body_code body (position_of inside) w i)
@@ -97,7 +97,7 @@ while_turn {w0 = w0} {ns = ns} {k = k} inside test body level none head x jump y
     (λ w stands f. ap (λ (i : ℕ). just op.LoopHead ++ value_code test (position_of inside) w ++ (Waiting op.JumpIfFalse (aim.Break level) ∷ []) ++ body_code body (position_of inside) w i) (add-zero k))
     (written_from_none none (written_both (written_both (written_plain inside w0 ns k (expr.written_both (written_of head) x.row.code)) (written_wait op.JumpIfFalse (aim.Break level) (position_of inside) ns k refl jump)) y.row.code))
 
-pub while_row : {a f g h : List ℕ} {t1 ws ws_new : List Wait} {ns ns_new : List TryNote} {k l start : ℕ} (s inside : StmtSite) (test : Expr) (body : Stmt) (level : ℕ) → position_of inside ≡ framed (Loop ∷ (position_of s).frames) (position_of s) → level ≡ length (position_of s).frames → length a ≡ start
+pub while_row : {a f g h : List ℕ} {t1 ws ws_new : List Wait} {ns ns_new : List TryNote} {k l start : ℕ} (s inside : StmtContext) (test : Expr) (body : Stmt) (level : ℕ) → position_of inside ≡ framed (Loop ∷ (position_of s).frames) (position_of s) → level ≡ length (position_of s).frames → length a ≡ start
     → Written (position_of inside) (emitted a [] ns) (emitted f t1 ns_new) k l (λ w. test_fits test (position_of inside) w × body_fits body (position_of inside) w) (body_count body (position_of inside))
     (λ w i. here (aim.Continue level) (just op.LoopHead ++ value_code test (position_of inside) w ++ (Waiting op.JumpIfFalse (aim.Break level) ∷ []) ++ body_code body (position_of inside) w i))
     → TurnsBack op.Goto start f g → LandsHere (aim.Break level) g t1 ws h ws_new
@@ -110,13 +110,13 @@ while_row {k = k} {start = start} s inside test body level is level_is place u t
 
 -- ---- do
 
-pub do_turn : {a b e : List ℕ} {w0 w2 : List Wait} {ns ns_new : List TryNote} {k l : ℕ} (inside : StmtSite) (body : Stmt) → w0 ≡ [] → EmitsAt inside.exprs a b (just op.LoopHead) → StmtWritten (position_of inside) (emitted b w0 ns) (emitted e w2 ns_new) k l body
+pub do_turn : {a b e : List ℕ} {w0 w2 : List Wait} {ns ns_new : List TryNote} {k l : ℕ} (inside : StmtContext) (body : Stmt) → w0 ≡ [] → EmitsAt inside.exprs a b (just op.LoopHead) → StmtWritten (position_of inside) (emitted b w0 ns) (emitted e w2 ns_new) k l body
     → Written (position_of inside) (emitted a [] ns) (emitted e w2 ns_new) k l (body_fits body (position_of inside)) (body_count body (position_of inside)) (λ w i. just op.LoopHead ++ body_code body (position_of inside) w i)
 do_turn {w0 = w0} {ns = ns} {k = k} inside body none head y =
     written_by (λ w f. (tt, f)) (λ w f. zero-add (body_count body (position_of inside) w)) (λ w stands f. ap (λ (i : ℕ). just op.LoopHead ++ body_code body (position_of inside) w i) (add-zero k))
     (written_from_none none (written_both (written_plain inside w0 ns k (written_of head)) y.row.code))
 
-pub do_row : {a f g h i : List ℕ} {t1 ws ws_new : List Wait} {ns ns_new : List TryNote} {k l start : ℕ} (s inside : StmtSite) (test : Expr) (body : Stmt) (level : ℕ) (semi : _) → position_of inside ≡ framed (Loop ∷ (position_of s).frames) (position_of s) → level ≡ length (position_of s).frames → length a ≡ start
+pub do_row : {a f g h i : List ℕ} {t1 ws ws_new : List Wait} {ns ns_new : List TryNote} {k l start : ℕ} (s inside : StmtContext) (test : Expr) (body : Stmt) (level : ℕ) (semi : _) → position_of inside ≡ framed (Loop ∷ (position_of s).frames) (position_of s) → level ≡ length (position_of s).frames → length a ≡ start
     → Written (position_of inside) (emitted a [] ns) (emitted f t1 ns_new) k l (body_fits body (position_of inside)) (body_count body (position_of inside)) (λ w i. here (aim.Continue level) (just op.LoopHead ++ body_code body (position_of inside) w i))
     → ExprEmits inside.exprs f g Plainly test → TurnsBack op.JumpIfTrue start g h → LandsHere (aim.Break level) h t1 ws i ws_new
     → RowWritten (position_of s) (emitted a ws ns) (emitted i ws_new ns_new) k l (λ w. model.Do (stmt_of (within (position_of s) w) body) (expr_of (within (position_of s) w) test) semi)
@@ -131,7 +131,7 @@ do_row {t1 = t1} {ns_new = ns_new} {k = k} {l} {start} s inside test body level 
 abbrev maybe_fits : Option Expr → Position → World → Type 0
 maybe_fits e q w = MaybeExprFits (maybe_in q w e)
 
-pub for_turn : {a b c e : List ℕ} {w0 w1 w2 : List Wait} {ns ns_new : List TryNote} {k l : ℕ} (inside : StmtSite) (test : Option Expr) (body : Stmt) (level : ℕ) → w0 ≡ [] → EmitsAt inside.exprs a b (just op.LoopHead) → Tested inside b w0 c w1 level test → StmtWritten (position_of inside) (emitted c w1 ns) (emitted e w2 ns_new) k l body
+pub for_turn : {a b c e : List ℕ} {w0 w1 w2 : List Wait} {ns ns_new : List TryNote} {k l : ℕ} (inside : StmtContext) (test : Option Expr) (body : Stmt) (level : ℕ) → w0 ≡ [] → EmitsAt inside.exprs a b (just op.LoopHead) → Tested inside b w0 c w1 level test → StmtWritten (position_of inside) (emitted c w1 ns) (emitted e w2 ns_new) k l body
     → Written (position_of inside) (emitted a [] ns) (emitted e w2 ns_new) k l (λ w. maybe_fits test (position_of inside) w × body_fits body (position_of inside) w) (body_count body (position_of inside))
     (λ w i. just op.LoopHead ++ test_code (scene (position_of inside)) level (maybe_in (position_of inside) w test) ++ body_code body (position_of inside) w i)
 for_turn {w0 = w0} {ns = ns} {k = k} inside test body level none head x y =
@@ -139,7 +139,7 @@ for_turn {w0 = w0} {ns = ns} {k = k} inside test body level none head x y =
     (λ w stands f. ap (λ (i : ℕ). just op.LoopHead ++ test_code (scene (position_of inside)) level (maybe_in (position_of inside) w test) ++ body_code body (position_of inside) w i) (add-zero k))
     (written_from_none none (written_both (written_both (written_plain inside w0 ns k (written_of head)) (x.made ns k)) y.row.code))
 
-pub for_turns : {a f g h i j : List ℕ} {t1 ws ws_new : List Wait} {ns ns_new : List TryNote} {k l start : ℕ} (s inside : StmtSite) (head : Option ℕ) (test update : Option Expr) (body : Stmt) (level : ℕ) → position_of inside ≡ framed (Loop ∷ (position_of s).frames) (position_of s) → level ≡ length (position_of s).frames → length a ≡ start
+pub for_turns : {a f g h i j : List ℕ} {t1 ws ws_new : List Wait} {ns ns_new : List TryNote} {k l start : ℕ} (s inside : StmtContext) (head : Option ℕ) (test update : Option Expr) (body : Stmt) (level : ℕ) → position_of inside ≡ framed (Loop ∷ (position_of s).frames) (position_of s) → level ≡ length (position_of s).frames → length a ≡ start
     → Written (position_of inside) (emitted a [] ns) (emitted f t1 ns_new) k l (λ w. maybe_fits test (position_of inside) w × body_fits body (position_of inside) w) (body_count body (position_of inside))
     (λ w i. here (aim.Continue level) (just op.LoopHead ++ test_code (scene (position_of inside)) level (maybe_in (position_of inside) w test) ++ body_code body (position_of inside) w i))
     → EmitsAt inside.exprs f g (freshen_head (position_of inside).scopes head) → ValueEmits inside.exprs g h update update_code → TurnsBack op.Goto start h i → LandsHere (aim.Break level) i t1 ws j ws_new
@@ -162,7 +162,7 @@ each_code each q w = store_each (scene q) (each_of (within q w) each)
 abbrev keys_body : ℕ → Option ℕ → Each → Stmt → Position → World → ℕ → Code
 keys_body level head each body q w i = keys_code level ++ freshen_head q.scopes head ++ just op.Dup ++ each_code each q w ++ just op.Pop ++ body_code body q w i
 
-pub keys_turn : {a b c d e f g : List ℕ} {w0 w1 w2 : List Wait} {ns ns_new : List TryNote} {k l : ℕ} (inside : StmtSite) (head : Option ℕ) (each : Each) (body : Stmt) (level : ℕ) → w0 ≡ []
+pub keys_turn : {a b c d e f g : List ℕ} {w0 w1 w2 : List Wait} {ns ns_new : List TryNote} {k l : ℕ} (inside : StmtContext) (head : Option ℕ) (each : Each) (body : Stmt) (level : ℕ) → w0 ≡ []
     → KeysTested a w0 b w1 level → EmitsAt inside.exprs b c (freshen_head (position_of inside).scopes head) → EmitsAt inside.exprs c d (just op.Dup) → EachEmits inside.exprs d e each → EmitsAt inside.exprs e f (just op.Pop) → StmtWritten (position_of inside) (emitted f w1 ns) (emitted g w2 ns_new) k l body
     → Written (position_of inside) (emitted a [] ns) (emitted g w2 ns_new) k l (λ w. each_fits each (position_of inside) w × body_fits body (position_of inside) w) (body_count body (position_of inside)) (keys_body level head each body (position_of inside))
 keys_turn {w0 = w0} {w1} {ns = ns} {k = k} inside head each body level none test fresh dup store pop y =
@@ -173,7 +173,7 @@ keys_turn {w0 = w0} {w1} {ns = ns} {k = k} inside head each body level none test
     (written_both (written_both (written_both (written_both (test.made (position_of inside) ns k) (written_plain inside w1 ns k (written_of fresh))) (written_plain inside w1 ns k (written_of dup))) (written_plain inside w1 ns k store.made)) (written_plain inside w1 ns k (written_of pop)))
     y.row.code))
 
-pub keys_row : {y z a f g h i j : List ℕ} {t1 ws ws_new : List Wait} {ns ns_new : List TryNote} {k l start : ℕ} (s inside : StmtSite) (head : Option ℕ) (each : Each) (over : Expr) (body : Stmt) (level : ℕ) → position_of inside ≡ framed (KeysLoop ∷ (position_of s).frames) (position_of s) → level ≡ length (position_of s).frames → length a ≡ start
+pub keys_row : {y z a f g h i j : List ℕ} {t1 ws ws_new : List Wait} {ns ns_new : List TryNote} {k l start : ℕ} (s inside : StmtContext) (head : Option ℕ) (each : Each) (over : Expr) (body : Stmt) (level : ℕ) → position_of inside ≡ framed (KeysLoop ∷ (position_of s).frames) (position_of s) → level ≡ length (position_of s).frames → length a ≡ start
     → ExprEmits s.exprs y z Plainly over → EmitsAt s.exprs z a (just op.Iter)
     → Written (position_of inside) (emitted a [] ns) (emitted f t1 ns_new) k l (λ w. each_fits each (position_of inside) w × body_fits body (position_of inside) w) (body_count body (position_of inside)) (λ w i. here (aim.Continue level) (keys_body level head each body (position_of inside) w i))
     → EmitsAt inside.exprs f g (just op.Pop) → TurnsBack op.Goto start g h → LandsHere (aim.Break level) h t1 ws i ws_new → EmitsAt s.exprs i j (just op.EndIter)

@@ -16,7 +16,7 @@ use Rattle.emit_exprs.specs.Sites.{EmitsAt}
 use Rattle.emit_exprs.specs.Whole.{just}
 use Rattle.emit_exprs.proofs.Writing.{written_of, written_both}
 use Rattle.emit_stmts.specs.declared.frames.Frame.{Frame}
-use Rattle.emit_stmts.specs.declared.stmt_site.StmtSite.{StmtSite}
+use Rattle.emit_stmts.specs.declared.stmt_site.StmtContext.{StmtContext}
 use Rattle.emit_stmts.specs.Frames.{exit, exits}
 use Rattle.emit_stmts.specs.Leaving.{has_code}
 use Rattle.emit_stmts.specs.Positions.{position_of, within, frame_in, frames_in}
@@ -71,7 +71,7 @@ valued : (value code : Code) → value ++ return_code [] code ≡ return_code va
 valued value [] = refl
 valued value (p ∷ ps) = sym (append_assoc value (just op.SetRval ++ (p ∷ ps)) (just op.RetRval)) ∙ ap (λ (c : Code). c ++ just op.RetRval) (sym (append_assoc value (just op.SetRval) (p ∷ ps)))
 
-pub return_row : {a b c : List ℕ} (s : StmtSite) (value : Option Expr) (ws : List Wait) (ns : List TryNote) (number : ℕ) (semi : Bool) → ValueEmits s.exprs a b value value_or_undefined → EmitsAt s.exprs b c (return_code [] (exits (position_of s).scopes (position_of s).frames))
+pub return_row : {a b c : List ℕ} (s : StmtContext) (value : Option Expr) (ws : List Wait) (ns : List TryNote) (number : ℕ) (semi : Bool) → ValueEmits s.exprs a b value value_or_undefined → EmitsAt s.exprs b c (return_code [] (exits (position_of s).scopes (position_of s).frames))
     → RowWritten (position_of s) (emitted a ws ns) (emitted c ws ns) number number (λ w. model.Return (maybe_expr_of (option_map (expr_of (within (position_of s) w)) value)) semi)
 return_row s value ws ns number semi x y = row_of (λ w. model.Return (maybe_expr_of (option_map (expr_of (within (position_of s) w)) value)) semi) (λ w f. (f, tt)) (λ w. refl)
     (λ w i stands. ap (λ (c : Scene). value_or_undefined c (maybe_expr_of (option_map (expr_of (within (position_of s) w)) value)) ++ return_code [] (exits (position_of s).scopes (position_of s).frames)) (scene_is (position_of s) w stands)

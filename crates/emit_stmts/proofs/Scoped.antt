@@ -16,7 +16,7 @@ use Rattle.emit_exprs.specs.Sites.{EmitsAt}
 use Rattle.emit_exprs.proofs.Writing.{written_of}
 use Rattle.emit_stmts.specs.declared.frames.Frame.{Frame}
 use Rattle.emit_stmts.specs.declared.frames.Frame.TheVariants as frame
-use Rattle.emit_stmts.specs.declared.stmt_site.StmtSite.{StmtSite}
+use Rattle.emit_stmts.specs.declared.stmt_site.StmtContext.{StmtContext}
 use Rattle.emit_stmts.specs.Declares.{declares}
 use Rattle.emit_stmts.specs.Frames.{Entered, scope_at, chain_link, kept_values, leave_scope}
 use Rattle.emit_stmts.specs.Frames as model
@@ -91,7 +91,7 @@ freshen_none the (d ∷ ds) n none = absurd (true≢false none)
 abbrev pub inner_position : Position → ℕ → Position
 inner_position p n = entered (chain_link (scope_at p.scopes n) ∷ p.chain) (Entered n ∷ p.frames) p
 
-pub inner_is : (s : StmtSite) (q : Position) (n : ℕ) (chain : List LinkView) (frames : List Frame) → q ≡ entered chain (frames_in s.exprs.texts.now frames) (position_of s) → chain ≡ chain_link (scope_at (position_of s).scopes n) ∷ s.exprs.chain.now → frames ≡ frame.Entered n ∷ s.frames.now → q ≡ inner_position (position_of s) n
+pub inner_is : (s : StmtContext) (q : Position) (n : ℕ) (chain : List LinkView) (frames : List Frame) → q ≡ entered chain (frames_in s.exprs.texts.now frames) (position_of s) → chain ≡ chain_link (scope_at (position_of s).scopes n) ∷ s.exprs.chain.now → frames ≡ frame.Entered n ∷ s.frames.now → q ≡ inner_position (position_of s) n
 inner_is s q n chain frames is chain_is frames_is = is ∙ ap₂ (λ (c : List LinkView) (fs : List Frame). entered c (frames_in s.exprs.texts.now fs) (position_of s)) chain_is frames_is
 
 written_entered : {a b : Emitted} {k l : ℕ} {f : World → Type 0} {m : World → ℕ} {x : World → ℕ → Code} (p : Position) (n : ℕ) → Written (inner_position p n) a b k l f m x → Written p a b k l f m x
@@ -106,11 +106,11 @@ written_entered p n u = record {
 pub nowhere : World
 nowhere = record { bodies = λ start. no_stmts; base = [] }
 
-written_enter : {a b : List ℕ} {k l : ℕ} (s : StmtSite) (ws : List Wait) (ns : List TryNote) (enter : Code) → EmitsAt s.exprs a b enter → (k + 1 < 2 ^ 64 → l ≡ k + 1) → Written (position_of s) (emitted a ws ns) (emitted b ws ns) k l (λ w. Unit {0}) (λ w. 1) (λ w i. enter)
+written_enter : {a b : List ℕ} {k l : ℕ} (s : StmtContext) (ws : List Wait) (ns : List TryNote) (enter : Code) → EmitsAt s.exprs a b enter → (k + 1 < 2 ^ 64 → l ≡ k + 1) → Written (position_of s) (emitted a ws ns) (emitted b ws ns) k l (λ w. Unit {0}) (λ w. 1) (λ w i. enter)
 written_enter s ws ns enter x next = record { written = enter; appends = x.anywhere ws ns; apart = apart_emits x; counted = λ w f small. next small; is = λ w stands f small. refl }
 
 -- what was written in a scope that was entered and left
-pub written_scope : {a b c d : List ℕ} {ws ws_new : List Wait} {ns ns_in ns_new : List TryNote} {k j l number : ℕ} (s inside : StmtSite) (f : Position → World → Type 0) (m : Position → World → ℕ) (x : Position → World → ℕ → Code) (enter : Code)
+pub written_scope : {a b c d : List ℕ} {ws ws_new : List Wait} {ns ns_in ns_new : List TryNote} {k j l number : ℕ} (s inside : StmtContext) (f : Position → World → Type 0) (m : Position → World → ℕ) (x : Position → World → ℕ → Code) (enter : Code)
     → position_of inside ≡ inner_position (position_of s) k → EmitsAt s.exprs a b enter → (k + 1 < 2 ^ 64 → j ≡ k + 1) → ns_in ≡ ns
     → Written (position_of inside) (emitted b ws ns_in) (emitted c ws_new ns_new) j l (f (position_of inside)) (m (position_of inside)) (x (position_of inside))
     → number ≡ k → EmitsAt s.exprs c d (leave_scope (position_of s).scopes number)
@@ -130,14 +130,14 @@ items_count items q w = count_stmts (stmts_in q w items)
 abbrev items_code : List Stmt → Position → World → ℕ → Code
 items_code items q w i = block_functions (scene_at (setting q w) q.frames) (stmts_in q w items) ++ stmts_code (setting q w) (stmts_in q w items) i q.frames
 
-items_written : {a b c : List ℕ} {ws ws_new : List Wait} {ns ns_new : List TryNote} {k l : ℕ} (s : StmtSite) (items : List Stmt) → BlockFunctionsEmit s.exprs a b items → StmtsWritten (position_of s) (emitted b ws ns) (emitted c ws_new ns_new) k l items
+items_written : {a b c : List ℕ} {ws ws_new : List Wait} {ns ns_new : List TryNote} {k l : ℕ} (s : StmtContext) (items : List Stmt) → BlockFunctionsEmit s.exprs a b items → StmtsWritten (position_of s) (emitted b ws ns) (emitted c ws_new ns_new) k l items
     → Written (position_of s) (emitted a ws ns) (emitted c ws_new ns_new) k l (items_fit items (position_of s)) (items_count items (position_of s)) (items_code items (position_of s))
 items_written {ws = ws} {ns = ns} {k = k} s items x y =
     written_by (λ w f. (tt, f)) (λ w f. zero-add _)
     (λ w stands f. ap₂ (λ (c : Scene) (i : ℕ). block_functions c (stmts_in (position_of s) w items) ++ stmts_code (setting (position_of s) w) (stmts_in (position_of s) w items) i (position_of s).frames) (scene_is (position_of s) w stands) (add-zero k))
     (written_both (written_plain s ws ns k x.made) y.code)
 
-pub block_scoped : {a b c d e : List ℕ} {ws ws_new : List Wait} {ns ns_in ns_new : List TryNote} {k j l number : ℕ} {flag : Bool} (s inside : StmtSite) (items : List Stmt)
+pub block_scoped : {a b c d e : List ℕ} {ws ws_new : List Wait} {ns ns_in ns_new : List TryNote} {k j l number : ℕ} {flag : Bool} (s inside : StmtContext) (items : List Stmt)
     → ((w : World) → flag ≡ declares (lexical_names (stmts_in (position_of s) w items))) → (flag && nat_lt 0 (position_of s).room) ≡ true
     → position_of inside ≡ inner_position (position_of s) k → ((w : World) → EmitsAt s.exprs a b (enter_scope (setting (position_of s) w) k)) → (k + 1 < 2 ^ 64 → j ≡ k + 1) → ns_in ≡ ns
     → BlockFunctionsEmit inside.exprs b c items → StmtsWritten (position_of inside) (emitted c ws ns_in) (emitted d ws_new ns_new) j l items
@@ -157,7 +157,7 @@ block_scoped {k = k} {flag = flag} s inside items flag_is enters is into next sa
     some : (w : World) → declares (names w) ≡ true
     some w = sym (flag_is w) ∙ declared_some flag (position_of s).room enters
 
-pub block_plain : {a b c : List ℕ} {ws ws_new : List Wait} {ns ns_new : List TryNote} {k l : ℕ} {flag : Bool} (s : StmtSite) (items : List Stmt)
+pub block_plain : {a b c : List ℕ} {ws ws_new : List Wait} {ns ns_new : List TryNote} {k l : ℕ} {flag : Bool} (s : StmtContext) (items : List Stmt)
     → ((w : World) → flag ≡ declares (lexical_names (stmts_in (position_of s) w items))) → (flag && nat_lt 0 (position_of s).room) ≡ false
     → BlockFunctionsEmit s.exprs a b items → StmtsWritten (position_of s) (emitted b ws ns) (emitted c ws_new ns_new) k l items
     → BlockWritten (position_of s) (emitted a ws ns) (emitted c ws_new ns_new) k l items

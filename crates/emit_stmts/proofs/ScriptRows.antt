@@ -23,7 +23,7 @@ use Rattle.bytecode_buf.specs.Emits.{emitted}
 use Rattle.emit_exprs.specs.Sites.{EmitsAt}
 use Rattle.emit_exprs.specs.Whole.{just}
 use Rattle.emit_exprs.proofs.Writing.{written_of}
-use Rattle.emit_stmts.specs.declared.stmt_site.StmtSite.{StmtSite}
+use Rattle.emit_stmts.specs.declared.stmt_site.StmtContext.{StmtContext}
 use Rattle.emit_stmts.specs.Frames.{global_link}
 use Rattle.emit_stmts.specs.Functions.{function_count, starts_of, extents_of, start_of, extent_of, script_code}
 use Rattle.emit_stmts.specs.PartCode.{stmts_in}
@@ -62,7 +62,7 @@ count_end {all} {count} left none x i small = sym (add-zero count) ∙ (ap (λ (
 
 -- ---- the code
 
-pub script_row : {a b c d : List ℕ} {ws ws_new : List Wait} {ns ns_new : List TryNote} {k l : ℕ} (s : StmtSite) (ss : List Stmt) (count : ℕ)
+pub script_row : {a b c d : List ℕ} {ws ws_new : List Wait} {ns ns_new : List TryNote} {k l : ℕ} (s : StmtContext) (ss : List Stmt) (count : ℕ)
     → ((i : Interpretation) → counted_in i ss < 2 ^ 32 → count ≡ counted_in i ss)
     → EmitsAt s.exprs a b (one (counted op.GlobalOrEvalDeclInstantiation count))
     → StmtsWritten (position_of s) (emitted b ws ns) (emitted c ws_new ns_new) k l ss

@@ -22,7 +22,7 @@ use Rattle.emit_exprs.specs.declared.uses.Use.TheVariants.{Plainly}
 use Rattle.emit_exprs.specs.Exprs.{Scene, expr_code}
 use Rattle.emit_exprs.specs.Sites.{EmitsAt}
 use Rattle.emit_exprs.specs.TreeCode.{ExprEmits}
-use Rattle.emit_stmts.specs.declared.stmt_site.StmtSite.{StmtSite}
+use Rattle.emit_stmts.specs.declared.stmt_site.StmtContext.{StmtContext}
 use Rattle.emit_stmts.specs.Clauses.{NoClause}
 use Rattle.emit_stmts.specs.Declares.{declares}
 use Rattle.emit_stmts.specs.Frames.{Switching, kept_values, leave_scope}
@@ -41,7 +41,7 @@ use Rattle.emit_stmts.proofs.Writing.{written_plain, written_both, written_here,
 
 -- ---- clauses, one after the other
 
--- so many scopes stand in these clauses
+-- n scopes stand in these clauses
 abbrev clauses_count : Position → List Clause → World → ℕ
 clauses_count p cs w = count_clauses (clauses_in p w cs)
 
@@ -57,7 +57,7 @@ pub record ClausesLeft (p : Position) (start : List ℕ) (notes : List TryNote) 
   pub is : (w : World) → Stands p w → fits_in p all w → number + clauses_count p all w < 2 ^ 64
       → clauses_code (setting p w) place (clauses_in p w left) next p.frames written ≡ clauses_code (setting p w) 0 (clauses_in p w all) number p.frames (before_code p all level w)
 
-pub clauses_begin : {a b c : List ℕ} {w0 w1 w2 : List Wait} {level : ℕ} {goal : Aim} (s : StmtSite) (notes : List TryNote) (number : ℕ) (all : List Clause) → w0 ≡ [] → CasesWritten s a w0 b w1 all → Waits op.Default goal b w1 c w2 → ((i : Interpretation) → goal ≡ default_aim level 0 (clauses_of (map (clause_of i) all))) → ClausesLeft (position_of s) a notes c w2 notes number number 0 level all all
+pub clauses_begin : {a b c : List ℕ} {w0 w1 w2 : List Wait} {level : ℕ} {goal : Aim} (s : StmtContext) (notes : List TryNote) (number : ℕ) (all : List Clause) → w0 ≡ [] → CasesWritten s a w0 b w1 all → Waits op.Default goal b w1 c w2 → ((i : Interpretation) → goal ≡ default_aim level 0 (clauses_of (map (clause_of i) all))) → ClausesLeft (position_of s) a notes c w2 notes number number 0 level all all
 clauses_begin {a} {b} {c} {w0} {w1} {w2} {level} {goal} s notes number all none x jump goal_is = record {
   written = y.written ++ (Waiting op.Default goal ∷ []);
   appends = subst (λ (l : List Wait). Appends (position_of s).texts (emitted a l notes) (emitted c w2 notes) (y.written ++ (Waiting op.Default goal ∷ []))) none (appends_both y.appends (jump (position_of s).texts notes));
@@ -108,7 +108,7 @@ clauses_end {p} {next = next} {place} left none other z = record {
   is = λ w stands f small. sym (ap (λ (cs : List Clause). clauses_code (setting p w) place (clauses_in p w cs) next p.frames z.written) none) ∙ z.is w stands f small;
 }
 
-pub clauses_row : {a b c : List ℕ} {w0 ws ws_new : List Wait} {ns ns_new : List TryNote} {k l level : ℕ} (s inside : StmtSite) (all : List Clause) → position_of inside ≡ framed (Switching ∷ (position_of s).frames) (position_of s) → level ≡ length (position_of s).frames
+pub clauses_row : {a b c : List ℕ} {w0 ws ws_new : List Wait} {ns ns_new : List TryNote} {k l level : ℕ} (s inside : StmtContext) (all : List Clause) → position_of inside ≡ framed (Switching ∷ (position_of s).frames) (position_of s) → level ≡ length (position_of s).frames
     → Written (position_of inside) (emitted a [] ns) (emitted b w0 ns_new) k l (fits_in (position_of inside) all) (clauses_count (position_of inside) all) (λ w i. clauses_code (setting (position_of inside) w) 0 (clauses_in (position_of inside) w all) i (position_of inside).frames (before_code (position_of inside) all level w))
     → LandsHere (aim.Break level) b w0 ws c ws_new → ClausesWritten (position_of s) (emitted a ws ns) (emitted c ws_new ns_new) k l all
 clauses_row {k = k} {level = level} s inside all is level_is u lands = record {
@@ -122,14 +122,14 @@ clauses_row {k = k} {level = level} s inside all is level_is u lands = record {
 abbrev switch_part : List Clause → Position → World → ℕ → Code
 switch_part all q w i = clause_functions (scene_at (setting q w) q.frames) (clauses_in q w all) ++ switch_code (setting q w) (clauses_in q w all) i q.frames
 
-switch_written : {a b c : List ℕ} {ws ws_new : List Wait} {ns ns_new : List TryNote} {k l : ℕ} (s : StmtSite) (all : List Clause) → ClauseFunctionsEmit s.exprs a b all → ClausesWritten (position_of s) (emitted b ws ns) (emitted c ws_new ns_new) k l all
+switch_written : {a b c : List ℕ} {ws ws_new : List Wait} {ns ns_new : List TryNote} {k l : ℕ} (s : StmtContext) (all : List Clause) → ClauseFunctionsEmit s.exprs a b all → ClausesWritten (position_of s) (emitted b ws ns) (emitted c ws_new ns_new) k l all
     → Written (position_of s) (emitted a ws ns) (emitted c ws_new ns_new) k l (fits_in (position_of s) all) (clauses_count (position_of s) all) (switch_part all (position_of s))
 switch_written {ws = ws} {ns = ns} {k = k} s all x y =
     written_by (λ w f. (tt, f)) (λ w f. zero-add _)
     (λ w stands f. ap₂ (λ (c : Scene) (i : ℕ). clause_functions c (clauses_in (position_of s) w all) ++ switch_code (setting (position_of s) w) (clauses_in (position_of s) w all) i (position_of s).frames) (scene_is (position_of s) w stands) (add-zero k))
     (written_both (written_plain s ws ns k x.made) y.code)
 
-pub switch_scoped : {z a b c d e : List ℕ} {ws ws_new : List Wait} {ns ns_in ns_new : List TryNote} {k j l number : ℕ} {flag : Bool} (s inside : StmtSite) (of : Expr) (all : List Clause) → ExprEmits s.exprs z a Plainly of
+pub switch_scoped : {z a b c d e : List ℕ} {ws ws_new : List Wait} {ns ns_in ns_new : List TryNote} {k j l number : ℕ} {flag : Bool} (s inside : StmtContext) (of : Expr) (all : List Clause) → ExprEmits s.exprs z a Plainly of
     → ((w : World) → flag ≡ declares (clauses_lexical_names (clauses_in (position_of s) w all))) → (flag && nat_lt 0 (position_of s).room) ≡ true
     → position_of inside ≡ inner_position (position_of s) k → ((w : World) → EmitsAt s.exprs a b (enter_scope (setting (position_of s) w) k)) → (k + 1 < 2 ^ 64 → j ≡ k + 1) → ns_in ≡ ns
     → ClauseFunctionsEmit inside.exprs b c all → ClausesWritten (position_of inside) (emitted c ws ns_in) (emitted d ws_new ns_new) j l all
@@ -152,7 +152,7 @@ switch_scoped {ws = ws} {ns = ns} {k = k} {flag = flag} s inside of all v flag_i
     some : (w : World) → declares (names w) ≡ true
     some w = sym (flag_is w) ∙ declared_some flag (position_of s).room enters
 
-pub switch_plain : {z a b c : List ℕ} {ws ws_new : List Wait} {ns ns_new : List TryNote} {k l : ℕ} {flag : Bool} (s : StmtSite) (of : Expr) (all : List Clause) → ExprEmits s.exprs z a Plainly of
+pub switch_plain : {z a b c : List ℕ} {ws ws_new : List Wait} {ns ns_new : List TryNote} {k l : ℕ} {flag : Bool} (s : StmtContext) (of : Expr) (all : List Clause) → ExprEmits s.exprs z a Plainly of
     → ((w : World) → flag ≡ declares (clauses_lexical_names (clauses_in (position_of s) w all))) → (flag && nat_lt 0 (position_of s).room) ≡ false
     → ClauseFunctionsEmit s.exprs a b all → ClausesWritten (position_of s) (emitted b ws ns) (emitted c ws_new ns_new) k l all
     → RowWritten (position_of s) (emitted z ws ns) (emitted c ws_new ns_new) k l (λ w. model.Switch (expr_of (within (position_of s) w) of) (clauses_in (position_of s) w all))

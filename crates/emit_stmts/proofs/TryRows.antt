@@ -23,7 +23,7 @@ use Rattle.emit_exprs.specs.Whole.{whole, just}
 use Rattle.emit_exprs.proofs.Writing.{written_of}
 use Rattle.emit_stmts.specs.declared.frames.Frame.{Frame}
 use Rattle.emit_stmts.specs.declared.frames.Frame.TheVariants as frame
-use Rattle.emit_stmts.specs.declared.stmt_site.StmtSite.{StmtSite}
+use Rattle.emit_stmts.specs.declared.stmt_site.StmtContext.{StmtContext}
 use Rattle.emit_stmts.specs.Frames.{kept_values, leave_scope, scope_at}
 use Rattle.emit_stmts.specs.PartCode.{BlockWritten, BlockFits, GuardedWritten, HandlerWritten, block_code, block_count, handler_code, stmts_in}
 use Rattle.emit_stmts.specs.Positions.{Position, position_of, frame_in, frames_in, World, setting, within}
@@ -125,7 +125,7 @@ guarded_row {p} {a} {b} {c} {d} {d_new} {ws} {w1} {w2} {n0} {n0_new} {n1} {n2} {
 
 -- ---- what is caught
 
-pub handler_none : {a b c : List ℕ} {ws ws_new : List Wait} {ns ns_new : List TryNote} {k l : ℕ} (s : StmtSite) (param : Option Ident) (items : List Stmt) → param ≡ None → EmitsAt s.exprs a b (whole (plain op.Exception ∷ plain op.Pop ∷ [])) → BlockWritten (position_of s) (emitted b ws ns) (emitted c ws_new ns_new) k l items
+pub handler_none : {a b c : List ℕ} {ws ws_new : List Wait} {ns ns_new : List TryNote} {k l : ℕ} (s : StmtContext) (param : Option Ident) (items : List Stmt) → param ≡ None → EmitsAt s.exprs a b (whole (plain op.Exception ∷ plain op.Pop ∷ [])) → BlockWritten (position_of s) (emitted b ws ns) (emitted c ws_new ns_new) k l items
     → HandlerWritten (position_of s) (emitted a ws ns) (emitted c ws_new ns_new) k l param items
 handler_none {a} {c = c} {ws} {ws_new} {ns} {ns_new} {k} {l} s param items is x y = subst (λ (o : Option Ident). HandlerWritten (position_of s) (emitted a ws ns) (emitted c ws_new ns_new) k l o items) (sym is) (record {
   code = written_by (λ w f. (tt, f.1)) (λ w f. refl)
@@ -136,14 +136,14 @@ handler_none {a} {c = c} {ws} {ws_new} {ns} {ns_new} {k} {l} s param items is x 
 abbrev caught_part : ℕ → List Stmt → Position → World → ℕ → Code
 caught_part atom items q w i = just op.Exception ++ initializing (scene_at (setting q w) q.frames) (get_or q.texts atom []) ++ just op.Pop ++ block_code (setting q w) (stmts_in q w items) i q.frames
 
-caught_written : {a b c : List ℕ} {ws ws_new : List Wait} {ns ns_new : List TryNote} {k l : ℕ} (s : StmtSite) (atom : ℕ) (items : List Stmt) → EmitsAt s.exprs a b (just op.Exception ++ initializing (scene_of s.exprs) (text_in s.exprs atom) ++ just op.Pop) → BlockWritten (position_of s) (emitted b ws ns) (emitted c ws_new ns_new) k l items
+caught_written : {a b c : List ℕ} {ws ws_new : List Wait} {ns ns_new : List TryNote} {k l : ℕ} (s : StmtContext) (atom : ℕ) (items : List Stmt) → EmitsAt s.exprs a b (just op.Exception ++ initializing (scene_of s.exprs) (text_in s.exprs atom) ++ just op.Pop) → BlockWritten (position_of s) (emitted b ws ns) (emitted c ws_new ns_new) k l items
     → Written (position_of s) (emitted a ws ns) (emitted c ws_new ns_new) k l (blocks_fit items (position_of s)) (λ w. block_count (stmts_in (position_of s) w items)) (caught_part atom items (position_of s))
 caught_written {ws = ws} {ns = ns} {k = k} s atom items x y =
     written_by (λ w f. (tt, f)) (λ w f. zero-add _)
     (λ w stands f. ap₂ (λ (c : Scene) (i : ℕ). just op.Exception ++ initializing c (text_in s.exprs atom) ++ just op.Pop ++ block_code (setting (position_of s) w) (stmts_in (position_of s) w items) i (position_of s).frames) (scene_is (position_of s) w stands) (add-zero k))
     (written_both (written_plain s ws ns k (written_of x)) y.code)
 
-pub catch_row : {a b c d e : List ℕ} {ws ws_new : List Wait} {ns ns_in ns_new : List TryNote} {k j l number : ℕ} (s inside : StmtSite) (name : Ident) (items : List Stmt)
+pub catch_row : {a b c d e : List ℕ} {ws ws_new : List Wait} {ns ns_in ns_new : List TryNote} {k j l number : ℕ} (s inside : StmtContext) (name : Ident) (items : List Stmt)
     → position_of inside ≡ inner_position (position_of s) k → EmitsAt s.exprs a b (push_env op.PushLexicalEnv (scope_at (position_of s).scopes k) k) → (k + 1 < 2 ^ 64 → j ≡ k + 1) → ns_in ≡ ns
     → EmitsAt inside.exprs b c (just op.Exception ++ initializing (scene_of inside.exprs) (text_in inside.exprs name.atom) ++ just op.Pop) → BlockWritten (position_of inside) (emitted c ws ns_in) (emitted d ws_new ns_new) j l items
     → number ≡ k → EmitsAt s.exprs d e (leave_scope (position_of s).scopes number)
@@ -155,7 +155,7 @@ catch_row {k = k} s inside name items is into next same x y number_is leave = re
 }
 
 -- where there is no room for its scope
-pub catch_out : {a b : List ℕ} {ws ws_new : List Wait} {ns ns_new : List TryNote} {k l : ℕ} (s : StmtSite) (name : Ident) (items : List Stmt) → (true && nat_lt 0 (position_of s).room) ≡ false → BlockWritten (position_of s) (emitted a ws ns) (emitted b ws_new ns_new) k l items → HandlerWritten (position_of s) (emitted a ws ns) (emitted b ws_new ns_new) k l (Some name) items
+pub catch_out : {a b : List ℕ} {ws ws_new : List Wait} {ns ns_new : List TryNote} {k l : ℕ} (s : StmtContext) (name : Ident) (items : List Stmt) → (true && nat_lt 0 (position_of s).room) ≡ false → BlockWritten (position_of s) (emitted a ws ns) (emitted b ws_new ns_new) k l items → HandlerWritten (position_of s) (emitted a ws ns) (emitted b ws_new ns_new) k l (Some name) items
 catch_out s name items none y = record {
   code = record { written = y.code.written; appends = y.code.appends; apart = y.code.apart; counted = λ w f small. absurd (no_room (position_of s).room none f.0); is = λ w stands f small. absurd (no_room (position_of s).room none f.0) };
 }
@@ -165,7 +165,7 @@ catch_out s name items none y = record {
 
 -- ---- the whole statement
 
-pub try_row : {a b c d e : List ℕ} {e0 e1 e2 ws ws_new : List Wait} {n0 n1 n2 : List TryNote} {k j l : ℕ} (s : StmtSite) (body : List Stmt) (param : Option Ident) (handler : List Stmt) → e0 ≡ [] → GuardedWritten (position_of s) (emitted a e0 n0) (emitted b e1 n1) k j body → EmitsAt s.exprs b c (just op.JumpTarget) → HandlerWritten (position_of s) (emitted c e1 n1) (emitted d e2 n2) j l param handler → LandsHere aim.After d e2 ws e ws_new
+pub try_row : {a b c d e : List ℕ} {e0 e1 e2 ws ws_new : List Wait} {n0 n1 n2 : List TryNote} {k j l : ℕ} (s : StmtContext) (body : List Stmt) (param : Option Ident) (handler : List Stmt) → e0 ≡ [] → GuardedWritten (position_of s) (emitted a e0 n0) (emitted b e1 n1) k j body → EmitsAt s.exprs b c (just op.JumpTarget) → HandlerWritten (position_of s) (emitted c e1 n1) (emitted d e2 n2) j l param handler → LandsHere aim.After d e2 ws e ws_new
     → RowWritten (position_of s) (emitted a ws n0) (emitted e ws_new n2) k l (λ w. model.Try (stmts_in (position_of s) w body) (maybe_named (within (position_of s) w) param) (stmts_in (position_of s) w handler))
 try_row {e1 = e1} {n1 = n1} {k = k} {j} s body param handler none x y z lands = record {
   code = written_by (λ w f. (((f.0, (f.1, f.2)), tt), (f.3, (f.4, f.5)))) (λ w f. ap (λ (n : ℕ). n + (scope_count (catch_names (maybe_named (within (position_of s) w) param)) + block_count (stmts_in (position_of s) w handler))) (add-zero (block_count (stmts_in (position_of s) w body))))

@@ -15,7 +15,7 @@ use Rattle.bytecode_buf.specs.Pieces.{Code, Waiting, here, turning}
 use Rattle.bytecode_buf.proofs.AppendLemmas.{appends_none, appends_both, appends_room}
 use Rattle.emit_exprs.specs.TreeCode as expr
 use Rattle.emit_stmts.specs.Apart.{is_clause, Apart}
-use Rattle.emit_stmts.specs.declared.stmt_site.StmtSite.{StmtSite}
+use Rattle.emit_stmts.specs.declared.stmt_site.StmtContext.{StmtContext}
 use Rattle.emit_stmts.specs.Frames.{Frame, chain_of, kept_values}
 use Rattle.emit_stmts.specs.Positions.{Position, position_of, framed, scene, World, setting, within, Stands}
 use Rattle.emit_stmts.specs.PartCode.{stmts_in}
@@ -28,7 +28,7 @@ pub written_none : (p : Position) (now : Emitted) (number : ℕ) → Written p n
 written_none p now number = record { written = []; appends = appends_none p.texts now; apart = tt; counted = λ w f small. sym (add-zero number); is = λ w stands f small. refl }
 
 -- code of expressions, in which no scope stands
-pub written_plain : {o n : List ℕ} {f : (ℕ → Stmts) → Type 0} {x : (ℕ → Stmts) → Code} (s : StmtSite) (ws : List Wait) (ns : List TryNote) (number : ℕ) → expr.Written s.exprs o n f x → Written (position_of s) (emitted o ws ns) (emitted n ws ns) number number (λ w. f w.bodies) (λ w. 0) (λ w k. x w.bodies)
+pub written_plain : {o n : List ℕ} {f : (ℕ → Stmts) → Type 0} {x : (ℕ → Stmts) → Code} (s : StmtContext) (ws : List Wait) (ns : List TryNote) (number : ℕ) → expr.Written s.exprs o n f x → Written (position_of s) (emitted o ws ns) (emitted n ws ns) number number (λ w. f w.bodies) (λ w. 0) (λ w k. x w.bodies)
 written_plain s ws ns number e = record { written = e.written; appends = e.emits.anywhere ws ns; apart = apart_emits e.emits; counted = λ w f small. sym (add-zero number); is = λ w stands f small. e.is w.bodies f }
 
 pub written_both : {p : Position} {a b c : Emitted} {k l j : ℕ} {f g : World → Type 0} {m n : World → ℕ} {x y : World → ℕ → Code} → Written p a b k l f m x → Written p b c l j g n y → Written p a c k j (λ w. f w × g w) (λ w. m w + n w) (λ w i. x w i ++ y w (i + m w))

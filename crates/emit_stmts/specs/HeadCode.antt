@@ -15,7 +15,7 @@ use Rattle.bytecode_buf.specs.Emits.{emitted}
 use Rattle.bytecode_buf.specs.Pieces.{Code, Waiting}
 use Rattle.emit_exprs.specs.Fitting.{MaybeExprFits}
 use Rattle.emit_exprs.specs.Whole.{whole, just}
-use Rattle.emit_stmts.specs.declared.stmt_site.StmtSite.{StmtSite}
+use Rattle.emit_stmts.specs.declared.stmt_site.StmtContext.{StmtContext}
 use Rattle.emit_stmts.specs.Frames.{scope_at, has_env, kept_values}
 use Rattle.emit_stmts.specs.Positions.{Position, World, position_of, scene, within}
 use Rattle.emit_stmts.specs.StmtCode.{Written}
@@ -28,7 +28,7 @@ freshen_head scopes None = []
 freshen_head scopes (Some number) = if has_env (scope_at scopes number) then just op.FreshenLexicalEnv else []
 
 -- the test of a loop
-pub record Tested (s : StmtSite) (bytes : List ℕ) (waits : List Wait) (bytes_new : List ℕ) (waits_new : List Wait) (level : ℕ) (test : Option Expr) : Type 0 where
+pub record Tested (s : StmtContext) (bytes : List ℕ) (waits : List Wait) (bytes_new : List ℕ) (waits_new : List Wait) (level : ℕ) (test : Option Expr) : Type 0 where
   pub made : (notes : List TryNote) (number : ℕ)
       → Written (position_of s) (emitted bytes waits notes) (emitted bytes_new waits_new notes) number number (λ w. MaybeExprFits (maybe_expr_of (option_map (expr_of (within (position_of s) w)) test))) (λ w. 0) (λ w i. test_code (scene (position_of s)) level (maybe_expr_of (option_map (expr_of (within (position_of s) w)) test)))
 
@@ -46,10 +46,10 @@ pub record Choosing (p : Position) (old new : Emitted) (fits : World → Type 0)
   pub is : (w : World) → fits w → written ≡ code w
 
 -- the test of the clause at a place, and those of all clauses
-pub record CaseWritten (s : StmtSite) (bytes : List ℕ) (waits : List Wait) (bytes_new : List ℕ) (waits_new : List Wait) (place : ℕ) (test : Option Expr) : Type 0 where
+pub record CaseWritten (s : StmtContext) (bytes : List ℕ) (waits : List Wait) (bytes_new : List ℕ) (waits_new : List Wait) (place : ℕ) (test : Option Expr) : Type 0 where
   pub made : (notes : List TryNote)
       → Choosing (position_of s) (emitted bytes waits notes) (emitted bytes_new waits_new notes) (λ w. MaybeExprFits (maybe_expr_of (option_map (expr_of (within (position_of s) w)) test))) (λ w. case_code (scene (position_of s)) place (maybe_expr_of (option_map (expr_of (within (position_of s) w)) test)))
 
-pub record CasesWritten (s : StmtSite) (bytes : List ℕ) (waits : List Wait) (bytes_new : List ℕ) (waits_new : List Wait) (clauses : List Clause) : Type 0 where
+pub record CasesWritten (s : StmtContext) (bytes : List ℕ) (waits : List Wait) (bytes_new : List ℕ) (waits_new : List Wait) (clauses : List Clause) : Type 0 where
   pub made : (notes : List TryNote)
       → Choosing (position_of s) (emitted bytes waits notes) (emitted bytes_new waits_new notes) (λ w. ClausesFit (position_of s).room (kept_values (position_of s).frames) (clauses_of (map (clause_of (within (position_of s) w)) clauses))) (λ w. cases_code (scene (position_of s)) 0 (clauses_of (map (clause_of (within (position_of s) w)) clauses)))

@@ -13,7 +13,7 @@ use Rattle.emit_exprs.specs.Exprs.{Scene}
 use Rattle.emit_stmts.specs.declared.draft.Draft.{Draft}
 use Rattle.emit_stmts.specs.declared.frames.Frame.{Frame}
 use Rattle.emit_stmts.specs.declared.frames.Frame.TheVariants as frame
-use Rattle.emit_stmts.specs.declared.stmt_site.StmtSite.{StmtSite}
+use Rattle.emit_stmts.specs.declared.stmt_site.StmtContext.{StmtContext}
 use Rattle.emit_stmts.specs.Frames.{Loop, KeysLoop, Switching, Labelled, Entered, chain_of}
 use Rattle.emit_stmts.specs.Frames as model
 use Rattle.emit_stmts.specs.Stmts.{Setting}
@@ -38,7 +38,7 @@ pub record Position : Type 0 where
   pub frames : List model.Frame
   pub room : ℕ
 
-abbrev pub position_of : StmtSite → Position
+abbrev pub position_of : StmtContext → Position
 position_of s = record {
   texts = s.exprs.texts.now;
   chain = s.exprs.chain.now;

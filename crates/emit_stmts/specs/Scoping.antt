@@ -6,11 +6,11 @@ use Rattle.bytecode_buf.specs.declared.opcode.Op.TheVariants as op
 use Rattle.bytecode_buf.specs.Command.{counted}
 use Rattle.bytecode_buf.specs.Pieces.{Code}
 use Rattle.emit_exprs.specs.Whole.{just, whole}
-use Rattle.emit_stmts.specs.declared.stmt_site.StmtSite.{StmtSite}
+use Rattle.emit_stmts.specs.declared.stmt_site.StmtContext.{StmtContext}
 use Rattle.emit_stmts.specs.Frames.{scope_at}
 use Rattle.emit_stmts.specs.Positions.{position_of}
 
-abbrev pub scope_in : StmtSite → ℕ → NamedScope
+abbrev pub scope_in : StmtContext → ℕ → NamedScope
 scope_in s number = scope_at (position_of s).scopes number
 
 abbrev pub hidden_in : Option ℕ → List ℕ

@@ -15,7 +15,7 @@ use Rattle.emit_stmts.specs.StmtFits.{StmtFits, StmtsFit}
 use Rattle.emit_stmts.specs.Stmts.{stmt_code, stmts_code}
 
 -- Some code was appended, whose first scope has this number; no jump in it waits for a clause of a switch around. Where
--- these counts fit, and the numbers of its scopes, the next number is after so many scopes, and the code is this one.
+-- these counts fit, and the numbers of its scopes, the next number is after n scopes, and the code is this one.
 pub record Written (p : Position) (old new : Emitted) (number next : ℕ) (fits : World → Type 0) (count : World → ℕ) (code : World → ℕ → Code) : Type 0 where
   pub written : Code
   pub appends : Appends p.texts old new written

@@ -1,5 +1,5 @@
 -- When the counts of a statement fit: those of its expressions; the scopes that are entered one in another, of which
--- there may be so many; and the values that stay on the stack around a try. All scripts fit. This project's own choice.
+-- there may be n; and the values that stay on the stack around a try. All scripts fit. This project's own choice.
 use Rattle.std.specs.Prelude.{ℕ, ◌+◌, ◌-◌, ◌<◌, ◌^◌, List, [], ◌∷◌}
 use Rattle.script_grammar.specs.Tree.{Binds, no_binds, more_binds, Init, NoInit, ValueInit, BindsInit, Each, TargetEach, BindEach, Clauses, no_clauses, more_clauses, Stmt, Stmts, no_stmts, more_stmts, MaybeStmt, no_stmt, some_stmt, Block, Empty, Debugger, Binding, Value, If, Do, While, For, ForIn, Continue, Break, Return, Throw, Switch, Label, Try, Declared}
 use Rattle.scope_analysis.specs.DeclaredNames.{Declaration, lexical_names, clauses_lexical_names, init_lexical_names, each_lexical_names}
@@ -29,7 +29,7 @@ abbrev pub EachFits : Each → Type 0
 EachFits (TargetEach e) = ExprFits e
 EachFits (BindEach kind name) = Unit {0}
 
--- of statements where so many scopes may be entered, and so many values stay on the stack
+-- of statements where n scopes may be entered, and m values stay on the stack
 abbrev mutual
   pub StmtFits : ℕ → ℕ → Stmt → Type 0
   StmtFits room kept (Block items) = HasRoom (lexical_names items) room × StmtsFit (room_in (lexical_names items) room) kept items

@@ -10,7 +10,7 @@ ghost use Rattle.emit_stmts.specs.Stmts as code;
 
 use crate::frames::Frame;
 use crate::scoping::hidden_slot;
-use crate::stmt_site::StmtSite;
+use crate::stmt_site::StmtContext;
 use bytecode_buf::{CodeBuf, Op};
 use emit_exprs::Site;
 use emit_exprs::steps::{counted, plain};
@@ -56,7 +56,7 @@ fn hide(out: &mut CodeBuf, slots: &[u32]) -> Result<(), AllocError>
 }
 
 /// The `let` and `const` names of the scope with this number are not initialized yet.
-pub fn hide_scope(out: &mut CodeBuf, site: &StmtSite, number: usize) -> Result<(), AllocError>
+pub fn hide_scope(out: &mut CodeBuf, site: &StmtContext, number: usize) -> Result<(), AllocError>
     ensures { OnOk result (EmitsAt site.now.exprs out.old out.new (code.hiding (code.hidden_slots (scope_in site.now number).bindings))) }
 {
     match site.scopes.get(number) {
@@ -71,10 +71,10 @@ pub fn hide_scope(out: &mut CodeBuf, site: &StmtSite, number: usize) -> Result<(
 
 /// The site inside a scope that was entered: under this chain, which has one more link, with these frames around.
 pub fn site_inside<'a, 'b: 'a>(
-    site: &StmtSite<'b>,
+    site: &StmtContext<'b>,
     chain: &'a Chain,
     frames: &'a [Frame],
-) -> StmtSite<'a>
+) -> StmtContext<'a>
     requires room { 0 < site.now.room }
     requires links { length chain.now ≡ length site.now.exprs.chain.now + 1 }
     requires slots { LinksFit chain.now }
@@ -86,7 +86,7 @@ pub fn site_inside<'a, 'b: 'a>(
         texts: site.exprs.texts,
         inner: site.exprs.inner,
     };
-    StmtSite {
+    StmtContext {
         exprs,
         frames,
         scopes: site.scopes,

@@ -2,7 +2,7 @@
 ghost use Rattle.std.specs.Prelude.{◌≡◌, ◌∷◌, IfOk};
 ghost use Rattle.emit_stmts.specs.Positions.{position_of, framed, frames_in};
 
-use crate::stmt_site::StmtSite;
+use crate::stmt_site::StmtContext;
 use emit_exprs::Site;
 use std::alloc::{AllocError, Global};
 
@@ -34,7 +34,7 @@ pub fn frames_inside(
 }
 
 /// The same site with these frames around.
-pub fn framed_site<'a, 'b: 'a>(site: &StmtSite<'b>, frames: &'a [Frame]) -> StmtSite<'a>
+pub fn framed_site<'a, 'b: 'a>(site: &StmtContext<'b>, frames: &'a [Frame]) -> StmtContext<'a>
     ensures { position_of result ≡ framed (frames_in site.now.exprs.texts.now frames.now) (position_of site.now) }
 {
     let exprs: Site<'a> = Site {
@@ -43,7 +43,7 @@ pub fn framed_site<'a, 'b: 'a>(site: &StmtSite<'b>, frames: &'a [Frame]) -> Stmt
         texts: site.exprs.texts,
         inner: site.exprs.inner,
     };
-    StmtSite {
+    StmtContext {
         exprs,
         frames,
         scopes: site.scopes,

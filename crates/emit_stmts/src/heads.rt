@@ -5,7 +5,7 @@ ghost use Rattle.emit_stmts.specs.HeadCode.{KeysTested, Tested, freshen_head};
 ghost use Rattle.emit_stmts.specs.Positions.{position_of};
 
 use crate::scoping::freshen;
-use crate::stmt_site::StmtSite;
+use crate::stmt_site::StmtContext;
 use bytecode_buf::{Aim, CodeBuf, Op, Wait, jump_to};
 use emit_exprs::steps::plain;
 use emit_exprs::{Use, emit_expr};
@@ -16,7 +16,7 @@ use std::alloc::AllocError;
 #[tactic(auto, using(emit_exprs::proofs::Singles::emits_nothing))]
 pub fn freshen_head(
     out: &mut CodeBuf,
-    site: &StmtSite,
+    site: &StmtContext,
     head: Option<usize>,
 ) -> Result<(), AllocError>
     ensures { OnOk result (EmitsAt site.now.exprs out.old out.new (freshen_head (position_of site.now).scopes head)) }
@@ -31,7 +31,7 @@ pub fn freshen_head(
 pub fn loop_test(
     out: &mut CodeBuf,
     waits: &mut Vec<Wait>,
-    site: &StmtSite,
+    site: &StmtContext,
     level: usize,
     test: &Option<Expr>,
 ) -> Result<(), AllocError>

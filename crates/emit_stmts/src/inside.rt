@@ -11,7 +11,7 @@ use crate::draft::Draft;
 use crate::entering::{hide_scope, site_inside};
 use crate::frames::{Frame, frames_inside};
 use crate::scoping::{chain_inside, push_env};
-use crate::stmt_site::StmtSite;
+use crate::stmt_site::StmtContext;
 use bytecode_buf::Op;
 use std::alloc::AllocError;
 use stencil_data::Chain;
@@ -25,14 +25,14 @@ pub struct InnerScope {
 }
 
 /// Whether a scope is entered: where something is declared in it, and there is room for one more.
-pub fn may_enter(site: &StmtSite, declares: bool) -> bool
+pub fn may_enter(site: &StmtContext, declares: bool) -> bool
     ensures { result ≡ (declares && nat_lt 0 site.now.room) }
 {
     declares && site.room > 0
 }
 
 /// Pushes the environment of the next scope, whose names are initialized already.
-pub fn push_next(out: &mut Draft, site: &StmtSite) -> Result<InnerScope, AllocError>
+pub fn push_next(out: &mut Draft, site: &StmtContext) -> Result<InnerScope, AllocError>
     ensures code { OnOk result (EmitsAt site.now.exprs out.old.code out.new.code (code.push_env Op.PushLexicalEnv (scope_in site.now out.old.next) out.old.next)) }
     ensures notes { OnOk result (out.new.notes.items ≡ out.old.notes.items) }
     ensures next { OnOk result (out.old.next + 1 < 2 ^ 64 → out.new.next ≡ out.old.next + 1) }
@@ -54,7 +54,7 @@ pub fn push_next(out: &mut Draft, site: &StmtSite) -> Result<InnerScope, AllocEr
 }
 
 /// Enters the next scope.
-pub fn enter_next(out: &mut Draft, site: &StmtSite) -> Result<InnerScope, AllocError>
+pub fn enter_next(out: &mut Draft, site: &StmtContext) -> Result<InnerScope, AllocError>
     ensures code { OnOk result ((w : World) → EmitsAt site.now.exprs out.old.code out.new.code (code.enter_scope (setting (position_of site.now) w) out.old.next)) }
     ensures notes { OnOk result (out.new.notes.items ≡ out.old.notes.items) }
     ensures next { OnOk result (out.old.next + 1 < 2 ^ 64 → out.new.next ≡ out.old.next + 1) }
@@ -69,7 +69,7 @@ pub fn enter_next(out: &mut Draft, site: &StmtSite) -> Result<InnerScope, AllocE
 }
 
 /// The site inside a scope that was entered.
-pub fn within_scope<'a, 'b: 'a>(site: &StmtSite<'b>, scope: &'a InnerScope) -> StmtSite<'a>
+pub fn within_scope<'a, 'b: 'a>(site: &StmtContext<'b>, scope: &'a InnerScope) -> StmtContext<'a>
     requires room { 0 < site.now.room }
     requires links { length scope.now.chain ≡ length site.now.exprs.chain.now + 1 }
     requires slots { LinksFit scope.now.chain }

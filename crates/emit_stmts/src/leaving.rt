@@ -8,7 +8,7 @@ ghost use Rattle.emit_stmts.specs.Positions.{position_of, frame_in, frames_in};
 
 use crate::frames::Frame;
 use crate::scoping::leave_scope;
-use crate::stmt_site::StmtSite;
+use crate::stmt_site::StmtContext;
 use bytecode_buf::{Aim, CodeBuf, Op, Wait, jump_to};
 use emit_exprs::steps::plain;
 use scope_analysis::{same_units, units_of};
@@ -25,7 +25,7 @@ pub enum Goal {
 
 // What leaves one frame.
 #[tactic(auto, using(emit_exprs::proofs::Singles::emits_nothing))]
-fn exit(out: &mut CodeBuf, site: &StmtSite, frame: Frame) -> Result<(), AllocError>
+fn exit(out: &mut CodeBuf, site: &StmtContext, frame: Frame) -> Result<(), AllocError>
     ensures { OnOk result (EmitsAt site.now.exprs out.old out.new (model.exit (position_of site.now).scopes (frame_in site.now.exprs.texts.now frame))) }
 {
     match frame {
@@ -38,7 +38,7 @@ fn exit(out: &mut CodeBuf, site: &StmtSite, frame: Frame) -> Result<(), AllocErr
 }
 
 /// What leaves all of these frames.
-pub fn exits(out: &mut CodeBuf, site: &StmtSite, frames: &[Frame]) -> Result<(), AllocError>
+pub fn exits(out: &mut CodeBuf, site: &StmtContext, frames: &[Frame]) -> Result<(), AllocError>
     ensures { OnOk result (Exits site.now out.old out.new frames.now) }
 {
     for frame in frames {
@@ -104,7 +104,7 @@ fn is_meant(texts: &[Text], goal: Goal, frame: Frame, outer: &[Frame]) -> bool
     }
 }
 
-// Where it lands at a frame with so many frames around.
+// Where it lands at a frame with n frames around.
 fn goal_aim(goal: Goal, level: usize) -> Aim
     ensures { (texts : List (List ℕ)) → result ≡ model.goal_aim (goal_in texts goal) level }
 {
@@ -118,7 +118,7 @@ fn goal_aim(goal: Goal, level: usize) -> Aim
 pub fn leaving(
     out: &mut CodeBuf,
     waits: &mut Vec<Wait>,
-    site: &StmtSite,
+    site: &StmtContext,
     goal: Goal,
     frames: &[Frame],
 ) -> Result<(), AllocError>

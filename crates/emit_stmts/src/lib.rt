@@ -39,4 +39,4 @@ pub mod valued;
 
 pub use draft::Draft;
 pub use frames::Frame;
-pub use stmt_site::StmtSite;
+pub use stmt_site::StmtContext;

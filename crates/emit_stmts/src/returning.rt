@@ -16,14 +16,14 @@ use crate::draft::Draft;
 use crate::frames::Frame;
 use crate::leaving::exits;
 use crate::scoping::has_env;
-use crate::stmt_site::StmtSite;
+use crate::stmt_site::StmtContext;
 use bytecode_buf::{CodeBuf, Op};
 use emit_exprs::steps::plain;
 use script_grammar::tree::Expr;
 use std::alloc::AllocError;
 
 // Whether an instruction leaves this frame.
-fn has_exit(site: &StmtSite, frame: Frame) -> bool
+fn has_exit(site: &StmtContext, frame: Frame) -> bool
     ensures { result ≡ has_code (around.exit (position_of site.now).scopes (frame_in site.now.exprs.texts.now frame)) }
 {
     match frame {
@@ -36,7 +36,7 @@ fn has_exit(site: &StmtSite, frame: Frame) -> bool
 }
 
 // Whether an instruction leaves one of these frames.
-fn have_exit(site: &StmtSite, frames: &[Frame]) -> bool
+fn have_exit(site: &StmtContext, frames: &[Frame]) -> bool
     ensures { result ≡ has_code (around.exits (position_of site.now).scopes (frames_in site.now.exprs.texts.now frames.now)) }
 {
     for frame in frames {
@@ -48,7 +48,7 @@ fn have_exit(site: &StmtSite, frames: &[Frame]) -> bool
 }
 
 // Returns the value on top of the stack, out of all frames.
-fn returning(out: &mut CodeBuf, site: &StmtSite) -> Result<(), AllocError>
+fn returning(out: &mut CodeBuf, site: &StmtContext) -> Result<(), AllocError>
     ensures { OnOk result (EmitsAt site.now.exprs out.old out.new (code.return_code [] (around.exits (position_of site.now).scopes (position_of site.now).frames))) }
 {
     if have_exit(site, site.frames) {
@@ -62,7 +62,11 @@ fn returning(out: &mut CodeBuf, site: &StmtSite) -> Result<(), AllocError>
 }
 
 /// A `return`.
-pub fn return_stmt(out: &mut Draft, site: &StmtSite, value: &Option<Expr>) -> Result<(), AllocError>
+pub fn return_stmt(
+    out: &mut Draft,
+    site: &StmtContext,
+    value: &Option<Expr>,
+) -> Result<(), AllocError>
     ensures { OnOk result ((waits : List ModelWait) (semi : Bool) → RowWritten (position_of site.now) (state out.old waits) (state out.new waits) out.old.next out.new.next (λ w. model.Return (maybe_expr_of (option_map (expr_of (within (position_of site.now) w)) value.now)) semi)) }
 {
     value_or_undefined(&mut out.code, &site.exprs, value)?;

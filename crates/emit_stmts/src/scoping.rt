@@ -10,14 +10,14 @@ ghost use Rattle.emit_stmts.specs.Scoping.{scope_in, hidden_in, enters};
 ghost use Rattle.emit_stmts.specs.Stmts as code;
 
 use crate::links::scope_link;
-use crate::stmt_site::StmtSite;
+use crate::stmt_site::StmtContext;
 use bytecode_buf::{CodeBuf, Op};
 use emit_exprs::steps::{counted, plain};
 use std::alloc::AllocError;
 use stencil_data::{BindKind, Binding, Chain, Slot};
 
 /// Whether the scope with this number has an environment.
-pub fn has_env(site: &StmtSite, number: usize) -> bool
+pub fn has_env(site: &StmtContext, number: usize) -> bool
     ensures { result ≡ frames.has_env (scope_in site.now number) }
 {
     match site.scopes.get(number) {
@@ -27,7 +27,12 @@ pub fn has_env(site: &StmtSite, number: usize) -> bool
 }
 
 /// Pushes the environment of a scope, where it has one.
-pub fn push_env(out: &mut CodeBuf, site: &StmtSite, op: Op, number: usize) -> Result<(), AllocError>
+pub fn push_env(
+    out: &mut CodeBuf,
+    site: &StmtContext,
+    op: Op,
+    number: usize,
+) -> Result<(), AllocError>
     requires counted { is_counted op ≡ true }
     requires wide { first_of op ≡ 4 }
     ensures { OnOk result (EmitsAt site.now.exprs out.old out.new (code.push_env op (scope_in site.now number) number)) }
@@ -40,7 +45,7 @@ pub fn push_env(out: &mut CodeBuf, site: &StmtSite, op: Op, number: usize) -> Re
 }
 
 /// Pops the environment of a scope, where it has one.
-pub fn leave_scope(out: &mut CodeBuf, site: &StmtSite, number: usize) -> Result<(), AllocError>
+pub fn leave_scope(out: &mut CodeBuf, site: &StmtContext, number: usize) -> Result<(), AllocError>
     ensures { OnOk result (EmitsAt site.now.exprs out.old out.new (frames.leave_scope (position_of site.now).scopes number)) }
 {
     if has_env(site, number) {
@@ -51,7 +56,7 @@ pub fn leave_scope(out: &mut CodeBuf, site: &StmtSite, number: usize) -> Result<
 }
 
 /// A new environment for a turn of a loop, where the scope of its head has one.
-pub fn freshen(out: &mut CodeBuf, site: &StmtSite, number: usize) -> Result<(), AllocError>
+pub fn freshen(out: &mut CodeBuf, site: &StmtContext, number: usize) -> Result<(), AllocError>
     ensures { OnOk result (EmitsAt site.now.exprs out.old out.new (enters (frames.has_env (scope_in site.now number)) Op.FreshenLexicalEnv)) }
 {
     if has_env(site, number) {
@@ -82,7 +87,7 @@ fn frame_slot(slot: Slot) -> Option<u32>
 }
 
 /// The chain inside the scope with this number.
-pub fn chain_inside(site: &StmtSite, number: usize) -> Result<Chain, AllocError>
+pub fn chain_inside(site: &StmtContext, number: usize) -> Result<Chain, AllocError>
     ensures chain { IfOk result (λ chain. chain ≡ frames.chain_link (scope_in site.now number) ∷ site.now.exprs.chain.now) }
     ensures slots { IfOk result (λ chain. LinksFit chain) }
 {

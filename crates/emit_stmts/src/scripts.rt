@@ -12,7 +12,7 @@ ghost use Rattle.emit_stmts.specs.Positions.{position_of, state};
 ghost use Rattle.emit_stmts.specs.ScriptCode.{ScriptWritten, Drafted, IsTop};
 
 use crate::draft::Draft;
-use crate::stmt_site::StmtSite;
+use crate::stmt_site::StmtContext;
 use crate::stmts::emit_stmts;
 use bytecode_buf::{CodeBuf, Op, Wait};
 use emit_exprs::Site;
@@ -49,7 +49,7 @@ fn function_count(items: &[Stmt]) -> u32
 pub fn emit_script(
     out: &mut Draft,
     waits: &mut Vec<Wait>,
-    site: &StmtSite,
+    site: &StmtContext,
     items: &[Stmt],
 ) -> Result<(), AllocError>
     ensures { OnOk result (ScriptWritten (position_of site.now) (state out.old waits.old.items) (state out.new waits.new.items) out.old.next out.new.next items.now) }
@@ -83,7 +83,7 @@ fn draft_script<'a>(
         texts,
         inner,
     };
-    let site = StmtSite {
+    let site = StmtContext {
         exprs,
         frames: &[],
         scopes,

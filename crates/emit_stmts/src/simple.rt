@@ -8,14 +8,14 @@ ghost use Rattle.emit_stmts.specs.StmtCode.{RowWritten};
 
 use crate::draft::Draft;
 use crate::leaving::{Goal, leaving};
-use crate::stmt_site::StmtSite;
+use crate::stmt_site::StmtContext;
 use bytecode_buf::{Op, Wait};
 use emit_exprs::steps::plain;
 use script_grammar::tree::Ident;
 use std::alloc::AllocError;
 
 /// A `debugger` statement.
-pub fn debugger_stmt(out: &mut Draft, site: &StmtSite) -> Result<(), AllocError>
+pub fn debugger_stmt(out: &mut Draft, site: &StmtContext) -> Result<(), AllocError>
     ensures { OnOk result ((waits : List ModelWait) (semi : Bool) → RowWritten (position_of site.now) (state out.old waits) (state out.new waits) out.old.next out.new.next (λ w. model.Debugger semi)) }
 {
     plain(&mut out.code, Op::Debugger)?;
@@ -26,7 +26,7 @@ pub fn debugger_stmt(out: &mut Draft, site: &StmtSite) -> Result<(), AllocError>
 pub fn break_stmt(
     out: &mut Draft,
     waits: &mut Vec<Wait>,
-    site: &StmtSite,
+    site: &StmtContext,
     label: Option<Ident>,
 ) -> Result<(), AllocError>
     ensures { OnOk result ((at : ℕ) (semi : Bool) → RowWritten (position_of site.now) (state out.old waits.old.items) (state out.new waits.new.items) out.old.next out.new.next (λ w. model.Break at (maybe_named (within (position_of site.now) w) label) semi)) }
@@ -39,7 +39,7 @@ pub fn break_stmt(
 pub fn continue_stmt(
     out: &mut Draft,
     waits: &mut Vec<Wait>,
-    site: &StmtSite,
+    site: &StmtContext,
     label: Option<Ident>,
 ) -> Result<(), AllocError>
     ensures { OnOk result ((at : ℕ) (semi : Bool) → RowWritten (position_of site.now) (state out.old waits.old.items) (state out.new waits.new.items) out.old.next out.new.next (λ w. model.Continue at (maybe_named (within (position_of site.now) w) label) semi)) }

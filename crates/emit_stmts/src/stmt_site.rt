@@ -11,7 +11,7 @@ use stencil_data::ScopeData;
 /// What is the same for all of a statement: where its expressions stand, the frames around it from the innermost one on,
 /// the scopes of its function, whether that is a script, and how many scopes may be entered one in another in it.
 #[derive(Clone, Copy)]
-pub struct StmtSite<'a> {
+pub struct StmtContext<'a> {
     pub exprs: Site<'a>,
     pub frames: &'a [Frame],
     pub scopes: &'a [ScopeData],

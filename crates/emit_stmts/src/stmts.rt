@@ -18,7 +18,7 @@ use crate::inside::{enter_next, may_enter, push_next, within_scope};
 use crate::returning::return_stmt;
 use crate::scoping::leave_scope;
 use crate::simple::{break_stmt, continue_stmt, debugger_stmt};
-use crate::stmt_site::StmtSite;
+use crate::stmt_site::StmtContext;
 use crate::storing::store_each;
 use crate::switching::{ClauseJumps, cases, clause_target, default_aim};
 use crate::trying::{caught, close_try, dropped, open_try};
@@ -34,7 +34,7 @@ use std::alloc::AllocError;
 pub fn emit_stmt(
     out: &mut Draft,
     waits: &mut Vec<Wait>,
-    site: &StmtSite,
+    site: &StmtContext,
     tree: &Stmt,
 ) -> Result<(), AllocError>
     ensures { OnOk result (StmtWritten (position_of site.now) (state out.old waits.old.items) (state out.new waits.new.items) out.old.next out.new.next tree.now) }
@@ -108,7 +108,7 @@ pub fn emit_stmt(
 pub fn emit_stmts(
     out: &mut Draft,
     waits: &mut Vec<Wait>,
-    site: &StmtSite,
+    site: &StmtContext,
     items: &[Stmt],
 ) -> Result<(), AllocError>
     ensures { OnOk result (StmtsWritten (position_of site.now) (state out.old waits.old.items) (state out.new waits.new.items) out.old.next out.new.next items.now) }
@@ -124,7 +124,7 @@ pub fn emit_stmts(
 fn emit_block(
     out: &mut Draft,
     waits: &mut Vec<Wait>,
-    site: &StmtSite,
+    site: &StmtContext,
     items: &[Stmt],
 ) -> Result<(), AllocError>
     ensures { OnOk result (BlockWritten (position_of site.now) (state out.old waits.old.items) (state out.new waits.new.items) out.old.next out.new.next items.now) }
@@ -148,7 +148,7 @@ fn emit_block(
 fn emit_then(
     out: &mut Draft,
     waits: &mut Vec<Wait>,
-    site: &StmtSite,
+    site: &StmtContext,
     body: &Stmt,
     test: &Expr,
 ) -> Result<(), AllocError>
@@ -167,7 +167,7 @@ fn emit_then(
 fn emit_first(
     out: &mut Draft,
     waits: &mut Vec<Wait>,
-    site: &StmtSite,
+    site: &StmtContext,
     body: &Stmt,
     test: &Expr,
 ) -> Result<(), AllocError>
@@ -186,7 +186,7 @@ fn emit_first(
 fn emit_do(
     out: &mut Draft,
     waits: &mut Vec<Wait>,
-    site: &StmtSite,
+    site: &StmtContext,
     body: &Stmt,
     test: &Expr,
 ) -> Result<(), AllocError>
@@ -211,7 +211,7 @@ fn emit_do(
 fn emit_while(
     out: &mut Draft,
     waits: &mut Vec<Wait>,
-    site: &StmtSite,
+    site: &StmtContext,
     body: &Stmt,
     test: &Expr,
 ) -> Result<(), AllocError>
@@ -243,7 +243,7 @@ fn emit_while(
 fn emit_turns(
     out: &mut Draft,
     waits: &mut Vec<Wait>,
-    site: &StmtSite,
+    site: &StmtContext,
     body: &Stmt,
     head: Option<usize>,
     test: &Option<Expr>,
@@ -272,7 +272,7 @@ fn emit_turns(
 fn emit_for(
     out: &mut Draft,
     waits: &mut Vec<Wait>,
-    site: &StmtSite,
+    site: &StmtContext,
     body: &Stmt,
     first: &Init,
     test: &Option<Expr>,
@@ -301,7 +301,7 @@ fn emit_for(
 fn emit_keys(
     out: &mut Draft,
     waits: &mut Vec<Wait>,
-    site: &StmtSite,
+    site: &StmtContext,
     body: &Stmt,
     head: Option<usize>,
     each: &Each,
@@ -335,7 +335,7 @@ fn emit_keys(
 fn emit_for_in(
     out: &mut Draft,
     waits: &mut Vec<Wait>,
-    site: &StmtSite,
+    site: &StmtContext,
     body: &Stmt,
     each: &Each,
     over: &Expr,
@@ -358,7 +358,7 @@ fn emit_for_in(
 fn emit_clauses(
     out: &mut Draft,
     waits: &mut Vec<Wait>,
-    site: &StmtSite,
+    site: &StmtContext,
     clauses: &[Clause],
 ) -> Result<(), AllocError>
     ensures { OnOk result (ClausesWritten (position_of site.now) (state out.old waits.old.items) (state out.new waits.new.items) out.old.next out.new.next clauses.now) }
@@ -399,7 +399,7 @@ fn emit_clauses(
 fn emit_switch(
     out: &mut Draft,
     waits: &mut Vec<Wait>,
-    site: &StmtSite,
+    site: &StmtContext,
     clauses: &[Clause],
     of: &Expr,
 ) -> Result<(), AllocError>
@@ -424,7 +424,7 @@ fn emit_switch(
 fn emit_label(
     out: &mut Draft,
     waits: &mut Vec<Wait>,
-    site: &StmtSite,
+    site: &StmtContext,
     body: &Stmt,
     name: Ident,
 ) -> Result<(), AllocError>
@@ -443,7 +443,7 @@ fn emit_label(
 fn emit_guarded(
     out: &mut Draft,
     waits: &mut Vec<Wait>,
-    site: &StmtSite,
+    site: &StmtContext,
     items: &[Stmt],
 ) -> Result<(), AllocError>
     ensures { OnOk result (GuardedWritten (position_of site.now) (state out.old waits.old.items) (state out.new waits.new.items) out.old.next out.new.next items.now) }
@@ -460,7 +460,7 @@ fn emit_guarded(
 fn emit_handler(
     out: &mut Draft,
     waits: &mut Vec<Wait>,
-    site: &StmtSite,
+    site: &StmtContext,
     items: &[Stmt],
     param: Option<Ident>,
 ) -> Result<(), AllocError>
@@ -481,7 +481,7 @@ fn emit_handler(
 fn emit_catch(
     out: &mut Draft,
     waits: &mut Vec<Wait>,
-    site: &StmtSite,
+    site: &StmtContext,
     items: &[Stmt],
     name: Ident,
 ) -> Result<(), AllocError>

@@ -9,7 +9,7 @@ ghost use Rattle.emit_stmts.specs.Clauses.{ClauseLanded, InOrder, TestLanded, wa
 ghost use Rattle.emit_stmts.specs.HeadCode.{CaseWritten, CasesWritten};
 ghost use Rattle.emit_stmts.specs.Stmts as code;
 
-use crate::stmt_site::StmtSite;
+use crate::stmt_site::StmtContext;
 use bytecode_buf::{Aim, CodeBuf, Op, Wait, jump_to, land};
 use emit_exprs::steps::plain;
 use emit_exprs::{Use, emit_expr};
@@ -29,7 +29,7 @@ pub struct ClauseJumps {
 fn case(
     out: &mut CodeBuf,
     waits: &mut Vec<Wait>,
-    site: &StmtSite,
+    site: &StmtContext,
     place: usize,
     test: &Option<Expr>,
 ) -> Result<(), AllocError>
@@ -52,7 +52,7 @@ fn case(
 pub fn cases(
     out: &mut CodeBuf,
     waits: &mut Vec<Wait>,
-    site: &StmtSite,
+    site: &StmtContext,
     clauses: &[Clause],
 ) -> Result<(), AllocError>
     ensures code { OnOk result (CasesWritten site.now out.old waits.old.items out.new waits.new.items clauses.now) }

@@ -11,7 +11,7 @@ ghost use Rattle.emit_stmts.specs.Stmts as code;
 
 use crate::bindings::bind_names;
 use crate::draft::Draft;
-use crate::stmt_site::StmtSite;
+use crate::stmt_site::StmtContext;
 use bytecode_buf::{CodeBuf, Op};
 use emit_exprs::steps::plain;
 use emit_exprs::{Use, emit_expr};
@@ -31,7 +31,7 @@ fn result(out: &mut CodeBuf, is_script: bool) -> Result<(), AllocError>
 }
 
 /// An expression statement.
-pub fn value_stmt(out: &mut Draft, site: &StmtSite, value: &Expr) -> Result<(), AllocError>
+pub fn value_stmt(out: &mut Draft, site: &StmtContext, value: &Expr) -> Result<(), AllocError>
     ensures { OnOk result ((waits : List ModelWait) (semi : Bool) → RowWritten (position_of site.now) (state out.old waits) (state out.new waits) out.old.next out.new.next (λ w. model.Value (expr_of (within (position_of site.now) w) value.now) semi)) }
 {
     emit_expr(&mut out.code, &site.exprs, value, Use::Plainly)?;
@@ -40,7 +40,7 @@ pub fn value_stmt(out: &mut Draft, site: &StmtSite, value: &Expr) -> Result<(), 
 }
 
 /// A `throw`.
-pub fn throw_stmt(out: &mut Draft, site: &StmtSite, value: &Expr) -> Result<(), AllocError>
+pub fn throw_stmt(out: &mut Draft, site: &StmtContext, value: &Expr) -> Result<(), AllocError>
     ensures { OnOk result ((waits : List ModelWait) (semi : Bool) → RowWritten (position_of site.now) (state out.old waits) (state out.new waits) out.old.next out.new.next (λ w. model.Throw (expr_of (within (position_of site.now) w) value.now) semi)) }
 {
     emit_expr(&mut out.code, &site.exprs, value, Use::Plainly)?;
@@ -51,7 +51,7 @@ pub fn throw_stmt(out: &mut Draft, site: &StmtSite, value: &Expr) -> Result<(), 
 /// A `var`, `let` or `const` statement.
 pub fn binding_stmt(
     out: &mut Draft,
-    site: &StmtSite,
+    site: &StmtContext,
     decl: Decl,
     binds: &[Bind],
 ) -> Result<(), AllocError>

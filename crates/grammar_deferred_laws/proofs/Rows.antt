@@ -46,7 +46,7 @@ outcome (Read a rs ts) = Accepted
 outcome (Bad rs ts) = Unexpected (head_of ts).start
 outcome (Deep rs ts) = TooDeep (head_of ts).start
 
--- so many times this mark, from this offset on
+-- n times this mark, from this offset on
 abbrev pub many : ℕ → ℕ → ℕ → List Lexeme → List Lexeme
 many i zero start ts = ts
 many i (suc n) start ts = mark_at i start (suc start) false ∷ many i n (suc start) ts

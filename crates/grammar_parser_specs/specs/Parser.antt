@@ -104,7 +104,7 @@ abbrev pub turned : {A B : Type 0} → Parser (Many A B) → Turn A B → Parser
 turned f (Again a) = bind f (λ m. ret (begun a m))
 turned f (Stop b) = ret (stopped b)
 
--- at most so many turns
+-- at most n turns
 unfoldable pub turns : {A B : Type 0} → Parser (Turn A B) → ℕ → Parser (Many A B)
 turns turn zero = bad
 turns turn (suc n) = bind turn (turned (turns turn n))

@@ -141,7 +141,7 @@ module _ {chosen : ℕ → Bool} where
       (ap (λ x. x ++ ss) g ∙ append_assoc (left_places b) qs ss)
       (both h k)
 
-  -- the same places in front or behind
+  -- the same places in front or after
 
   pub before : {is : List Inner} {ps qs : List Piece} (rs : List Piece) → Hollows chosen is ps qs → Hollows chosen is (rs ++ ps) (rs ++ qs)
   before [] h = h

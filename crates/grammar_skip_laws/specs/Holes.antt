@@ -8,7 +8,7 @@ use Rattle.script_grammar.specs.Tree.{Function, function, Body, BracedBody, Shor
 use Rattle.scope_analysis.specs.Functions.{Inner}
 use Rattle.grammar_alone_laws.specs.Alone.{start_of, end_of, at_front}
 
--- The body of a function that starts and ends at these offsets: the offset behind its opening brace, and that of its closing one.
+-- The body of a function that starts and ends at these offsets: the offset after its opening brace, and that of its closing one.
 pub record Hole : Type 0 where
   pub start : ℕ
   pub end : ℕ

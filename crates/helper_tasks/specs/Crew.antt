@@ -75,7 +75,7 @@ module _ {S O N : Type 0} where
   all_took_in (h ∷ hs) [] = h ∷ hs
   all_took_in (h ∷ hs) (l ∷ ls) = took_in h l ∷ all_took_in hs ls
 
-  -- The deques of all workers are at these places, each with so many parts, and the worker's looks are at them
+  -- The deques of all workers are at these places, each with n parts, and the worker's looks are at them
   pub record Looking (at : List Place) (parts : ℕ) (h : Helper S O N) : Type 0 where
     pub own_parts : h.handles.own.dealt.parts ≡ parts
     pub looks_at : places h.handles.looks.items ≡ at
@@ -93,7 +93,7 @@ module _ {O : Type 0} where
   placed slots [] = slots
   placed slots (m ∷ ms) = placed (slice_set slots m.task (Some m.out)) ms
 
-  -- so many empty slots
+  -- n empty slots
   abbrev pub empty_slots : ℕ → List (Option O)
   empty_slots n = replicate n None
 

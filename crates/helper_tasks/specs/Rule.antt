@@ -3,7 +3,7 @@ use Rattle.std.specs.Prelude.{◌≡◌, ℕ, ◌+◌, ◌<◌, List, []}
 use Rattle.helper_tasks.specs.declared.rule.Dealt.{Dealt}
 use Rattle.helper_tasks.specs.Count.{times, total, Each}
 
--- what a handle has: so many parts of the right to know the whole, what it pushed, and what it took
+-- what a handle has: n parts of the right to know the whole, what it pushed, and what it took
 abbrev pub dealt : ℕ → List ℕ → List ℕ → Dealt
 dealt parts pushed taken = record { parts = parts; pushed = pushed; taken = taken }
 

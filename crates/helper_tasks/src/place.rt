@@ -6,7 +6,7 @@ ghost use Rattle.helper_tasks.specs.Crew.{placed, empty_slots, all_made};
 use crate::helper::{Desk, Made};
 use std::alloc::{AllocError, Global};
 
-// So many empty slots.
+// n empty slots.
 fn slots<O: Drop>(alloc: Global, count: usize) -> Result<Vec<Option<O>>, AllocError>
     ensures { IfOk result (λ v. v.items ≡ empty_slots count) }
 {

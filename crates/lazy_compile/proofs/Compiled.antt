@@ -18,7 +18,7 @@ use Rattle.scope_analysis.specs.Kept.{under}
 use Rattle.scope_analysis.specs.Scopes.{function_scopes}
 use Rattle.emit_stmts.specs.Functions.{start_of, chain_at, function_script}
 use Rattle.emit_stmts.specs.Functions as emitted
-use Rattle.scope_inner.specs.declared.sites.InnerSite.{InnerSite}
+use Rattle.scope_inner.specs.declared.sites.FunctionSite.{FunctionSite}
 use Rattle.scope_inner.specs.Sites.{Sited, sited, sited_in}
 use Rattle.scope_closed_laws.specs.Handed as handed
 use Rattle.scope_closed_laws.proofs.Handing.{sound_function}
@@ -98,7 +98,7 @@ module _ (file : List ℕ) (lazy : RecordView) (texts : List (List ℕ)) (chain 
 
 -- ---- what is handed down
 
-chains_found : (i : Interpretation) (ss : List InnerSite) → map (λ (x : Sited). x.chain) (map (sited i) ss) ≡ map (λ (s : InnerSite). s.chain) ss
+chains_found : (i : Interpretation) (ss : List FunctionSite) → map (λ (x : Sited). x.chain) (map (sited i) ss) ≡ map (λ (s : FunctionSite). s.chain) ss
 chains_found i [] = refl
 chains_found i (s ∷ ss) = ap (λ (cs : List (List LinkView)). s.chain ∷ cs) (chains_found i ss)
 
@@ -106,8 +106,8 @@ chains_sited : (scopes : List NamedScope) (outer : List LinkView) (is : List Inn
 chains_sited scopes outer [] = refl
 chains_sited scopes outer (i ∷ is) = ap (λ (cs : List (List LinkView)). chain_at scopes outer i ∷ cs) (chains_sited scopes outer is)
 
-pub compiled_alone : (bodies : ℕ → Stmts) (m : Site) (alone : FunctionAlone) (items : Stmts) (made : Delazified) (ts : List (List ℕ)) (inside : List InnerSite) → IsReadAlone alone items m
-    → IsCompiledFunction ts bodies made.stencil inside (nameless_at m) → ts ≡ alone.texts.items → made.texts.items ≡ alone.texts.items → made.chains.items ≡ map (λ (s : InnerSite). s.chain) inside → IsCompiledAlone made m
+pub compiled_alone : (bodies : ℕ → Stmts) (m : Site) (alone : FunctionAlone) (items : Stmts) (made : Delazified) (ts : List (List ℕ)) (inside : List FunctionSite) → IsReadAlone alone items m
+    → IsCompiledFunction ts bodies made.stencil inside (nameless_at m) → ts ≡ alone.texts.items → made.texts.items ≡ alone.texts.items → made.chains.items ≡ map (λ (s : FunctionSite). s.chain) inside → IsCompiledAlone made m
 compiled_alone bodies m alone items made ts inside read h seen texts_are handed_down =
     let scopes = function_scopes m.inner.kind m.inner.name (nameless m.inner.func) in
     let inner = inner_function m.inner.kind m.inner.name (nameless m.inner.func) in

@@ -3,6 +3,7 @@
 use Rattle.std.specs.Prelude.{◌≡◌, ℕ, ◌≤◌, ◌<◌, ◌^◌, List, length, None}
 use Rattle.std.specs.Str.{IsUtf8}
 use Rattle.script_grammar.specs.Tree.{Stmts}
+use Rattle.stencil_data.specs.declared.functions.Extent.{Extent}
 use Rattle.stencil_data.specs.LinkView.{LinkView}
 use Rattle.stencil_data.specs.StandsFor.{FunctionStandsFor, RecordStandsFor}
 use Rattle.stencil_data.specs.Views.{RecordView}
@@ -14,6 +15,7 @@ use Rattle.parse_track.specs.Notes.{closed_names, early_error}
 use Rattle.compile_specs.specs.Eager.{Site, compiled_at}
 use Rattle.compile_specs.specs.Shown.{record_of}
 use Rattle.compile_function.specs.Sites.{IsFunctionAt}
+use Rattle.parse_function.specs.Extents.{extents_in}
 use Rattle.lazy_compile.specs.declared.Delazified.{Delazified}
 
 -- The record is what is kept of the function: its extent, its kind, its name, and its names that functions in it close over.
@@ -33,6 +35,10 @@ pub record CanBeDelazified (file : List ℕ) (lazy : RecordView) (texts : List (
   pub chain_is : chain ≡ m.chain
   pub recorded : IsRecordOf texts lazy items m
   pub few_texts : length texts < 2 ^ 31
+
+-- Some function of a script can be, under some chain, and these are the extents of the functions directly in it.
+abbrev pub CanBeRead : (file : List ℕ) → (lazy : RecordView) → (within : List Extent) → (texts : List (List ℕ)) → Type 0
+CanBeRead file lazy within texts = (chain : List LinkView) × (items : Stmts) × (m : Site) × CanBeDelazified file lazy texts chain items m × (within ≡ extents_in m.inner)
 
 -- The stencil stands for what the whole script has of the function, by texts without equals, and these are the chains that the
 -- function hands down there, in the order of the functions directly in it.

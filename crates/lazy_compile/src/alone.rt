@@ -1,12 +1,8 @@
 //! A function that is read on its own, with what its record says of it, by texts of its own.
 
-ghost use Rattle.std.specs.Prelude.{◌≡◌, IfOk, List};
-ghost use Rattle.script_grammar.specs.Tree.{Stmts};
-ghost use Rattle.stencil_data.specs.LinkView.{LinkView};
-ghost use Rattle.compile_specs.specs.Eager.{Site};
-ghost use Rattle.parse_function.specs.Extents.{extents_in};
+ghost use Rattle.std.specs.Prelude.{IfOk};
 ghost use Rattle.lazy_compile.specs.Alone.{ReadsAlone};
-ghost use Rattle.lazy_compile.specs.Delazified.{CanBeDelazified};
+ghost use Rattle.lazy_compile.specs.Delazified.{CanBeRead};
 ghost use Rattle.lazy_compile.specs.Texts.{AreTextsOf};
 
 use crate::forms::form_of;
@@ -36,7 +32,7 @@ pub(crate) fn read_alone(
     inside: &[Extent],
     texts: &[Text],
 ) -> Result<FunctionAlone, AllocError>
-    requires { (chain : List LinkView) × (items : Stmts) × (m : Site) × CanBeDelazified file.now lazy.now texts.now chain items m × (inside.now ≡ extents_in m.inner) }
+    requires { CanBeRead file.now lazy.now inside.now texts.now }
     ensures read { IfOk result (ReadsAlone file.now lazy.now texts.now) }
     ensures texts { IfOk result (λ alone. AreTextsOf file.now texts.now alone.texts.items) }
 {

@@ -2,12 +2,12 @@
 
 ghost use Rattle.std.specs.Prelude.{◌≡◌, map, IfOk};
 
-use scope_inner::InnerSite;
+use scope_inner::FunctionSite;
 use std::alloc::{AllocError, Global};
 use stencil_data::Chain;
 
 /// The chains at functions, in their order.
-pub(crate) fn chains_of(alloc: Global, inside: Vec<InnerSite>) -> Result<Vec<Chain>, AllocError>
+pub(crate) fn chains_of(alloc: Global, inside: Vec<FunctionSite>) -> Result<Vec<Chain>, AllocError>
     ensures { IfOk result (λ chains. chains.items ≡ map (λ s. s.chain) inside.entry.items) }
 {
     let mut chains = Vec::new(alloc);

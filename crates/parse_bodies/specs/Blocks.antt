@@ -12,11 +12,11 @@ use Rattle.parse_exprs.specs.Env.{body_at, env_at}
 abbrev pub bodies_at : Interpretation → ℕ → BodyParser
 bodies_at i = passing (body_at i)
 
--- all calls inside so many nodes that count for the depth
+-- all calls inside n nodes that count for the depth
 unfoldable pub all_at : Interpretation → ℕ → All
 all_at i depth = everything (λ room stmt. bodies_at i room) (depth_limit - depth)
 
--- a statement that stands inside so many nodes
+-- a statement that stands inside n nodes
 unfoldable pub stmts_at : Interpretation → ℕ → StmtCalls
 stmts_at i depth = (all_at i depth).stmts
 

@@ -6,7 +6,7 @@
 //! `(i : Interpretation) → Reads Itself (pure.expect_word word) source.now i place.old place.new result`
 //!
 //! A part that reads expressions or statements is stated over `block_at i depth` (specs/Blocks.antt), the parser of what
-//! stands inside so many nodes that count for the depth.
+//! stands inside n nodes that count for the depth.
 //!
 //! All functions that lead back to `stmts::stmt` are one cycle, `stmts`. They end, since `stmt` reads what it holds one deeper,
 //! up to `DEPTH_LIMIT`, and the others call one another only downwards (proofs/+stmts/Invariants.antt has their ranks).

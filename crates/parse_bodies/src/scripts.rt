@@ -40,7 +40,7 @@ fn close_body(place: &mut Place, source: &Source) -> Result<u32, ParseFault>
     Ok(token.end)
 }
 
-/// A function's body in braces, which stands inside so many nodes that count for the depth.
+/// A function's body in braces, which stands inside n nodes that count for the depth.
 ///
 /// Bodies inside it are passed over.
 #[tactic(auto, unfolding(grammar_parser_specs::specs::Stmts::reading))]

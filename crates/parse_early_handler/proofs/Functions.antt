@@ -22,39 +22,31 @@ use Rattle.parse_early_handler.proofs.Expressions.{expr-first, inside, maybe_exp
 use Rattle.parse_early_handler.proofs.Parting.{IsFirst, none-first, then-first, first-as, all-first}
 
 -- parameters that are more than names
-abbrev more_params : model.Params → Bool
+abbrev pub more_params : model.Params → Bool
 more_params ps = has_initializer ps || has_rest ps
 
 or_true : (b : Bool) → true ≡ b || true
 or_true true = refl
 or_true false = refl
 
-module _ (i : Interpretation) (e : HasEmptyBodies i) (k : KnowsWords i known_atoms) where
-  param_as : (n : NodeParam ExprErrors) (p : part.Param) → ShowParam i (HasErrorsExpr i) n p
-      → (v : Option model.Expr) × ((p ≡ record { name = named i n.name; value = v; rest = n.rest }) × ShowMaybe (HasErrorsExpr i) n.value v)
-  param_as n p h = inside (HasErrorsExpr i) (λ v. record { name = named i n.name; value = v; rest = n.rest }) n.value p h
-
-  param-first : (n : NodeParam ExprErrors) (p : part.Param) → ShowParam i (HasErrorsExpr i) n p → IsFirst (param_first n) (notes_maybe (maybe_expr_of p.value))
-  param-first n p h =
-      let v = param_as n p h in
-      first-as (λ (x : part.Param). notes_maybe (maybe_expr_of x.value)) v.1.0 (maybe_expr-first i e k n.value v.0 v.1.1)
-
-  params-first : (ns : List (NodeParam ExprErrors)) (ps : List part.Param) → ShowAll (ShowParam i (HasErrorsExpr i)) ns ps → IsFirst (first_of (map param_first ns)) (notes_params (params_of ps))
-  params-first = all-first (ShowParam i (HasErrorsExpr i)) param_first (λ p. notes_maybe (maybe_expr_of p.value)) (λ ps. notes_params (params_of ps)) none-first (λ x xs g h. h) param-first
+module _ {E : Type 0} (i : Interpretation) (R : E → model.Expr → Type 0) where
+  param_as : (n : NodeParam E) (p : part.Param) → ShowParam i R n p
+      → (v : Option model.Expr) × ((p ≡ record { name = named i n.name; value = v; rest = n.rest }) × ShowMaybe R n.value v)
+  param_as n p h = inside R (λ v. record { name = named i n.name; value = v; rest = n.rest }) n.value p h
 
   -- the parameter at a place
-  many-params : (m : ℕ) (ns : List (NodeParam ExprErrors)) (ps : List part.Param) → ShowAll (ShowParam i (HasErrorsExpr i)) ns ps
-      → IsFirst (error_of 13 (option_map (λ (n : NodeParam ExprErrors). n.name.at) (slice_get ns m))) (params_error m (params_of ps))
+  many-params : (m : ℕ) (ns : List (NodeParam E)) (ps : List part.Param) → ShowAll (ShowParam i R) ns ps
+      → IsFirst (error_of 13 (option_map (λ (n : NodeParam E). n.name.at) (slice_get ns m))) (params_error m (params_of ps))
   many-params m [] [] h = none-first
   many-params m [] (p ∷ ps) h = absurd h
   many-params m (n ∷ ns) [] h = absurd h
   many-params zero (n ∷ ns) (p ∷ ps) h = record { is = ap (λ (x : part.Param). error_of 13 (Some x.name.at)) (sym (param_as n p h.0).1.0) }
   many-params (suc m) (n ∷ ns) (p ∷ ps) h = many-params m ns ps h.1
 
-  params_many : (ns : List (NodeParam ExprErrors)) (ps : List part.Param) → ShowAll (ShowParam i (HasErrorsExpr i)) ns ps → IsFirst (many_params ns) (params_error limit (params_of ps))
+  pub params_many : (ns : List (NodeParam E)) (ps : List part.Param) → ShowAll (ShowParam i R) ns ps → IsFirst (many_params ns) (params_error limit (params_of ps))
   params_many ns ps h = many-params limit ns ps h
 
-  more-next : (name : model.Named) (o : Option ExprErrors) (v : Option model.Expr) (rest : Bool) (ps : model.Params) → ShowMaybe (HasErrorsExpr i) o v
+  more-next : (name : model.Named) (o : Option E) (v : Option model.Expr) (rest : Bool) (ps : model.Params) → ShowMaybe R o v
       → is_some_or o rest || more_params ps ≡ more_params (model.more_params name (maybe_expr_of v) rest ps)
   more-next name None None true ps s = or_true (has_initializer ps)
   more-next name None None false ps s = refl
@@ -62,7 +54,7 @@ module _ (i : Interpretation) (e : HasEmptyBodies i) (k : KnowsWords i known_ato
   more-next name (Some o) None rest ps s = absurd s
   more-next name (Some o) (Some t) rest ps s = refl
 
-  more-is : (ns : List (NodeParam ExprErrors)) (ps : List part.Param) → ShowAll (ShowParam i (HasErrorsExpr i)) ns ps → are_more ns ≡ more_params (params_of ps)
+  pub more-is : (ns : List (NodeParam E)) (ps : List part.Param) → ShowAll (ShowParam i R) ns ps → are_more ns ≡ more_params (params_of ps)
   more-is [] [] h = refl
   more-is [] (p ∷ ps) h = absurd h
   more-is (n ∷ ns) [] h = absurd h
@@ -72,19 +64,28 @@ module _ (i : Interpretation) (e : HasEmptyBodies i) (k : KnowsWords i known_ato
       ∙ (more-next (named i n.name) n.value v.0 n.rest (params_of ps) v.1.1
       ∙ ap (λ (x : part.Param). more_params (model.more_params x.name (maybe_expr_of x.value) x.rest (params_of ps))) (sym v.1.0))
 
+module _ (i : Interpretation) (e : HasEmptyBodies i) (k : KnowsWords i known_atoms) where
+  param-first : (n : NodeParam ExprErrors) (p : part.Param) → ShowParam i (HasErrorsExpr i) n p → IsFirst (param_first n) (notes_maybe (maybe_expr_of p.value))
+  param-first n p h =
+      let v = param_as i (HasErrorsExpr i) n p h in
+      first-as (λ (x : part.Param). notes_maybe (maybe_expr_of x.value)) v.1.0 (maybe_expr-first i e k n.value v.0 v.1.1)
+
+  params-first : (ns : List (NodeParam ExprErrors)) (ps : List part.Param) → ShowAll (ShowParam i (HasErrorsExpr i)) ns ps → IsFirst (first_of (map param_first ns)) (notes_params (params_of ps))
+  params-first = all-first (ShowParam i (HasErrorsExpr i)) param_first (λ p. notes_maybe (maybe_expr_of p.value)) (λ ps. notes_params (params_of ps)) none-first (λ x xs g h. h) param-first
+
   -- bodies
-  abbrev body_notes : Bool → model.Body → List Early
+  abbrev pub body_notes : Bool → model.Body → List Early
   body_notes more b = body_errors more b ++ notes_body b
 
-  braced-first : (more : Bool) (n : BodyErrors) (ss : model.Stmts) → HasErrorsBody i n ss → IsFirst (body_first more (bodies.Braced n)) (body_notes more (model.BracedBody ss))
+  pub braced-first : (more : Bool) (n : BodyErrors) (ss : model.Stmts) → HasErrorsBody i n ss → IsFirst (body_first more (bodies.Braced n)) (body_notes more (model.BracedBody ss))
   braced-first true n ss h = then-first {xs = strict_errors ss} {ys = notes_stmts ss} (record { is = (h.holds e k).strict }) (record { is = (h.holds e k).first })
   braced-first false n ss h = record { is = (h.holds e k).first }
 
-  short-first : (more : Bool) (n : ExprErrors) (t : model.Expr) → HasErrorsExpr i n t → IsFirst n.first (body_notes more (model.ShortBody t))
+  pub short-first : (more : Bool) (n : ExprErrors) (t : model.Expr) → HasErrorsExpr i n t → IsFirst n.first (body_notes more (model.ShortBody t))
   short-first true n t h = expr-first i e k n t h
   short-first false n t h = expr-first i e k n t h
 
-  deferred-first : (more : Bool) (ss : model.Stmts) → ss ≡ model.no_stmts → IsFirst None (body_notes more (model.BracedBody ss))
+  pub deferred-first : (more : Bool) (ss : model.Stmts) → ss ≡ model.no_stmts → IsFirst None (body_notes more (model.BracedBody ss))
   deferred-first true ss h = first-as (λ (xs : model.Stmts). body_notes true (model.BracedBody xs)) h none-first
   deferred-first false ss h = first-as (λ (xs : model.Stmts). body_notes false (model.BracedBody xs)) h none-first
 
@@ -98,5 +99,5 @@ module _ (i : Interpretation) (e : HasEmptyBodies i) (k : KnowsWords i known_ato
   function-first n f h =
       let made : model.Body → model.Function = λ b. model.function n.form n.start n.end (maybe_named i n.name) (params_of h.0) n.comma n.bare b in
       let b = body-first (are_more n.params.items) n.start made f n.body h.2 in
-      let body = first-as (λ (more : Bool). body_notes more b.0) (sym (more-is n.params.items h.0 h.1)) b.1.1 in
-      first-as notes_function b.1.0 (then-first (params_many n.params.items h.0 h.1) (then-first (params-first n.params.items h.0 h.1) body))
+      let body = first-as (λ (more : Bool). body_notes more b.0) (sym (more-is i (HasErrorsExpr i) n.params.items h.0 h.1)) b.1.1 in
+      first-as notes_function b.1.0 (then-first (params_many i (HasErrorsExpr i) n.params.items h.0 h.1) (then-first (params-first n.params.items h.0 h.1) body))

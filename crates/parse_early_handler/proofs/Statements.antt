@@ -50,6 +50,35 @@ directive-next (model.Value (model.Chain head tails) semi) rest more h = no_dire
 directive-next (model.Value _ semi) rest more h = none-first
 directive-next _ rest more h = none-first
 
+module _ {E : Type 0} (i : Interpretation) (R : E → model.Expr → Type 0) where
+  -- names of a declaration
+  bind_as : (n : NodeBind E) (b : part.Bind) → ShowBind i R n b
+      → (v : Option model.Expr) × ((b ≡ record { name = named i n.name; value = v }) × ShowMaybe R n.value v)
+  bind_as n b h = inside R (λ v. record { name = named i n.name; value = v }) n.value b h
+
+  abbrev bare_next : model.Binds → part.Bind → List Early
+  bare_next rest b = const_errors decl.Const (model.more_binds b.name (maybe_expr_of b.value) rest)
+
+  bare-next : (at : ℕ) (name : model.Named) (o : Option E) (v : Option model.Expr) (rest : Option Early) (more : model.Binds) → at ≡ name.at → ShowMaybe R o v
+      → IsFirst rest (const_errors decl.Const more) → IsFirst (sooner (first_note (error_if (not (is_some_or o false)) 7 at)) rest) (const_errors decl.Const (model.more_binds name (maybe_expr_of v) more))
+  bare-next at name None None rest more a s h = then-first {xs = error_if true 7 name.at} {ys = const_errors decl.Const more} (record { is = ap (λ (n : ℕ). first_note (error_if true 7 n)) a }) h
+  bare-next at name None (Some t) rest more a s h = absurd s
+  bare-next at name (Some o) None rest more a s h = absurd s
+  bare-next at name (Some o) (Some t) rest more a s h = h
+
+  bare-first : (ns : List (NodeBind E)) (bs : List part.Bind) → ShowAll (ShowBind i R) ns bs → IsFirst (first_of (map bare_error ns)) (const_errors decl.Const (binds_of bs))
+  bare-first [] [] h = none-first
+  bare-first [] (b ∷ bs) h = absurd h
+  bare-first (n ∷ ns) [] h = absurd h
+  bare-first (n ∷ ns) (b ∷ bs) h =
+      let v = bind_as n b h.0 in
+      first-as (bare_next (binds_of bs)) v.1.0 (bare-next n.name.at (named i n.name) n.value v.0 (first_of (map bare_error ns)) (binds_of bs) refl v.1.1 (bare-first ns bs h.1))
+
+  pub const-first : (d : Decl) (ns : List (NodeBind E)) (bs : List part.Bind) → ShowAll (ShowBind i R) ns bs → IsFirst (const_first d ns) (const_errors d (binds_of bs))
+  const-first decl.Var ns bs h = none-first
+  const-first decl.Let ns bs h = none-first
+  const-first decl.Const ns bs h = bare-first ns bs h
+
 module _ (i : Interpretation) (e : HasEmptyBodies i) (k : KnowsWords i known_atoms) where
   pub stmt-first : (n : StmtErrors) (s : model.Stmt) → HasErrorsStmt i n s → IsFirst n.first (notes_stmt s)
   stmt-first n s h = record { is = (h.holds e k).first }
@@ -69,45 +98,17 @@ module _ (i : Interpretation) (e : HasEmptyBodies i) (k : KnowsWords i known_ato
       same-first (ap (λ (d : Directive). error_of 14 (strict_next d (strict_first ns))) (h.0.holds e k).directive)
       (directive-next s (strict_first ns) (stmts_of ss) (strict-first ns ss h.1))
 
-  -- names of a declaration
-  bind_as : (n : NodeBind ExprErrors) (b : part.Bind) → ShowBind i (HasErrorsExpr i) n b
-      → (v : Option model.Expr) × ((b ≡ record { name = named i n.name; value = v }) × ShowMaybe (HasErrorsExpr i) n.value v)
-  bind_as n b h = inside (HasErrorsExpr i) (λ v. record { name = named i n.name; value = v }) n.value b h
-
   bind-first : (n : NodeBind ExprErrors) (b : part.Bind) → ShowBind i (HasErrorsExpr i) n b → IsFirst (bind_first n) (notes_maybe (maybe_expr_of b.value))
   bind-first n b h =
-      let v = bind_as n b h in
+      let v = bind_as i (HasErrorsExpr i) n b h in
       first-as (λ (x : part.Bind). notes_maybe (maybe_expr_of x.value)) v.1.0 (maybe_expr-first i e k n.value v.0 v.1.1)
-
-  abbrev bare_next : model.Binds → part.Bind → List Early
-  bare_next rest b = const_errors decl.Const (model.more_binds b.name (maybe_expr_of b.value) rest)
-
-  bare-next : (at : ℕ) (name : model.Named) (o : Option ExprErrors) (v : Option model.Expr) (rest : Option Early) (more : model.Binds) → at ≡ name.at → ShowMaybe (HasErrorsExpr i) o v
-      → IsFirst rest (const_errors decl.Const more) → IsFirst (sooner (first_note (error_if (not (is_some_or o false)) 7 at)) rest) (const_errors decl.Const (model.more_binds name (maybe_expr_of v) more))
-  bare-next at name None None rest more a s h = then-first {xs = error_if true 7 name.at} {ys = const_errors decl.Const more} (record { is = ap (λ (n : ℕ). first_note (error_if true 7 n)) a }) h
-  bare-next at name None (Some t) rest more a s h = absurd s
-  bare-next at name (Some o) None rest more a s h = absurd s
-  bare-next at name (Some o) (Some t) rest more a s h = h
-
-  bare-first : (ns : List (NodeBind ExprErrors)) (bs : List part.Bind) → ShowAll (ShowBind i (HasErrorsExpr i)) ns bs → IsFirst (first_of (map bare_error ns)) (const_errors decl.Const (binds_of bs))
-  bare-first [] [] h = none-first
-  bare-first [] (b ∷ bs) h = absurd h
-  bare-first (n ∷ ns) [] h = absurd h
-  bare-first (n ∷ ns) (b ∷ bs) h =
-      let v = bind_as n b h.0 in
-      first-as (bare_next (binds_of bs)) v.1.0 (bare-next n.name.at (named i n.name) n.value v.0 (first_of (map bare_error ns)) (binds_of bs) refl v.1.1 (bare-first ns bs h.1))
-
-  const-first : (d : Decl) (ns : List (NodeBind ExprErrors)) (bs : List part.Bind) → ShowAll (ShowBind i (HasErrorsExpr i)) ns bs → IsFirst (const_first d ns) (const_errors d (binds_of bs))
-  const-first decl.Var ns bs h = none-first
-  const-first decl.Let ns bs h = none-first
-  const-first decl.Const ns bs h = bare-first ns bs h
 
   values-first : (ns : List (NodeBind ExprErrors)) (bs : List part.Bind) → ShowAll (ShowBind i (HasErrorsExpr i)) ns bs → IsFirst (first_of (map bind_first ns)) (notes_binds (binds_of bs))
   values-first = all-first (ShowBind i (HasErrorsExpr i)) bind_first (λ b. notes_maybe (maybe_expr_of b.value)) (λ bs. notes_binds (binds_of bs)) none-first (λ x xs g h. h) bind-first
 
   pub binds-first : (d : Decl) (ns : List (NodeBind ExprErrors)) (bs : List part.Bind) → ShowAll (ShowBind i (HasErrorsExpr i)) ns bs
       → IsFirst (binds_first d ns) (const_errors d (binds_of bs) ++ notes_binds (binds_of bs))
-  binds-first d ns bs h = then-first (const-first d ns bs h) (values-first ns bs h)
+  binds-first d ns bs h = then-first (const-first i (HasErrorsExpr i) d ns bs h) (values-first ns bs h)
 
   pub init-first : (n : NodeInit ExprErrors) (t : model.Init) → ShowInit i (HasErrorsExpr i) n t → IsFirst (init_first n) (notes_init t)
   init-first (inits.Nothing) t h = first-as notes_init h none-first

@@ -6,7 +6,6 @@ use Rattle.parse_track.specs.declared.region.Early.{Early}
 use Rattle.parse_track.specs.EarlyErrors.{smaller, sooner}
 use Rattle.parse_track.specs.Notes.{first_note, is_proto, proto_error}
 use Rattle.parse_track.proofs.Smallest.{smaller_assoc}
-use Rattle.parse_early_handler.specs.declared.nodes.ExprErrors.{ExprErrors}
 use Rattle.parse_early_handler.specs.declared.nodes.PropErrors.{PropErrors}
 use Rattle.parse_early_handler.specs.declared.nodes.StmtErrors.{StmtErrors}
 use Rattle.parse_early_handler.specs.Directives.{ends, strict_at}
@@ -70,8 +69,8 @@ or_passed : (b c : Bool) → b ≡ false → b || c ≡ c
 or_passed true c e = absurd (cc)
 or_passed false c e = refl
 
-pub more_found : (xs : List (NodeParam ExprErrors)) (k : ℕ) (x : NodeParam ExprErrors) (b : Bool) → drop k xs ≡ x ∷ drop (k + 1) xs → b ≡ is_more x → b ≡ true → are_more (drop k xs) ≡ true
+pub more_found : {E : Type 0} (xs : List (NodeParam E)) (k : ℕ) (x : NodeParam E) (b : Bool) → drop k xs ≡ x ∷ drop (k + 1) xs → b ≡ is_more x → b ≡ true → are_more (drop k xs) ≡ true
 more_found xs k x b next e t = ap are_more next ∙ or_found (is_more x) (are_more (drop (k + 1) xs)) (sym e ∙ t)
 
-pub more_passed : (xs : List (NodeParam ExprErrors)) (k : ℕ) (x : NodeParam ExprErrors) (b : Bool) → drop k xs ≡ x ∷ drop (k + 1) xs → b ≡ is_more x → b ≡ false → are_more (drop k xs) ≡ are_more (drop (k + 1) xs)
+pub more_passed : {E : Type 0} (xs : List (NodeParam E)) (k : ℕ) (x : NodeParam E) (b : Bool) → drop k xs ≡ x ∷ drop (k + 1) xs → b ≡ is_more x → b ≡ false → are_more (drop k xs) ≡ are_more (drop (k + 1) xs)
 more_passed xs k x b next e f = ap are_more next ∙ or_passed (is_more x) (are_more (drop (k + 1) xs)) (sym e ∙ f)

@@ -49,7 +49,7 @@ many_at at = error_of 13 at
 abbrev pub many_args : List ExprErrors → Option Early
 many_args items = many_at (option_map (λ e. e.start) (slice_get items limit))
 
-abbrev pub many_params : List (NodeParam ExprErrors) → Option Early
+abbrev pub many_params : {E : Type 0} → List (NodeParam E) → Option Early
 many_params params = many_at (option_map (λ p. p.name.at) (slice_get params limit))
 
 abbrev pub args_first : NodeArgs ExprErrors → Option Early
@@ -74,10 +74,10 @@ abbrev pub is_some_or : {A : Type 0} → Option A → Bool → Bool
 is_some_or None more = more
 is_some_or (Some _) more = true
 
-abbrev pub is_more : NodeParam ExprErrors → Bool
+abbrev pub is_more : {E : Type 0} → NodeParam E → Bool
 is_more n = is_some_or n.value n.rest
 
-abbrev pub are_more : List (NodeParam ExprErrors) → Bool
+abbrev pub are_more : {E : Type 0} → List (NodeParam E) → Bool
 are_more [] = false
 are_more (n ∷ ns) = is_more n || are_more ns
 
@@ -97,10 +97,10 @@ function_first n =
     sooner (many_params n.params.items) (sooner (first_of (map param_first n.params.items)) (body_first (are_more n.params.items) n.body))
 
 -- Rule 7: a name that `const` declares without an initializer.
-abbrev pub bare_error : NodeBind ExprErrors → Option Early
+abbrev pub bare_error : {E : Type 0} → NodeBind E → Option Early
 bare_error n = first_note (error_if (not (is_some_or n.value false)) 7 n.name.at)
 
-abbrev pub const_first : Decl → List (NodeBind ExprErrors) → Option Early
+abbrev pub const_first : {E : Type 0} → Decl → List (NodeBind E) → Option Early
 const_first decl.Var ns = None
 const_first decl.Let ns = None
 const_first decl.Const ns = first_of (map bare_error ns)
@@ -133,16 +133,16 @@ protos_first seen [] = None
 protos_first seen (p ∷ ps) = sooner (first_note (proto_error seen p.proto)) (protos_first (seen || is_proto p.proto) ps)
 
 -- whether the last part of a chain is a property
-abbrev pub is_property : NodeTail ExprErrors → Bool
+abbrev pub is_property : {E : Type 0} → NodeTail E → Bool
 is_property (tails.Dot atom) = true
 is_property (tails.Index e) = true
 is_property (tails.Call n) = false
 
-abbrev pub maybe_property : Option (NodeTail ExprErrors) → Bool
+abbrev pub maybe_property : {E : Type 0} → Option (NodeTail E) → Bool
 maybe_property None = false
 maybe_property (Some n) = is_property n
 
-abbrev pub end_in_property : List (NodeTail ExprErrors) → Bool
+abbrev pub end_in_property : {E : Type 0} → List (NodeTail E) → Bool
 end_in_property ns = maybe_property (slice_get ns (length ns - 1))
 
 -- the offset of the first of some expressions

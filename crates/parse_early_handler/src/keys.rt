@@ -8,14 +8,14 @@ ghost use Rattle.parse_early_handler.specs.Keys.{proto_key};
 ghost use Rattle.parse_early_handler.specs.Known.{KnowsWords, known_atoms};
 
 use crate::early::{error_if, sooner};
-use crate::nodes::{ExprErrors, PropErrors};
+use crate::nodes::PropErrors;
 use crate::words::proto_name;
 use parse_track::region::Early;
 use script_grammar::node::{NodeBind, NodeKey};
 use script_grammar::token::Decl;
 
 /// The offset of a key that is `__proto__`.
-pub fn proto_key(key: &NodeKey<ExprErrors>) -> Option<u32>
+pub fn proto_key<E>(key: &NodeKey<E>) -> Option<u32>
     ensures { (i : Interpretation) → KnowsWords i known_atoms → result ≡ proto_key i key.now }
 {
     match key {
@@ -26,8 +26,8 @@ pub fn proto_key(key: &NodeKey<ExprErrors>) -> Option<u32>
     }
 }
 
-// The early error at a property that sets the prototype, where one before it does.
-fn proto_error(seen: bool, at: Option<u32>) -> Option<Early>
+/// The early error at a property that sets the prototype, where one before it does.
+pub fn proto_error(seen: bool, at: Option<u32>) -> Option<Early>
     ensures { result ≡ first_note (proto_error seen at) }
 {
     match at {
@@ -36,8 +36,8 @@ fn proto_error(seen: bool, at: Option<u32>) -> Option<Early>
     }
 }
 
-// Whether a property that sets the prototype was seen by now.
-fn is_seen(seen: bool, at: Option<u32>) -> bool
+/// Whether a property that sets the prototype was seen by now.
+pub fn is_seen(seen: bool, at: Option<u32>) -> bool
     ensures { result ≡ seen || is_proto at }
 {
     seen || at.is_some()
@@ -58,7 +58,7 @@ pub fn later_protos(props: &[PropErrors]) -> Option<Early>
 }
 
 // The early error at a name without an initializer.
-fn bare_error(bind: &NodeBind<ExprErrors>) -> Option<Early>
+fn bare_error<E>(bind: &NodeBind<E>) -> Option<Early>
     ensures { result ≡ bare_error bind.now }
 {
     match &bind.value {
@@ -68,7 +68,7 @@ fn bare_error(bind: &NodeBind<ExprErrors>) -> Option<Early>
 }
 
 // The first early error at a name without an initializer.
-fn bare_errors(binds: &[NodeBind<ExprErrors>]) -> Option<Early>
+fn bare_errors<E>(binds: &[NodeBind<E>]) -> Option<Early>
     ensures { result ≡ first_of (map bare_error binds.now) }
 {
     let mut first = None;
@@ -80,7 +80,7 @@ fn bare_errors(binds: &[NodeBind<ExprErrors>]) -> Option<Early>
 }
 
 /// The first early error at a name that `const` declares without an initializer.
-pub fn const_errors(decl: Decl, binds: &[NodeBind<ExprErrors>]) -> Option<Early>
+pub fn const_errors<E>(decl: Decl, binds: &[NodeBind<E>]) -> Option<Early>
     ensures { result ≡ const_first decl binds.now }
 {
     match decl {

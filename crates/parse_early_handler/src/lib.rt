@@ -17,10 +17,10 @@
 mod directive;
 pub mod early;
 pub mod handler;
-mod keys;
-mod limits;
+pub mod keys;
+pub mod limits;
 pub mod nodes;
-mod parts;
+pub mod parts;
 mod shape;
 mod words;
 

@@ -24,7 +24,7 @@ pub fn many_args(items: &[ExprErrors]) -> Option<Early>
 }
 
 /// The early error at the first parameter that is one too many.
-pub fn many_params(params: &[NodeParam<ExprErrors>]) -> Option<Early>
+pub fn many_params<E>(params: &[NodeParam<E>]) -> Option<Early>
     ensures { result ≡ many_params params.now }
 {
     match params.get(LIMIT) {

@@ -141,7 +141,7 @@ impl EarlyErrors for NodeBind<ExprErrors> {
 }
 
 // Whether a parameter has an initializer or is a rest parameter.
-fn is_more(param: &NodeParam<ExprErrors>) -> bool
+fn is_more<E>(param: &NodeParam<E>) -> bool
     ensures { result ≡ is_more param.now }
 {
     match &param.value {
@@ -150,8 +150,8 @@ fn is_more(param: &NodeParam<ExprErrors>) -> bool
     }
 }
 
-// Whether a parameter has an initializer or is a rest parameter.
-fn are_more(params: &[NodeParam<ExprErrors>]) -> bool
+/// Whether a parameter has an initializer or is a rest parameter.
+pub fn are_more<E>(params: &[NodeParam<E>]) -> bool
     ensures { result ≡ are_more params.now }
 {
     for param in params {
@@ -241,7 +241,7 @@ impl EarlyErrors for NodeClause<ExprErrors, StmtErrors> {
 }
 
 // Whether a part of a chain is a property.
-fn is_property(tail: &NodeTail<ExprErrors>) -> bool
+fn is_property<E>(tail: &NodeTail<E>) -> bool
     ensures { result ≡ is_property tail.now }
 {
     match tail {
@@ -252,7 +252,7 @@ fn is_property(tail: &NodeTail<ExprErrors>) -> bool
 }
 
 /// Whether the last part of a chain is a property.
-pub fn end_in_property(tails: &[NodeTail<ExprErrors>]) -> bool
+pub fn end_in_property<E>(tails: &[NodeTail<E>]) -> bool
     ensures { result ≡ end_in_property tails.now }
 {
     match tails.last() {

@@ -9,6 +9,6 @@ use Rattle.grammar_parser_specs.specs.Exprs.{Env, calls, passing}
 abbrev pub body_at : Interpretation → ℕ → Body
 body_at i start = BracedBody (i.bodies start)
 
--- what is read inside so many nodes that count for the depth, where braced bodies are passed over
+-- what is read inside n nodes that count for the depth, where braced bodies are passed over
 unfoldable pub env_at : Interpretation → ℕ → Env
 env_at i depth = record { sub = calls (passing (body_at i)) (depth_limit - depth); body = passing (body_at i) (depth_limit - depth) }

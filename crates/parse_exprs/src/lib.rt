@@ -8,7 +8,7 @@
 //! Whatever atoms and passed bodies stand for, the result is what `pure.expect mark` answers on the lexemes from the place
 //! `self.old` on, with the bodies that were recorded before, and where the code stands then is `self.new` (specs/Answers.antt).
 //! The first argument says what a result stands for (specs/Means.antt); a node stands for a tree, `NodeOf (H.shows_expr i)`.
-//! A part that reads expressions is stated so over `env_at i depth` (specs/Env.antt), the parser inside so many nodes that
+//! A part that reads expressions is stated so over `env_at i depth` (specs/Env.antt), the parser inside n nodes that
 //! count for the depth.
 //!
 //! A loop is a function of a turn and a loop over it, whose five goals `proofs/Loops.antt` answers. The exits by `?` and most

@@ -166,7 +166,7 @@ module _ (file : List ℕ) (extent : Extent) (f : FuncForm) (items : Stmts) (i :
     pub front_slice : IsSlice file extent.start to (chars (take (to - extent.start) (drop extent.start file)))
     front_slice = slice_at file x.utf8 extent.start to placed.begins le within_file part_utf8
 
-    -- and behind it
+    -- and after it
     record Behind : Type 0 where
       others : List ℕ
       is : IsSlice file extent.start extent.end (front_codes ++ others)

@@ -34,7 +34,7 @@ data IsArrowHead : List Lexeme → Type 0 where
 not_both : (t : Lexeme) (j k : Kind) → t.kind ≡ j → t.kind ≡ k → (j ≡ k → ⊥) → ⊥
 not_both t j k e f no_same = no_same (sym e ∙ f)
 
--- what stands behind the parenthesis that closes what was open
+-- what stands after the parenthesis that closes what was open
 closes_none : (t : Lexeme) (ts : List Lexeme) (os : List Opener) → ◌≡◌ {A = Option (List Opener)} (Some os) (Some []) → IsMark mark.CLOSE_PAREN t → open_at_end os (t ∷ ts) ≡ Some [] → ⊥
 closes_none t ts (o ∷ os) e k h = cc
 closes_none t ts [] e k h = none (subst (λ j. ◌≡◌ {A = Option (List Opener)} (elim (open_behind j []) [ None ↦ None | Some qs ↦ open_at_end qs ts ]) (Some [])) k h)
@@ -59,7 +59,7 @@ same_behind os (t ∷ u) (s ∷ v) c d x y g h k l e = by (λ qs m n. same_behin
     by each None i m n = absurd (cc)
     by each (Some qs) i m n = each qs m (subst (λ o. ◌≡◌ {A = Option (List Opener)} (elim o [ None ↦ None | Some zs ↦ open_at_end zs v ]) (Some [])) i n)
 
--- what stands behind an arrow's mark and in front of a brace
+-- what stands after an arrow's mark and in front of a brace
 behind_joint : (j : List Lexeme) (o joint : Lexeme) (r y : List Lexeme) → IsJoint j → IsMark mark.OPEN_BRACE o → IsMark mark.ARROW joint → j ++ o ∷ r ≡ joint ∷ y → y ≡ o ∷ r
 behind_joint j o joint r y no_arrow k l e = let same : o ≡ joint = cc in absurd (not_both o (kind.Mark mark.OPEN_BRACE) (kind.Mark mark.ARROW) k (subst (IsMark mark.ARROW) (sym same) l) (λ q. cc))
 behind_joint j o joint r y (arrow t m) k l e = cc
@@ -71,7 +71,7 @@ behind_listed a p c j b q d joint o r y g h k l m n i e =
     let apart : p ++ c ∷ (j ++ o ∷ r) ≡ q ++ d ∷ (joint ∷ y) = sym (append_assoc p (c ∷ j) (o ∷ r)) ∙ others ∙ append_assoc q (d ∷ joint ∷ []) y in
     behind_joint j o joint r y m i n (same_behind [] p q c d (j ++ o ∷ r) (joint ∷ y) g h k l apart)
 
--- where a head and a brace stand at the front, what is behind an arrow's head begins with the brace
+-- where a head and a brace stand at the front, what is after an arrow's head begins with the brace
 behind_head : (u h : List Lexeme) (o : Lexeme) (r y : List Lexeme) → IsHead u → IsArrowHead h → IsMark mark.OPEN_BRACE o → u ++ o ∷ r ≡ h ++ y → y ≡ o ∷ r
 behind_head u h o r y (single name joint k l) (one other sign m n) i e = cc
 behind_head u h o r y (single name joint k l) (many opener q d sign m g s n all are) i e =

@@ -1,4 +1,4 @@
--- Tokens of points begin and end where some of the points do, each behind the one before.
+-- Tokens of points begin and end where some of the points do, each after the one before.
 use Rattle.std.proofs.Common.{◌≡◌, ◌∙◌, ℕ, zero, suc, ◌≤◌, List, [], ◌∷◌, ◌++◌, map, length, take, drop, Bool, true, false, cond, refl, sym, ap, arith, append_assoc, take-append-drop, Option, Some, None}
 use Rattle.std.specs.Prelude.{◌||◌, ◌&&◌, ◌==◌}
 use Rattle.std.proofs.lemmas.Bool.{eqb-true}
@@ -53,7 +53,7 @@ within_stand (suc fuel) to braces after ps = then_stand to braces after ps (fron
 
 -- ---- one of the tokens
 
--- the points in front of it, its own, and those behind it
+-- the points in front of it, its own, and those after it
 pub record StandsAt (to : ℕ) (ps : List Point) (t : Lexeme) (ts : List Lexeme) : Type 0 where
   pub front : List Point
   pub here : List Point

@@ -1,6 +1,7 @@
 -- What stands in the bodies of functions directly in a function, and what tells where a body begins.
 use Rattle.std.specs.Prelude.{◌≡◌, ℕ, ◌+◌, ◌-◌, ◌<◌, ◌≤◌, List, [], ◌∷◌, ◌++◌, length, map, take, drop, slice_get, Some, Bool}
 use Rattle.std.specs.Str.{IsUtf8}
+use Rattle.script_grammar.specs.declared.token.FuncForm.{FuncForm}
 use Rattle.script_grammar.specs.declared.token.Kind.{Kind}
 use Rattle.script_grammar.specs.declared.token.Kind.TheVariants as kind
 use Rattle.script_grammar.specs.declared.token.mark.TheConstants as mark
@@ -20,7 +21,7 @@ use Rattle.parse_skip_laws.specs.SkippedText.{span_of}
 use Rattle.parse_function.specs.declared.holes.Beginning.{Beginning}
 use Rattle.parse_function.specs.declared.holes.Beginning.TheVariants.{Braced, Other, Cut}
 use Rattle.parse_function.specs.declared.holes.Hole.{Hole}
-use Rattle.parse_function.specs.Extents.{IsExtentOf}
+use Rattle.parse_function.specs.Extents.{IsExtentOf, extents_in}
 
 -- ---- the holes of a function
 
@@ -32,6 +33,10 @@ span_at hole = record { from = hole.from; to = hole.to }
 pub record AreHolesOf (file : List ℕ) (extent : Extent) (i : Inner) (holes : List Hole) : Type 0 where
   pub chosen : ℕ → Bool
   pub are : (r : ReadSkipped chosen i extent.end (text_of file extent.start extent.end)) → map span_of r.holes ≡ map span_at holes
+
+-- they are so of whichever function has this extent and, directly in it, functions of these extents
+abbrev pub AreHolesAt : List ℕ → Extent → List Extent → List Hole → Type 0
+AreHolesAt file extent within holes = (form : FuncForm) (items : Stmts) (i : Inner) → IsExtentOf file extent form items i → within ≡ extents_in i → AreHolesOf file extent i holes
 
 -- ---- what is known of each
 
@@ -88,7 +93,7 @@ pub data IsHeadOf : List Kind → Type 0 where
   single : IsHeadOf (kind.Name ∷ kind.Mark mark.ARROW ∷ [])
   listed : (params joint all : List Kind) → IsBalanced params → IsJointOf joint → all ≡ kind.Mark mark.OPEN_PAREN ∷ (params ++ kind.Mark mark.CLOSE_PAREN ∷ joint) → IsHeadOf all
 
--- the first so many kinds are those of a head
+-- the first n kinds are those of a head
 pub record IsHeadLength (ks : List Kind) (n : ℕ) : Type 0 where
   pub within : n ≤ length ks
   pub is : IsHeadOf (take n ks)

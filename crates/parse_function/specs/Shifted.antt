@@ -2,7 +2,7 @@
 use Rattle.std.specs.Prelude.{ℕ, ◌+◌, ◌<◌, ◌^◌, List, length, slice_index_or}
 use Rattle.unit_text.specs.declared.Point.{Point}
 
--- the point that stands so many bytes further after
+-- the point that stands n bytes further after
 abbrev pub shifted : ℕ → Point → Point
 shifted by p = record { code = p.code; start = p.start + by; end = p.end + by }
 

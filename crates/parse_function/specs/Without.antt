@@ -11,7 +11,7 @@ pub record IsPart (file : List ℕ) (from to : ℕ) : Type 0 where
   pub within : to ≤ length file
   pub utf8 : IsUtf8 (take (to - from) (drop from file))
 
--- Spans lie between two offsets, one after the other. What stands in front of each of them, and behind the last, is UTF-8.
+-- Spans lie between two offsets, one after the other. What stands in front of each of them, and after the last, is UTF-8.
 abbrev pub AreParts : List ℕ → ℕ → ℕ → List Span → Type 0
 AreParts file from to [] = IsPart file from to
 AreParts file from to (s ∷ spans) = IsPart file from s.from × (s.from ≤ s.to) × AreParts file s.to to spans

@@ -6,11 +6,10 @@
 
 ghost use Rattle.std.specs.Prelude.{◌≡◌, ◌-◌, ◌≤◌, ◌<◌, ◌^◌, ℕ, length, take, drop, IfOk, IfSome, IsTrue};
 ghost use Rattle.script_grammar.specs.Matching.{kinds_of, Pairs};
-ghost use Rattle.script_grammar.specs.Tree.{Stmts};
 ghost use Rattle.script_grammar.specs.declared.token.FuncForm.{FuncForm};
-ghost use Rattle.scope_analysis.specs.Functions.{Inner};
-ghost use Rattle.parse_function.specs.Extents.{IsExtentOf, IsFunctionExtent, extents_in};
-ghost use Rattle.parse_function.specs.Holes.{AreHolesOf, AreTokensOf, BeginsWithHead, EndsWithHead, IsFunctionAt, IsHeadLength, IsHole, IsKindAt, OpensWithParen};
+ghost use Rattle.parse_function.specs.Extents.{IsFunctionExtent};
+ghost use Rattle.parse_function.specs.Holes.{AreHolesAt, AreTokensOf, BeginsWithHead, EndsWithHead, IsFunctionAt, IsHole};
+ghost use Rattle.parse_function.specs.Holes.{IsHeadLength, IsKindAt, OpensWithParen};
 
 use crate::points::points_in;
 use parser_atoms::Atoms;
@@ -36,11 +35,11 @@ const WINDOWS: u32 = 19;
 /// What a first part of a function's text shows.
 #[derive(Clone, Copy)]
 enum Look {
-    /// What seems to be the opening brace of its body: the offset behind it.
+    /// What seems to be the opening brace of its body: the offset after it.
     Behind(u32),
     /// That there is none, or that none is found.
     Nowhere,
-    /// Nothing: about so many bytes are to be looked at.
+    /// Nothing: about n bytes are to be looked at.
     Further(u32),
 }
 
@@ -64,7 +63,7 @@ pub(crate) fn holes_in(
 ) -> Result<Vec<Hole>, AllocError>
     requires size { length file.now ≤ 16777215 }
     requires function { (form : FuncForm) × IsFunctionExtent file.now extent form inside.now }
-    ensures { IfOk result (λ holes. (form : FuncForm) (items : Stmts) (i : Inner) → IsExtentOf file.now extent form items i → inside.now ≡ extents_in i → AreHolesOf file.now extent i holes.items) }
+    ensures { IfOk result (λ holes. AreHolesAt file.now extent inside.now holes.items) }
 {
     let mut holes = Vec::new(alloc);
     for inner in inside {
@@ -102,7 +101,7 @@ fn hole_of(alloc: Global, file: &[u8], inner: Extent) -> Result<Option<Hole>, Al
     }
 }
 
-// The offset behind what seems to be the opening brace of a function's body. Time is linear in the bytes in front of it.
+// The offset after what seems to be the opening brace of a function's body. Time is linear in the bytes in front of it.
 fn brace_of(alloc: Global, file: &[u8], inner: Extent) -> Result<Option<u32>, AllocError>
     requires size { length file.now ≤ 16777215 }
     requires function { IsFunctionAt file.now inner }
@@ -118,7 +117,7 @@ fn brace_of(alloc: Global, file: &[u8], inner: Extent) -> Result<Option<u32>, Al
     Ok(None)
 }
 
-// What a first part of a function's text shows, which has about so many bytes.
+// What a first part of a function's text shows, which has about n bytes.
 fn look_at(alloc: Global, file: &[u8], inner: Extent, size: u32) -> Result<Look, AllocError>
     requires size { length file.now ≤ 16777215 }
     requires function { IsFunctionAt file.now inner }
@@ -148,7 +147,7 @@ fn larger(inner: Extent, to: u32, size: u32) -> Look
     }
 }
 
-// The offset behind the last `{` among so many bytes of a function's text, or else behind the first one after them.
+// The offset after the last `{` among n bytes of a function's text, or else after the first one after them.
 fn window(file: &[u8], inner: Extent, size: u32) -> Option<u32>
     requires size { length file.now ≤ 16777215 }
     requires function { IsFunctionAt file.now inner }

@@ -90,7 +90,7 @@ fn decoded(alloc: Global, bytes: &[u8]) -> Result<Vec<Point>, AllocError>
     }
 }
 
-// Sets points further after by so many bytes.
+// Sets points further after by n bytes.
 fn shift(points: &mut [Point], by: u32)
     requires { FitsShifted by points.old }
     ensures { points.new ≡ map (shifted by) points.old }

@@ -92,7 +92,7 @@ pub record TakesAlone {E B : Type 0} (i : Interpretation) (shows : E → Expr �
   pub ends : (head_of behind).kind ≡ kind.End
   pub shown : ShowFunc i shows shows_body node (fill_inside (body_at i) taken.part.tree)
 
--- The first tokens of these, so many, are no such part whole, or one of them is too deep. Where they are the most that begin
+-- The first tokens of these, n, are no such part whole, or one of them is too deep. Where they are the most that begin
 -- such a part, it is read nowhere: the longest list of tokens that begins one is none.
 pub record NoneWhole (P : Part) (from : List Lexeme) (count : ℕ) : Type 0 where
   pub none : (deep : List ℕ) → P (take count from) deep → ((j : ℕ) → get_or deep j 0 ≤ depth_limit) → ⊥

@@ -14,7 +14,7 @@ use parse_exprs::source::Source;
 use parse_exprs::state::State;
 use script_grammar::handler::Handler;
 
-/// Reads a braced body from its `{` up to the brace that closes it, inside so many nodes that count for the depth, and the
+/// Reads a braced body from its `{` up to the brace that closes it, inside n nodes that count for the depth, and the
 /// offset in bytes where that brace ends. Braced bodies inside it are put on the pending list.
 pub fn body<H: Handler>(
     state: &mut State<H>,

@@ -12,7 +12,7 @@ use parse_exprs::source::Source;
 use parse_exprs::state::State;
 use script_grammar::handler::Handler;
 
-/// Reads an AssignmentExpression from the present token on, with or without the operator `in`, inside so many nodes that count
+/// Reads an AssignmentExpression from the present token on, with or without the operator `in`, inside n nodes that count
 /// for the depth. The tokens that are read and the next one together begin no AssignmentExpression. Braced bodies in it are put on
 /// the pending list.
 pub fn assignment<H: Handler>(

@@ -17,7 +17,7 @@ use script_grammar::node::{NodeFunc, NodeFuncBody};
 use script_grammar::token::FuncForm;
 use script_grammar::tree::Ident;
 
-/// Reads a function that is no arrow, from its parameters on, inside so many nodes that count for the depth. Its braced body is
+/// Reads a function that is no arrow, from its parameters on, inside n nodes that count for the depth. Its braced body is
 /// passed over, and put on the pending list after those in its parameters.
 pub fn head<H: Handler>(
     state: &mut State<H>,

@@ -16,7 +16,7 @@ use Rattle.parse_script.specs.declared.file_tokens.FileTokens.{FileTokens}
 abbrev pub tokens_in : FileTokens → List Lexeme
 tokens_in file = map (lexeme_of file.known.get file.known.set file.texts.items) file.tokens.items
 
--- the atom that the token has, if it is of a kind that has one, is the index of one of so many texts
+-- the atom that the token has, if it is of a kind that has one, is the index of one of n texts
 abbrev pub AtomWithin : ℕ → Token → Type 0
 AtomWithin count t = has_atom t.kind ≡ true → t.value < count
 

@@ -106,7 +106,7 @@ told_items parts inside (Leaf l ∷ items) = told.leaf l (told_items parts insid
 told_items parts inside (Inner m ∷ items) =
     told.inner (kind_of (slice_get parts m)) (at_of (slice_get parts m)) (inside m) (told_items parts inside items)
 
--- what a region tells, with at most so many regions one in another
+-- what a region tells, with at most n regions one in another
 unfoldable pub told_region : ℕ → List Part → ℕ → told.Told ℕ
 told_region zero parts n = told.nothing
 told_region (suc room) parts n = told_items parts (told_region room parts) (items_of (slice_get parts n))

@@ -38,7 +38,7 @@ pub record IsInOrder (parts : List Part) (present : Option ℕ) : Type 0 where
   pub inside : IfSome present (λ n. n < length parts)
   pub few : length parts ≤ 2 ^ 32 - 2
 
--- what stands in a region, where so many regions may stand one in another
+-- what stands in a region, where n regions may stand one in another
 abbrev pub items_at : ℕ → List Part → ℕ → List Item
 items_at zero parts n = []
 items_at (suc room) parts n = items_of (slice_get parts n)

@@ -48,7 +48,7 @@ walk known named tops place depth (inner k at i t) =
     (place + length (names nat_eq known k i)) (deeper (begins named k) depth) i
     ++ walk known named tops (place + (length (names nat_eq known k i) + size known i)) depth t
 
--- of each of so many places, from one on, whether it is hit
+-- of each of n places, from one on, whether it is hit
 abbrev pub marks : List ℕ → ℕ → ℕ → List Bool
 marks hits p zero = []
 marks hits p (suc n) = has nat_eq p hits ∷ marks hits (p + 1) n

@@ -30,7 +30,7 @@ fn set_mark(marked: &mut Vec<bool>, place: usize)
     }
 }
 
-/// Of each of so many places whether it is hit.
+/// Of each of n places whether it is hit.
 fn mark(alloc: Global, hits: &[usize], count: usize) -> Result<Vec<bool>, AllocError>
     ensures { IfOk result (λ some. some.items ≡ marks hits.now 0 count) }
 {

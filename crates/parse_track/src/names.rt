@@ -62,7 +62,7 @@ pub fn direct_names(alloc: Global, asked: Asked, items: &[Item]) -> Result<Vec<I
         .collect(alloc)
 }
 
-/// What stands in a region, where so many regions may stand one in another; nothing where there is no room or no region.
+/// What stands in a region, where n regions may stand one in another; nothing where there is no room or no region.
 pub fn items_at(rows: &[Row], room: usize, region: u32) -> &[Item]
     ensures items { map item_of result.now ≡ items_at room (map row_of rows.now) region }
     ensures room { 0 < length result.now → 0 < room }

@@ -100,7 +100,7 @@ star_cut (c ∷ d ∷ cs) ds = by ((c == 0x2A) && ((d == 0x2F) && true)) (star_c
 
 -- Blanks.
 
--- a blank takes so many code points at least and so many at most
+-- a blank takes n code points at least and m at most
 abbrev pub BlankWithin : ℕ → ℕ → Option Blank → Type 0
 BlankWithin low high None = Unit {0}
 BlankWithin low high (Some b) = (low ≤ b.length) × (b.length ≤ high)

@@ -13,7 +13,7 @@ use Rattle.script_scanner.specs.Words.{word_at, word_index}
 use Rattle.script_scanner.specs.Tokens.{Piece, Text, name_kind, name_piece, valued_piece, number_piece}
 use Rattle.scan_laws.proofs.CutBlanks.{prefix_cut}
 
--- a token takes a code point at least, and so many at most
+-- a token takes a code point at least, and n at most
 abbrev pub PieceWithin : ℕ → Option Piece → Type 0
 PieceWithin high None = Unit {0}
 PieceWithin high (Some p) = (1 ≤ p.length) × (p.length ≤ high)

@@ -18,7 +18,7 @@ use Rattle.script_scanner.specs.Tokens.{string_piece, template_piece}
 use Rattle.scan_laws.proofs.CutBlanks.{prefix_cut, begins_cut, begins_long}
 use Rattle.scan_laws.proofs.CutNumbers.{PieceWithin, PieceCut}
 
--- A step takes so many code points at least and so many at most.
+-- A step takes n code points at least and m at most.
 
 abbrev StepWithin : ℕ → ℕ → Step → Type 0
 StepWithin low high (Add code n) = (low ≤ n) × (n ≤ high)

@@ -15,7 +15,7 @@ use Rattle.script_scanner.specs.Tokens.{Value, Text, Number, Nothing, Piece, nam
 use Rattle.scan_laws.proofs.Units.{either, units_add, front_short}
 use Rattle.scan_laws.proofs.Bodies.{BodyShort, body_short}
 
--- a value that is a text has so many units at most
+-- a value that is a text has n units at most
 abbrev pub ValueShort : ℕ → Value → Type 0
 ValueShort bound (Text units) = length units ≤ bound
 ValueShort bound (Number value) = Unit {0}

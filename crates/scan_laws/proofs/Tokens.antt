@@ -19,7 +19,7 @@ use Rattle.scan_laws.proofs.Pieces.{ValueShort, PieceShort, token_short}
 abbrev pub units_of : List Point → ℕ
 units_of ps = length (text_units (map code_of ps))
 
--- each of the tokens has a text of so many units at most, or none
+-- each of the tokens has a text of n units at most, or none
 abbrev pub LexedShort : ℕ → List Lexed → Type 0
 LexedShort bound ts = AllByRecursion (λ t. ValueShort bound t.value) ts
 

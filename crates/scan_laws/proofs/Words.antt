@@ -1,4 +1,4 @@
--- Where so many different texts stand in a list of no more texts, it has no others: what holds of each of them holds of all
+-- Where n different texts stand in a list of no more texts, it has no others: what holds of each of them holds of all
 -- its texts. So seven known words in a list of at most seven texts are all of its texts, and these are small.
 use Rattle.std.proofs.Common.{◌≡◌, ℕ, zero, suc, ◌≤◌, Bool, true, List, [], ◌∷◌, length, codes, Some, refl, sym, ap, ◌∙◌, subst, arith, true≢false}
 use Rattle.std.specs.Prelude.{◌&&◌, not, slice_get}

@@ -1,4 +1,4 @@
--- A text in front of a `{`: a blank that lies in it is the same whatever stands behind the brace.
+-- A text in front of a `{`: a blank that lies in it is the same whatever stands after the brace.
 use Rattle.std.proofs.Common.{◌≡◌, ℕ, suc, ◌+◌, ◌≤◌, List, [], ◌∷◌, ◌++◌, length, take, drop, subst, Bool, true, false, cond, refl, sym, ◌∙◌, ap, arith, Option, Some, None}
 use Rattle.std.specs.Prelude.{◌&&◌, ◌==◌, not, option_map}
 use Rattle.std.specs.List.{list_any, prefix_len}

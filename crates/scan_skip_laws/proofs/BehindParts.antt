@@ -1,4 +1,4 @@
--- A text in front of a `{`: a string or a template part that lies in it is the same whatever stands behind the brace.
+-- A text in front of a `{`: a string or a template part that lies in it is the same whatever stands after the brace.
 use Rattle.std.proofs.Common.{◌≡◌, ℕ, zero, suc, ◌+◌, ◌-◌, ◌<◌, ◌≤◌, List, [], ◌∷◌, ◌++◌, length, take, drop, Bool, true, false, cond, refl, sym, ◌∙◌, ap, subst, arith, Option, Some, None, length-drop, length-append}
 use Rattle.std.specs.Prelude.{◌&&◌, ◌||◌, ◌==◌, not, nat_lt, nat_le, option_map}
 use Rattle.std.specs.Char.{is_digit}
@@ -27,7 +27,7 @@ begins_long (m ∷ text) (c ∷ codes) e = let h : length text ≤ length codes 
     rest true b h = h
     rest false b h = absurd (cc)
 
--- A step takes so many code points at least and so many at most.
+-- A step takes n code points at least and m at most.
 
 abbrev StepWithin : ℕ → ℕ → Step → Type 0
 StepWithin low high (Add code n) = (low ≤ n) × (n ≤ high)

@@ -1,4 +1,4 @@
--- A text in front of a `{`: a token that lies in it is the same whatever stands behind the brace.
+-- A text in front of a `{`: a token that lies in it is the same whatever stands after the brace.
 use Rattle.std.proofs.Common.{◌≡◌, ℕ, suc, ◌+◌, ◌≤◌, List, [], ◌∷◌, ◌++◌, length, take, drop, Bool, true, false, cond, refl, sym, ◌∙◌, ap, ap₂, subst, arith, Option, Some, None}
 use Rattle.std.specs.Prelude.{◌&&◌, ◌||◌, ◌==◌, not, find, option_map}
 use Rattle.std.specs.Char.{is_digit}
@@ -141,7 +141,7 @@ number_front c xs ds es =
     ∙ ap (λ b. cond b None (valued_piece n.value n.length))
     (ap (is_spoiled_by n.is_decimal) (drop-append-le n.length (c ∷ xs) (0x7B ∷ es) le) ∙ spoiled_first n.is_decimal (drop n.length (c ∷ xs)) ds es ∙ sym (ap (is_spoiled_by n.is_decimal) (drop-append-le n.length (c ∷ xs) (0x7B ∷ ds) le)))
 
--- ---- marks, of which none has a brace behind its first code point
+-- ---- marks, of which none has a brace after its first code point
 
 -- each of these is looked for with the same answer
 abbrev SameMarks : (Mark → Bool) → (Mark → Bool) → List Mark → Type 0

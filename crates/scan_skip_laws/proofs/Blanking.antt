@@ -103,7 +103,7 @@ place_rises : (to b : ℕ) (xs ys : List Point) → RiseTo to b (xs ++ ys) → p
 place_rises to b [] ys h = omega arith
 place_rises to b (x ∷ xs) ys h = let up : suc x.start ≤ place to ys = highest to (suc x.start) xs ys h.1 in omega (arith, up)
 
--- a blank and what is behind it
+-- a blank and what is after it
 blank_place : (to from end : ℕ) (ps : List Point) → from ≤ end → place to ps ≡ end → place to (blank from end ++ ps) ≡ from
 blank_place to from end ps le e = by (nat_lt from end) refl
   where
@@ -131,7 +131,7 @@ reads_blank to from end braces ps ts r = by (nat_lt from end)
     by true = reads_before_blank to braces false (record { code = 0x20; start = from; end = end } ∷ ps) (record { length = 1; breaks = false }) ts refl r
     by false = r
 
--- ---- a token, and what is read behind it
+-- ---- a token, and what is read after it
 
 pub record AtToken (to : ℕ) (braces : List Brace) (after : Bool) (ps : List Point) (t : Lexed) (ts : List Lexed) : Type 0 where
   pub piece : Piece

@@ -1,4 +1,4 @@
--- What is a `{`, and which braces are open behind tokens that close those that they open.
+-- What is a `{`, and which braces are open after tokens that close those that they open.
 use Rattle.std.proofs.Common.{◌≡◌, ℕ, suc, ◌≤◌, List, [], ◌∷◌, ◌++◌, length, drop, codes, Bool, true, false, cond, refl, sym, ◌∙◌, ap, subst, Option, Some, None, append-nil}
 use Rattle.std.specs.Prelude.{◌&&◌, ◌||◌, ◌==◌, not, find, IfSome, option_map, nat_eq}
 use Rattle.std.specs.Char.{is_digit}

@@ -93,7 +93,7 @@ reads_before_blank to braces after ps b ts e r =
     let size : length (drop b.length ps) ≡ length ps - b.length = length-drop b.length ps in
     one_blank (length ps) to braces after ps b e ∙ same_fuel (length ps) (suc (length (drop b.length ps))) to braces (after || b.breaks) (drop b.length ps) (omega (arith, some, le, size)) (omega arith) ∙ r
 
--- a token at the front and those behind it
+-- a token at the front and those after it
 pub reads_after : (to : ℕ) (braces : List Brace) (after : Bool) (ps : List Point) (p : Piece) → blank_at (codes_of ps) ≡ None → token_at (in_substitution braces) (codes_of ps) ≡ Some p
     → tokens_within (suc (length ps)) to braces after ps ≡ lexed_at to after ps p ∷ tokens_within (suc (length (drop p.length ps))) to (braces_after braces p.kind) false (drop p.length ps)
 reads_after to braces after ps p e h =
@@ -111,7 +111,7 @@ abbrev pub open_after : List Brace → List Kind → List Brace
 open_after braces [] = braces
 open_after braces (k ∷ ks) = open_after (braces_after braces k) ks
 
--- The place where a token begins, after others, and what is read where other points stand behind it: what stands behind a brace
+-- The place where a token begins, after others, and what is read where other points stand after it: what stands after a brace
 -- does not matter to what is in front of it.
 pub record Walked (to : ℕ) (braces : List Brace) (after : Bool) (ps : List Point) (us : List Lexed) (t : Lexed) (ts : List Lexed) : Type 0 where
   pub before : List Point

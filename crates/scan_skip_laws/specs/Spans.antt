@@ -8,7 +8,7 @@ use Rattle.unit_text.specs.declared.Point.{Point}
 use Rattle.script_scanner.specs.Tokens.{Lexed, place}
 use Rattle.scan_laws.specs.Inside.{opens_or_closes_brace}
 
--- what is left out: from the offset behind an opening brace to that of the closing one
+-- what is left out: from the offset after an opening brace to that of the closing one
 pub record Span : Type 0 where
   pub from : ℕ
   pub to : ℕ
@@ -35,7 +35,7 @@ kinds_of = map (λ t. t.kind)
 abbrev pub CloseInside : List Kind → Type 0
 CloseInside ks = IsBalanced (filter (λ k. opens_or_closes_brace (part_of k)) ks)
 
--- The second tokens are the first ones without those in the spans: each begins behind a `{` and ends at the `}` that closes it, and
+-- The second tokens are the first ones without those in the spans: each begins after a `{` and ends at the `}` that closes it, and
 -- the tokens between close the braces that they open, and no other.
 pub data LeavesSpans : List Span → List Lexed → List Lexed → Type 0 where
   nothing : LeavesSpans [] [] []

@@ -49,7 +49,7 @@ pub record Within : Type 0 where
 abbrev pub inside : ScopeKind → List Declaration → List Text → Within → Within
 inside kind ds inner w = record { parent = Some w.next; next = w.next + 1; frame = frame_after kind w.frame (unplaced inner ds) }
 
--- after so many scopes
+-- after n scopes
 abbrev pub behind : ℕ → Within → Within
 behind count w = record { parent = w.parent; next = w.next + count; frame = w.frame }
 

@@ -28,7 +28,7 @@ pub record Added (texts : List (List ℕ)) (closed : List ClosedName) (old new :
 pub record Adds (texts : List (List ℕ)) (closed : List ClosedName) (old : List ScopeView) (from : ℕ) (new : List ScopeView) (to : ℕ) (part : List NamedScope) : Type 0 where
   pub adds : (later : List NamedScope) → ScopesFit part → length old + length part < 2 ^ 32 → named_left texts closed from ≡ closed_from (length old) (part ++ later) → Added texts closed old new to part later
 
--- Where these scopes stand, so many of them were added.
+-- Where these scopes stand, n of them were added.
 pub record Scoped (texts : List (List ℕ)) (closed : List ClosedName) (around : Around) (old : List ScopeView) (from : ℕ) (new : List ScopeView) (to : ℕ) (count : ℕ) (part : Within → List NamedScope) : Type 0 where
   pub counted : length new ≡ length old + count
   pub added : Adds texts closed old from new to (part (within around (length old)))

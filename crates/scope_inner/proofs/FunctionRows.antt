@@ -29,7 +29,7 @@ use Rattle.emit_stmts.specs.Declares.{declares}
 use Rattle.emit_stmts.specs.Frames.{scope_at, chain_link, global_link}
 use Rattle.emit_stmts.specs.ScriptCode.{script_in}
 use Rattle.scope_inner.specs.declared.places.Walk.{Walk}
-use Rattle.scope_inner.specs.declared.sites.InnerSite.{InnerSite}
+use Rattle.scope_inner.specs.declared.sites.FunctionSite.{FunctionSite}
 use Rattle.scope_inner.specs.Finding.{chain_around, FindsBy, FindsAt}
 use Rattle.scope_inner.specs.FunctionSites.{AreFunctionSites, AreScriptSites}
 use Rattle.scope_inner.specs.OwnKinds.{is_of_name, is_of_vars, is_of_top}
@@ -57,7 +57,7 @@ script_row {start} {new} texts scopes chain ss chain_is none next_is x bodies st
     subst (λ (n : ℕ). n + count_stmts m ≤ length all → map (sited i) new.sites.items ≡ map (sited i) start.sites.items ++ map (sited_in all []) (inner n)) next_is
     (λ fits. (x.all.finds i).found [] (0 ∷ []) fits (chain_is ∙ ap (λ (l : List NamedScope). chain_link (scope_at l 0) ∷ []) (sym stand)))
     (as_many stand (of_script m))
-    ∙ ap₂ (λ (l : List InnerSite) (sc : List NamedScope). map (sited i) l ++ map (sited_in sc []) (inner_script m)) none stand
+    ∙ ap₂ (λ (l : List FunctionSite) (sc : List NamedScope). map (sited i) l ++ map (sited_in sc []) (inner_script m)) none stand
   where
     i : Interpretation
     i = under texts bodies
@@ -122,7 +122,7 @@ tree_is i f body has =
     func_of-fields i f
     ∙ ap (λ (o : Option Body). function (out-Func f).form (out-Func f).start (out-Func f).end (maybe_named i (out-Func f).name) (params_of (map (param_of i) (out-Func f).params.items)) (out-Func f).comma (out-Func f).bare (unwrap_or o (BracedBody (i.bodies (out-Func f).start)))) has
 
-pub function_row : {new : Walk} {sites : Vec InnerSite Global} {j l : ℕ} {has_name : Bool} {named own : List LinkView} (texts : List (List ℕ)) (scopes : List ScopeView) (chain : List LinkView) (f : Func) (ps : List Param) (start : Walk) (around inside : Spot)
+pub function_row : {new : Walk} {sites : Vec FunctionSite Global} {j l : ℕ} {has_name : Bool} {named own : List LinkView} (texts : List (List ℕ)) (scopes : List ScopeView) (chain : List LinkView) (f : Func) (ps : List Param) (start : Walk) (around inside : Spot)
     → start.sites.items ≡ [] → start.next ≡ 0
     → has_name ≡ is_of_name (scope_in (spot_in texts scopes chain) 0).kind → (start.next + entered_count has_name ≤ length (spot_in texts scopes chain).scopes → j ≡ start.next + entered_count has_name) → named ≡ entered (spot_in texts scopes chain) start.next has_name → around ≡ inside_spot named (spot_in texts scopes chain)
     → (j + 1 ≤ length around.scopes → l ≡ j + 1) → own ≡ entered around j true → inside ≡ inside_spot own around
@@ -130,7 +130,7 @@ pub function_row : {new : Walk} {sites : Vec InnerSite Global} {j l : ℕ} {has_
     → BodyFinds inside (record { sites = sites; next = l }) new (out-Func f).body → AreFunctionSites texts scopes chain f new.sites.items
 function_row {new} {sites} {j} {l} {has_name} {named} {own} texts scopes chain f ps start around inside none first_is name_is name_next name_chain around_is own_next own_chain inside_is ps_are x y bodies body kind name has stand =
     joined (sited_in all chain) (map (sited i) start.sites.items) (inner_params params (params_around kind name)) (inner_body (has_initializer params) body (scope_count callee + 1) (params_around kind name)) in_params in_body_found
-    ∙ (ap (λ (s : List InnerSite). map (sited i) s ++ map (sited_in all chain) (inner_function kind name tree)) none
+    ∙ (ap (λ (s : List FunctionSite). map (sited i) s ++ map (sited_in all chain) (inner_function kind name tree)) none
     ∙ ap₂ (λ (sc : List NamedScope) (t : Function). map (sited_in sc chain) (inner_function kind name t)) stand (sym tree_same))
   where
     i : Interpretation

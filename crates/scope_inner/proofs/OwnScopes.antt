@@ -107,7 +107,7 @@ body_top initialized (BracedBody items) w =
 
 -- ---- after the function's own scope and that of its name
 
--- so many more scopes
+-- n more scopes
 behind_own : (test : ScopeKind → Bool) (callee ds more : List Declaration) (one two : List Text) (content : Within → List NamedScope) (flag : Bool) (w : Within) → ((v : Within) → test (scope_at (content v) (scope_count more)).kind ≡ flag)
     → test (scope_at (scope_around scope.StrictNamedLambda callee one (scope_and scope.Function ds two content) w) (scope_count callee + 1 + scope_count more)).kind ≡ flag
 behind_own test [] ds [] one two content flag w is = is (inside scope.Function ds two w)

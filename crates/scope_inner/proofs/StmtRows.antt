@@ -8,7 +8,7 @@ use Rattle.scope_analysis.specs.Functions.{Inner, enclosed}
 use Rattle.scope_analysis.specs.Scopes.{scope_count}
 use Rattle.emit_stmts.specs.Declares.{declares}
 use Rattle.emit_stmts.specs.Frames.{scope_at, chain_link}
-use Rattle.scope_inner.specs.declared.sites.InnerSite.{InnerSite}
+use Rattle.scope_inner.specs.declared.sites.FunctionSite.{FunctionSite}
 use Rattle.scope_inner.specs.Finding.{chain_around, FindsBy, FindsAt, FindsIn}
 use Rattle.scope_inner.specs.Sites.{Sited, sited, sited_in}
 use Rattle.scope_inner.specs.Spots.{Spot, inside_spot, entered, entered_count}
@@ -19,7 +19,7 @@ use Rattle.scope_inner.proofs.FindRows.{found_none}
 pub joined : (f : Inner → Sited) (start : List Sited) {mid end : List Sited} (xs ys : List Inner) → mid ≡ start ++ map f xs → end ≡ mid ++ map f ys → end ≡ start ++ map f (xs ++ ys)
 joined f start xs ys one two = two ∙ (ap (λ (l : List Sited). l ++ map f ys) one ∙ (append_assoc start (map f xs) (map f ys) ∙ ap (λ (l : List Sited). start ++ l) (sym (map-append f xs ys))))
 
-pub both_at : {i : Interpretation} {p : Spot} {a b d : List InnerSite} {k j l c e : ℕ} {x y : ℕ → List ℕ → List Inner} → FindsAt i p a b k j c x → FindsAt i p b d j l e y → FindsAt i p a d k l (c + e) (λ n r. x n r ++ y (n + c) r)
+pub both_at : {i : Interpretation} {p : Spot} {a b d : List FunctionSite} {k j l c e : ℕ} {x y : ℕ → List ℕ → List Inner} → FindsAt i p a b k j c x → FindsAt i p b d j l e y → FindsAt i p a d k l (c + e) (λ n r. x n r ++ y (n + c) r)
 both_at {i} {p} {a} {b} {d} {k} {j} {l} {c} {e} {x} {y} f g = record {
   counted = λ small.
       let one = f.counted (omega (arith, small)) in
@@ -31,10 +31,10 @@ both_at {i} {p} {a} {b} {d} {k} {j} {l} {c} {e} {x} {y} f g = record {
       (subst (λ (n : ℕ). map (sited i) d ≡ map (sited i) b ++ map (sited_in p.scopes outer) (y n around)) one (g.found outer around (omega (arith, small, one)) is));
 }
 
-pub both : {p : Spot} {a b d : List InnerSite} {k j l : ℕ} {c e : Interpretation → ℕ} {x y : Interpretation → ℕ → List ℕ → List Inner} → FindsIn p a b k j c x → FindsIn p b d j l e y → FindsIn p a d k l (λ i. c i + e i) (λ i n r. x i n r ++ y i (n + c i) r)
+pub both : {p : Spot} {a b d : List FunctionSite} {k j l : ℕ} {c e : Interpretation → ℕ} {x y : Interpretation → ℕ → List ℕ → List Inner} → FindsIn p a b k j c x → FindsIn p b d j l e y → FindsIn p a d k l (λ i. c i + e i) (λ i n r. x i n r ++ y i (n + c i) r)
 both f g = record { finds = λ i. both_at (f.finds i) (g.finds i) }
 
-pub found_in : {p : Spot} {a b : List InnerSite} {k l : ℕ} {c e : Interpretation → ℕ} {x y : Interpretation → ℕ → List ℕ → List Inner} → ((i : Interpretation) → c i ≡ e i) → ((i : Interpretation) (n : ℕ) (r : List ℕ) → x i n r ≡ y i n r) → FindsIn p a b k l c x → FindsIn p a b k l e y
+pub found_in : {p : Spot} {a b : List FunctionSite} {k l : ℕ} {c e : Interpretation → ℕ} {x y : Interpretation → ℕ → List ℕ → List Inner} → ((i : Interpretation) → c i ≡ e i) → ((i : Interpretation) (n : ℕ) (r : List ℕ) → x i n r ≡ y i n r) → FindsIn p a b k l c x → FindsIn p a b k l e y
 found_in {p} {a} {b} {k} {c = c} {e} {x} {y} same_count same f = record {
   finds = λ i. record {
     counted = λ small.
@@ -49,7 +49,7 @@ found_in {p} {a} {b} {k} {c = c} {e} {x} {y} same_count same f = record {
 
 -- ---- parts that enter no scope
 
-pub plainly : {p : Spot} {a b : List InnerSite} {k : ℕ} {x : Interpretation → List ℕ → List Inner} → FindsBy a b p.chain x → FindsIn p a b k k (λ i. 0) (λ i n r. x i r)
+pub plainly : {p : Spot} {a b : List FunctionSite} {k : ℕ} {x : Interpretation → List ℕ → List Inner} → FindsBy a b p.chain x → FindsIn p a b k k (λ i. 0) (λ i n r. x i r)
 plainly {p} {k = k} f = record {
   finds = λ i. record {
     counted = λ small. sym (add-zero k);
@@ -57,14 +57,14 @@ plainly {p} {k = k} f = record {
   };
 }
 
-pub nothing : (p : Spot) (a : List InnerSite) (k : ℕ) → FindsIn p a a k k (λ i. 0) (λ i n r. [])
+pub nothing : (p : Spot) (a : List FunctionSite) (k : ℕ) → FindsIn p a a k k (λ i. 0) (λ i n r. [])
 nothing p a k = plainly (found_none a p.chain (λ i r. refl))
 
 -- before others, and after
-pub before : {p : Spot} {a b d : List InnerSite} {k l : ℕ} {c : Interpretation → ℕ} {x : Interpretation → List ℕ → List Inner} {y : Interpretation → ℕ → List ℕ → List Inner} → FindsBy a b p.chain x → FindsIn p b d k l c y → FindsIn p a d k l c (λ i n r. x i r ++ y i n r)
+pub before : {p : Spot} {a b d : List FunctionSite} {k l : ℕ} {c : Interpretation → ℕ} {x : Interpretation → List ℕ → List Inner} {y : Interpretation → ℕ → List ℕ → List Inner} → FindsBy a b p.chain x → FindsIn p b d k l c y → FindsIn p a d k l c (λ i n r. x i r ++ y i n r)
 before {c = c} {x} {y} f g = found_in (λ i. zero-add (c i)) (λ i n r. ap (λ (m : ℕ). x i r ++ y i m r) (add-zero n)) (both (plainly f) g)
 
-pub behind : {p : Spot} {a b d : List InnerSite} {k l : ℕ} {c : Interpretation → ℕ} {x : Interpretation → ℕ → List ℕ → List Inner} {y : Interpretation → List ℕ → List Inner} → FindsIn p a b k l c x → FindsBy b d p.chain y → FindsIn p a d k l c (λ i n r. x i n r ++ y i r)
+pub behind : {p : Spot} {a b d : List FunctionSite} {k l : ℕ} {c : Interpretation → ℕ} {x : Interpretation → ℕ → List ℕ → List Inner} {y : Interpretation → List ℕ → List Inner} → FindsIn p a b k l c x → FindsBy b d p.chain y → FindsIn p a d k l c (λ i n r. x i n r ++ y i r)
 behind {c = c} f g = found_in (λ i. add-zero (c i)) (λ i n r. refl) (both f (plainly g))
 
 -- ---- scopes
@@ -80,7 +80,7 @@ inside_of p true [] is next chain_is = absurd (true≢false is)
 inside_of p false (d ∷ ds) is next chain_is = absurd (true≢false (sym is))
 inside_of p {k} true (d ∷ ds) is next chain_is = record { next = next; around = λ outer around same. chain_is ∙ ap (λ (c : List LinkView). chain_link (scope_at p.scopes k) ∷ c) same }
 
-pub scoped_at : {i : Interpretation} {p : Spot} {a b : List InnerSite} {k j l c : ℕ} {x : ℕ → List ℕ → List Inner} {chain : List LinkView} (ds : List Declaration) → Inside p k j chain ds → FindsAt i (inside_spot chain p) a b j l c x → FindsAt i p a b k l (scope_count ds + c) (λ n r. x (n + scope_count ds) (enclosed ds n r))
+pub scoped_at : {i : Interpretation} {p : Spot} {a b : List FunctionSite} {k j l c : ℕ} {x : ℕ → List ℕ → List Inner} {chain : List LinkView} (ds : List Declaration) → Inside p k j chain ds → FindsAt i (inside_spot chain p) a b j l c x → FindsAt i p a b k l (scope_count ds + c) (λ n r. x (n + scope_count ds) (enclosed ds n r))
 scoped_at {i} {p} {a} {b} {k} {j} {l} {c} {x} ds s f = record {
   counted = λ small.
       let one = s.next (omega (arith, small)) in
@@ -92,24 +92,24 @@ scoped_at {i} {p} {a} {b} {k} {j} {l} {c} {x} ds s f = record {
       (f.found outer (enclosed ds k around) (omega (arith, small, one)) (s.around outer around is));
 }
 
-pub moved : {p q : Spot} {a b : List InnerSite} {k l : ℕ} {c : Interpretation → ℕ} {x : Interpretation → ℕ → List ℕ → List Inner} → q ≡ p → FindsIn q a b k l c x → FindsIn p a b k l c x
+pub moved : {p q : Spot} {a b : List FunctionSite} {k l : ℕ} {c : Interpretation → ℕ} {x : Interpretation → ℕ → List ℕ → List Inner} → q ≡ p → FindsIn q a b k l c x → FindsIn p a b k l c x
 moved {a = a} {b} {k} {l} {c} {x} is f = subst (λ (s : Spot). FindsIn s a b k l c x) is f
 
-pub scoped : {p : Spot} {a b : List InnerSite} {k j l : ℕ} {flag : Bool} {c : Interpretation → ℕ} {x : Interpretation → ℕ → List ℕ → List Inner} {chain : List LinkView} (ds : Interpretation → List Declaration) → ((i : Interpretation) → flag ≡ declares (ds i))
+pub scoped : {p : Spot} {a b : List FunctionSite} {k j l : ℕ} {flag : Bool} {c : Interpretation → ℕ} {x : Interpretation → ℕ → List ℕ → List Inner} {chain : List LinkView} (ds : Interpretation → List Declaration) → ((i : Interpretation) → flag ≡ declares (ds i))
     → (k + entered_count flag ≤ length p.scopes → j ≡ k + entered_count flag) → chain ≡ entered p k flag → FindsIn (inside_spot chain p) a b j l c x
     → FindsIn p a b k l (λ i. scope_count (ds i) + c i) (λ i n r. x i (n + scope_count (ds i)) (enclosed (ds i) n r))
 scoped {p} {flag = flag} ds is next chain_is f = record { finds = λ i. scoped_at (ds i) (inside_of p flag (ds i) (is i) next chain_is) (f.finds i) }
 
 -- ---- lists: what was found, and what is left
 
-pub record GoingIn (p : Spot) (start now : List InnerSite) (k next : ℕ) (count_all count_left : Interpretation → ℕ) (all left : Interpretation → ℕ → List ℕ → List Inner) : Type 0 where
+pub record GoingIn (p : Spot) (start now : List FunctionSite) (k next : ℕ) (count_all count_left : Interpretation → ℕ) (all left : Interpretation → ℕ → List ℕ → List Inner) : Type 0 where
   pub count : Interpretation → ℕ
   pub done : Interpretation → ℕ → List ℕ → List Inner
   pub finds : FindsIn p start now k next count done
   pub counts : (i : Interpretation) → count i + count_left i ≡ count_all i
   pub is : (i : Interpretation) (n : ℕ) (r : List ℕ) → done i n r ++ left i (n + count i) r ≡ all i n r
 
-pub going_in : (p : Spot) (now : List InnerSite) (k : ℕ) (count : Interpretation → ℕ) (all : Interpretation → ℕ → List ℕ → List Inner) → GoingIn p now now k k count count all all
+pub going_in : (p : Spot) (now : List FunctionSite) (k : ℕ) (count : Interpretation → ℕ) (all : Interpretation → ℕ → List ℕ → List Inner) → GoingIn p now now k k count count all all
 going_in p now k count all = record {
   count = λ i. 0;
   done = λ i n r. [];
@@ -118,7 +118,7 @@ going_in p now k count all = record {
   is = λ i n r. ap (λ (m : ℕ). all i m r) (add-zero n);
 }
 
-pub gone_on : {p : Spot} {start now later : List InnerSite} {k next l : ℕ} {count_all count_left count_later c : Interpretation → ℕ} {all left rest y : Interpretation → ℕ → List ℕ → List Inner} → FindsIn p now later next l c y → ((i : Interpretation) → count_left i ≡ c i + count_later i)
+pub gone_on : {p : Spot} {start now later : List FunctionSite} {k next l : ℕ} {count_all count_left count_later c : Interpretation → ℕ} {all left rest y : Interpretation → ℕ → List ℕ → List Inner} → FindsIn p now later next l c y → ((i : Interpretation) → count_left i ≡ c i + count_later i)
     → ((i : Interpretation) (n : ℕ) (r : List ℕ) → left i n r ≡ y i n r ++ rest i (n + c i) r) → GoingIn p start now k next count_all count_left all left → GoingIn p start later k l count_all count_later all rest
 gone_on {count_left = count_left} {count_later} {c} {left = left} {rest} {y} f counts split g = record {
   count = λ i. g.count i + c i;
@@ -136,7 +136,7 @@ gone_on {count_left = count_left} {count_later} {c} {left = left} {rest} {y} f c
     shift : (n m k : ℕ) → n + (m + k) ≡ n + m + k
     shift n m k = omega arith
 
-pub gone : {p : Spot} {start now : List InnerSite} {k next : ℕ} {count_all count_left : Interpretation → ℕ} {all left : Interpretation → ℕ → List ℕ → List Inner} → ((i : Interpretation) → count_left i ≡ 0) → ((i : Interpretation) (n : ℕ) (r : List ℕ) → left i n r ≡ [])
+pub gone : {p : Spot} {start now : List FunctionSite} {k next : ℕ} {count_all count_left : Interpretation → ℕ} {all left : Interpretation → ℕ → List ℕ → List Inner} → ((i : Interpretation) → count_left i ≡ 0) → ((i : Interpretation) (n : ℕ) (r : List ℕ) → left i n r ≡ [])
     → GoingIn p start now k next count_all count_left all left → FindsIn p start now k next count_all all
 gone no_count none g =
     found_in

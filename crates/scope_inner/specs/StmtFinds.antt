@@ -14,7 +14,7 @@ use Rattle.scope_analysis.specs.Functions.{Inner, enclosed, inner_stmt, inner_st
 use Rattle.scope_analysis.specs.Scopes.{scope_count, catch_names, count_stmt, count_stmts, count_clauses, body_var_names}
 use Rattle.emit_stmts.specs.Declares.{declares}
 use Rattle.scope_inner.specs.declared.places.Walk.{Walk}
-use Rattle.scope_inner.specs.declared.sites.InnerSite.{InnerSite}
+use Rattle.scope_inner.specs.declared.sites.FunctionSite.{FunctionSite}
 use Rattle.scope_inner.specs.Finding.{chain_around, FindsIn}
 use Rattle.scope_inner.specs.OwnKinds.{is_of_vars, is_of_top}
 use Rattle.scope_inner.specs.Sites.{sited, sited_in}
@@ -100,7 +100,7 @@ pub record BodyStands (scopes : List NamedScope) (number : ℕ) (initialized : B
   pub numbered : number + body_count initialized body ≤ length scopes
 
 -- the functions directly in such a body were found
-abbrev pub InBody : Interpretation → Spot → List InnerSite → List InnerSite → ℕ → Bool → model.Body → Type 0
+abbrev pub InBody : Interpretation → Spot → List FunctionSite → List FunctionSite → ℕ → Bool → model.Body → Type 0
 InBody i p old new number initialized body =
     (outer : List LinkView) (around : List ℕ) → p.chain ≡ chain_around p.scopes outer around
     → map (sited i) new ≡ map (sited i) old ++ map (sited_in p.scopes outer) (inner_body initialized body number around)

@@ -8,7 +8,7 @@ ghost use Rattle.scope_analysis.specs.DeclaredNames.{function_name};
 ghost use Rattle.scope_analysis.specs.Functions as defined;
 ghost use Rattle.scope_inner.specs.Finding.{FindsBy};
 
-use crate::sites::InnerSite;
+use crate::sites::FunctionSite;
 use script_grammar::token::FuncForm;
 use script_grammar::tree::{Args, Expr, Func, Key, Operand, Prop, Tail, TemplatePart};
 use std::alloc::AllocError;
@@ -16,7 +16,7 @@ use stencil_data::{Chain, FuncKind};
 
 // A function of this kind and name, under this chain.
 fn find_function<'a>(
-    found: &mut Vec<InnerSite<'a>>,
+    found: &mut Vec<FunctionSite<'a>>,
     func: &'a Func,
     kind: FuncKind,
     name: Option<u32>,
@@ -24,7 +24,7 @@ fn find_function<'a>(
 ) -> Result<(), AllocError>
     ensures { OnOk result (FindsBy found.old.items found.new.items chain.now (λ i around. record { func = func_of i func.now; kind = kind; name = option_map (text_of i) name; around = around } ∷ [])) }
 {
-    found.push(InnerSite {
+    found.push(FunctionSite {
         func,
         kind,
         name,
@@ -53,7 +53,7 @@ fn expression_kind(form: FuncForm) -> FuncKind
 
 /// A function of this kind with the name that is written in it.
 pub fn find_named<'a>(
-    found: &mut Vec<InnerSite<'a>>,
+    found: &mut Vec<FunctionSite<'a>>,
     func: &'a Func,
     kind: FuncKind,
     chain: &Chain,
@@ -65,7 +65,7 @@ pub fn find_named<'a>(
 
 // A function of this kind without a name of its own.
 fn find_nameless<'a>(
-    found: &mut Vec<InnerSite<'a>>,
+    found: &mut Vec<FunctionSite<'a>>,
     func: &'a Func,
     kind: FuncKind,
     chain: &Chain,
@@ -77,7 +77,7 @@ fn find_nameless<'a>(
 
 // A function expression or an arrow.
 fn find_expression<'a>(
-    found: &mut Vec<InnerSite<'a>>,
+    found: &mut Vec<FunctionSite<'a>>,
     func: &'a Func,
     chain: &Chain,
 ) -> Result<(), AllocError>
@@ -89,7 +89,7 @@ fn find_expression<'a>(
 /// The functions directly in an expression, in the order of the source.
 #[cycle(finding)]
 pub fn find_expr<'a>(
-    found: &mut Vec<InnerSite<'a>>,
+    found: &mut Vec<FunctionSite<'a>>,
     tree: &'a Expr,
     chain: &Chain,
 ) -> Result<(), AllocError>
@@ -143,7 +143,7 @@ pub fn find_expr<'a>(
 // Expressions, as the arguments of a call.
 #[cycle(finding)]
 fn find_exprs<'a>(
-    found: &mut Vec<InnerSite<'a>>,
+    found: &mut Vec<FunctionSite<'a>>,
     items: &'a [Expr],
     chain: &Chain,
 ) -> Result<(), AllocError>
@@ -158,7 +158,7 @@ fn find_exprs<'a>(
 // The arguments of a `new`.
 #[cycle(finding)]
 fn find_args<'a>(
-    found: &mut Vec<InnerSite<'a>>,
+    found: &mut Vec<FunctionSite<'a>>,
     args: &'a Option<Args>,
     chain: &Chain,
 ) -> Result<(), AllocError>
@@ -173,7 +173,7 @@ fn find_args<'a>(
 // The values in a template.
 #[cycle(finding)]
 fn find_parts<'a>(
-    found: &mut Vec<InnerSite<'a>>,
+    found: &mut Vec<FunctionSite<'a>>,
     parts: &'a [TemplatePart],
     chain: &Chain,
 ) -> Result<(), AllocError>
@@ -188,7 +188,7 @@ fn find_parts<'a>(
 // The items of an array.
 #[cycle(finding)]
 fn find_items<'a>(
-    found: &mut Vec<InnerSite<'a>>,
+    found: &mut Vec<FunctionSite<'a>>,
     items: &'a [Option<Expr>],
     chain: &Chain,
 ) -> Result<(), AllocError>
@@ -203,7 +203,7 @@ fn find_items<'a>(
 /// The functions directly in an expression that may be left out.
 #[cycle(finding)]
 pub fn find_maybe<'a>(
-    found: &mut Vec<InnerSite<'a>>,
+    found: &mut Vec<FunctionSite<'a>>,
     value: &'a Option<Expr>,
     chain: &Chain,
 ) -> Result<(), AllocError>
@@ -218,7 +218,7 @@ pub fn find_maybe<'a>(
 // The operands of a binary list after the first.
 #[cycle(finding)]
 fn find_operands<'a>(
-    found: &mut Vec<InnerSite<'a>>,
+    found: &mut Vec<FunctionSite<'a>>,
     rest: &'a [Operand],
     chain: &Chain,
 ) -> Result<(), AllocError>
@@ -233,7 +233,7 @@ fn find_operands<'a>(
 // The members and calls after an expression.
 #[cycle(finding)]
 fn find_tails<'a>(
-    found: &mut Vec<InnerSite<'a>>,
+    found: &mut Vec<FunctionSite<'a>>,
     tails: &'a [Tail],
     chain: &Chain,
 ) -> Result<(), AllocError>
@@ -247,7 +247,7 @@ fn find_tails<'a>(
 
 #[cycle(finding)]
 fn find_tail<'a>(
-    found: &mut Vec<InnerSite<'a>>,
+    found: &mut Vec<FunctionSite<'a>>,
     tail: &'a Tail,
     chain: &Chain,
 ) -> Result<(), AllocError>
@@ -262,7 +262,7 @@ fn find_tail<'a>(
 
 #[cycle(finding)]
 fn find_key<'a>(
-    found: &mut Vec<InnerSite<'a>>,
+    found: &mut Vec<FunctionSite<'a>>,
     key: &'a Key,
     chain: &Chain,
 ) -> Result<(), AllocError>
@@ -278,7 +278,7 @@ fn find_key<'a>(
 
 #[cycle(finding)]
 fn find_prop<'a>(
-    found: &mut Vec<InnerSite<'a>>,
+    found: &mut Vec<FunctionSite<'a>>,
     prop: &'a Prop,
     chain: &Chain,
 ) -> Result<(), AllocError>
@@ -312,7 +312,7 @@ fn find_prop<'a>(
 // The properties of an object.
 #[cycle(finding)]
 fn find_props<'a>(
-    found: &mut Vec<InnerSite<'a>>,
+    found: &mut Vec<FunctionSite<'a>>,
     props: &'a [Prop],
     chain: &Chain,
 ) -> Result<(), AllocError>

@@ -7,7 +7,7 @@ ghost use Rattle.scope_inner.specs.StmtFinds.{BodyFinds, BracedFinds};
 use crate::exprs::find_expr;
 use crate::parts::find_params;
 use crate::places::{Place, Walk, enter, is_of_name, is_of_top, is_of_vars, within};
-use crate::sites::InnerSite;
+use crate::sites::FunctionSite;
 use crate::stmts::find_stmts;
 use script_grammar::tree::{Func, FuncBody, Stmt};
 use std::alloc::{AllocError, Global};
@@ -20,7 +20,7 @@ pub fn script_sites<'a>(
     items: &'a [Stmt],
     scopes: &[ScopeData],
     texts: &[Text],
-) -> Result<Vec<InnerSite<'a>>, AllocError>
+) -> Result<Vec<FunctionSite<'a>>, AllocError>
     ensures { IfOk result (λ sites. AreScriptSites texts.now scopes.now items.now sites.items) }
 {
     let chain = Chain::global(alloc)?;
@@ -72,7 +72,7 @@ pub fn function_sites<'a>(
     scopes: &[ScopeData],
     chain: &Chain,
     texts: &[Text],
-) -> Result<Vec<InnerSite<'a>>, AllocError>
+) -> Result<Vec<FunctionSite<'a>>, AllocError>
     ensures { IfOk result (λ sites. AreFunctionSites texts.now scopes.now chain.now func.now sites.items) }
 {
     let outside = Place {

@@ -19,4 +19,4 @@ mod sites;
 mod stmts;
 
 pub use functions::{function_sites, script_sites};
-pub use sites::{InnerSite, extents_of};
+pub use sites::{FunctionSite, extents_of};

@@ -7,14 +7,14 @@ ghost use Rattle.scope_analysis.specs.Functions as defined;
 ghost use Rattle.scope_inner.specs.Finding.{FindsBy};
 
 use crate::exprs::{find_expr, find_maybe};
-use crate::sites::InnerSite;
+use crate::sites::FunctionSite;
 use script_grammar::tree::{Bind, Each, Init, Param};
 use std::alloc::AllocError;
 use stencil_data::Chain;
 
 /// The functions directly in the initializers of names that are declared.
 pub fn find_binds<'a>(
-    found: &mut Vec<InnerSite<'a>>,
+    found: &mut Vec<FunctionSite<'a>>,
     binds: &'a [Bind],
     chain: &Chain,
 ) -> Result<(), AllocError>
@@ -28,7 +28,7 @@ pub fn find_binds<'a>(
 
 /// The functions directly in the initializers of parameters.
 pub fn find_params<'a>(
-    found: &mut Vec<InnerSite<'a>>,
+    found: &mut Vec<FunctionSite<'a>>,
     params: &'a [Param],
     chain: &Chain,
 ) -> Result<(), AllocError>
@@ -42,7 +42,7 @@ pub fn find_params<'a>(
 
 /// The functions directly in what stands first in the head of a `for`.
 pub fn find_init<'a>(
-    found: &mut Vec<InnerSite<'a>>,
+    found: &mut Vec<FunctionSite<'a>>,
     init: &'a Init,
     chain: &Chain,
 ) -> Result<(), AllocError>
@@ -57,7 +57,7 @@ pub fn find_init<'a>(
 
 /// The functions directly in what stands before `in` in the head of a `for`.
 pub fn find_each<'a>(
-    found: &mut Vec<InnerSite<'a>>,
+    found: &mut Vec<FunctionSite<'a>>,
     each: &'a Each,
     chain: &Chain,
 ) -> Result<(), AllocError>

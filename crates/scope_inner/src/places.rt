@@ -3,7 +3,7 @@ ghost use Rattle.std.specs.Prelude.{◌≡◌, ◌+◌, ◌≤◌, length, OnOk,
 ghost use Rattle.scope_inner.specs.OwnKinds as own;
 ghost use Rattle.scope_inner.specs.Spots.{spot_of, inside_spot, scope_in, entered, entered_count};
 
-use crate::sites::InnerSite;
+use crate::sites::FunctionSite;
 use emit_stmts::links::scope_link;
 use std::alloc::{AllocError, Global};
 use stencil_data::{Chain, ScopeData, ScopeKind, Text};
@@ -20,7 +20,7 @@ pub struct Place<'a> {
 /// The functions that were found so far, and the number of the next scope.
 #[derive(Drop)]
 pub struct Walk<'a> {
-    pub sites: Vec<InnerSite<'a>>,
+    pub sites: Vec<FunctionSite<'a>>,
     pub next: usize,
 }
 

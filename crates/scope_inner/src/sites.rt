@@ -14,7 +14,7 @@ use stencil_data::{Chain, Extent, FuncKind};
 /// A function that stands directly in a script or in another function: how it is written, the atom of its name, and the
 /// chain of the scopes around it.
 #[derive(Drop)]
-pub struct InnerSite<'a> {
+pub struct FunctionSite<'a> {
     pub func: &'a Func,
     pub kind: FuncKind,
     pub name: Option<u32>,
@@ -23,7 +23,7 @@ pub struct InnerSite<'a> {
 
 /// The extents of functions that were found, in the same order: those that a script or function has of the functions
 /// directly in it, where these are they.
-pub fn extents_of(alloc: Global, sites: &[InnerSite]) -> Result<Vec<Extent>, AllocError>
+pub fn extents_of(alloc: Global, sites: &[FunctionSite]) -> Result<Vec<Extent>, AllocError>
     ensures extents { IfOk result (λ extents. extents.items ≡ map extent_at sites.now) }
     ensures inner { IfOk result (λ extents. (i : Interpretation) (scopes : List NamedScope) (outer : List LinkView) (inner : List Inner) → map (sited i) sites.now ≡ map (sited_in scopes outer) inner → extents.items ≡ defined.extents_of inner) }
 {

@@ -66,7 +66,7 @@ next_by false op a c next = refl
 
 -- ---- one turn of a loop
 
--- what is left of a code from an offset on, after so many turns
+-- what is left of a code from an offset on, after n turns
 abbrev pub left_from : List ℕ → ℕ → ℕ → List Numbered
 left_from code at turn = instructions_within (length code - turn) (drop at code)
 

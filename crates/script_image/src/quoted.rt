@@ -18,7 +18,7 @@ pub fn append_decimal(out: &mut Vec<u8>, number: u64) -> Result<(), AllocError>
     Ok(())
 }
 
-/// So many digits 0, at most five.
+/// n digits 0, at most five.
 fn zeros(count: usize) -> &'static [u8]
     requires { count ≤ 5 }
     ensures { result.now ≡ replicate count 48 }

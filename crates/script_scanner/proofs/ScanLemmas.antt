@@ -250,7 +250,7 @@ pub record IsScanning (to : ℕ) (text : List Point) (at : ℕ) (tokens : List T
   pub few : length now ≤ length texts + at
   pub so_far : tokens_within (suc (length text)) to [] false text ≡ made ++ tokens_within fuel to braces after (drop at text)
 
--- after a step, which took so many code points, or none where the last token came
+-- after a step, which took n code points, or none where the last token came
 pub record IsStepped (to : ℕ) (text : List Point) (at taken : ℕ) (tokens : List Token) (braces : List Brace) (after : Bool) (texts now : List (List ℕ)) : Type 0 where
   pub within : at + taken ≤ length text
   pub fuel : ℕ

@@ -45,7 +45,7 @@ abbrev pub LastAfter : ℕ → List Token → Type 0
 LastAfter zero tokens = HasOneLast tokens
 LastAfter (suc taken) tokens = AreNoLast tokens
 
--- A step takes so many code points of the rest and makes tokens of the model, which the tokens that came stand for: they are
+-- A step takes n code points of the rest and makes tokens of the model, which the tokens that came stand for: they are
 -- the first of the rest's tokens, and the others follow.
 pub record Moves (to : ℕ) (rest : List Point) (tokens tokens_now : List Token) (braces braces_now : List Brace) (after_line after_line_now : Bool)
     (texts texts_now : List (List ℕ)) (taken : ℕ) : Type 0 where

@@ -30,7 +30,7 @@ two_bytes (Some high) (Some low) = Some (256 * high + low)
 abbrev pub hex_unit : List ℕ → Option ℕ
 hex_unit codes = two_bytes (hex_byte codes) (hex_byte (drop 2 codes))
 
--- Adds what a value stands for, if there is one; so many code points spell it.
+-- Adds what a value stands for, if there is one; n code points spell it.
 abbrev pub value_step : Option ℕ → ℕ → Step
 value_step None n = Break
 value_step (Some value) n = Add value n

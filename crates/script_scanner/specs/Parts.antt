@@ -35,7 +35,7 @@ pub record Body : Type 0 where
   pub inner : ℕ
   pub closing : ℕ
 
--- The body with units before it, which take so many code points.
+-- The body with units before it, which take n code points.
 abbrev pub behind : List ℕ → ℕ → Body → Body
 behind units n body = record { units = units ++ body.units; inner = n + body.inner; closing = body.closing }
 
@@ -46,7 +46,7 @@ then_body (Skip n) rest = option_map (behind [] n) (rest n)
 then_body (Close n) rest = Some (record { units = []; inner = 0; closing = n })
 then_body Break rest = None
 
--- The body that the steps make of a text, in so many steps at most.
+-- The body that the steps make of a text, in n steps at most.
 abbrev pub body_within : Ending → ℕ → List ℕ → Option Body
 body_within ending zero codes = None
 body_within ending (suc fuel) codes = then_body (step_at ending codes) (λ n. body_within ending fuel (drop n codes))

@@ -119,7 +119,7 @@ front_of None None = IsNeither
 abbrev pub front_at : List Brace → List Point → Front
 front_at braces points = front_of (blank_at (map code_of points)) (token_at (in_substitution braces) (map code_of points))
 
--- The tokens of points, in so many steps at most: blanks are skipped, and the longest token is taken.
+-- The tokens of points, in n steps at most: blanks are skipped, and the longest token is taken.
 abbrev pub then_tokens : ℕ → List Brace → Bool → List Point → Front → (List Brace → Bool → List Point → List Lexed) → List Lexed
 then_tokens to braces after_line points (IsBlank blank) rest = rest braces (after_line || blank.breaks) (drop blank.length points)
 then_tokens to braces after_line points (IsToken piece) rest =

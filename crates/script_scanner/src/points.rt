@@ -12,7 +12,7 @@ pub fn behind(points: &[Point], at: usize) -> &[Point]
     &points[at..]
 }
 
-/// So many points at the front.
+/// n points at the front.
 #[inline]
 pub fn front(points: &[Point], count: usize) -> &[Point]
     requires { count ≤ length points.now }

@@ -9,12 +9,12 @@ use Rattle.std.specs.declared.alloc.Global.{Global}
 use Rattle.session_outside.specs.Shelf.{TurnsToFront, TurnsToNext, TurnsToRead, TurnsAtMost, opened}
 use Rattle.session_outside.specs.Loops.{AreLeft, AreWholeBehind, GoesOn, HasAtMost, HasLeft, HaveAtMost, IsWholeBehind, ReadsBehind}
 
--- the bytes of the files of these names, after so many
+-- the bytes of the files of these names, after n
 pub total : (List ℕ → List ℕ) → ℕ → List (List ℕ) → ℕ
 total held before [] = before
 total held before (name ∷ names) = total held (before + length (held name)) names
 
--- where the shelf tells, the files of these names were read, and so many bytes are left
+-- where the shelf tells, the files of these names were read, and n bytes are left
 abbrev pub Reading : Option (List ℕ → List ℕ) → ℕ → List (List ℕ) → Option ℕ → List (Option (Vec ℕ Global)) → Type 0
 Reading None most done left reads = Unit {0}
 Reading (Some held) most done left reads = AreLeft most (total held 0 done) left × AreWholeBehind most held 0 done reads

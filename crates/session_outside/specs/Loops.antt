@@ -4,7 +4,7 @@ use Rattle.std.specs.declared.alloc.Global.{Global}
 use Rattle.session_outside.specs.declared.shelf.ShelfRefusal.{ShelfRefusal}
 use Rattle.session_outside.specs.Shelf.{TurnsToFront}
 
--- all bytes that were left where they are no more than so many, else none
+-- all bytes that were left where they are no more than n, else none
 abbrev pub IsWholeWithin : List ℕ → ℕ → Option (Vec ℕ Global) → Type 0
 IsWholeWithin left most None = most < length left
 IsWholeWithin left most (Some bytes) = (bytes.items ≡ left) × (length left ≤ most)
@@ -19,12 +19,12 @@ abbrev pub ReadsNameWithin : Option (List ℕ → List ℕ) → List ℕ → ℕ
 ReadsNameWithin None name most read = Unit {0}
 ReadsNameWithin (Some held) name most read = IsWholeWithin (held name) most read
 
--- no more bytes than so many
+-- no more bytes than n
 abbrev pub HasAtMost : ℕ → Option (Vec ℕ Global) → Type 0
 HasAtMost most None = Unit {0}
 HasAtMost most (Some bytes) = length bytes.items ≤ most
 
--- bytes that were read: all that was left where the end was reached, else more than so many
+-- bytes that were read: all that was left where the end was reached, else more than n
 abbrev pub AreReadWithin : List ℕ → ℕ → Bool → List ℕ → Type 0
 AreReadWithin left most true bytes = (bytes ≡ left) × (length left ≤ most)
 AreReadWithin left most false bytes = most < length left
@@ -34,14 +34,14 @@ abbrev pub HasRead : Option (List ℕ) → ℕ → Bool → List ℕ → Type 0
 HasRead None most ended bytes = Unit {0}
 HasRead (Some left) most ended bytes = AreReadWithin left most ended bytes
 
--- whether the end was reached, with no more bytes than so many
+-- whether the end was reached, with no more bytes than n
 abbrev pub EndsWithin : ℕ → Bool → List ℕ → Type 0
 EndsWithin most true bytes = length bytes ≤ most
 EndsWithin most false bytes = Unit {0}
 
 -- ---- many files, one after another
 
--- of a file after so many bytes of other files: all its bytes where they and those are no more than so many, else none
+-- of a file after n bytes of other files: all its bytes where they and those are no more than m, else none
 abbrev pub IsWholeBehind : (most before : ℕ) → List ℕ → Option (Vec ℕ Global) → Type 0
 IsWholeBehind most before file None = most < before + length file
 IsWholeBehind most before file (Some bytes) = (bytes.items ≡ file) × (before + length file ≤ most)
@@ -59,12 +59,12 @@ abbrev pub ReadsAllWithin : Option (List ℕ → List ℕ) → List (List ℕ) �
 ReadsAllWithin None names most reads = Unit {0}
 ReadsAllWithin (Some held) names most reads = AreWholeBehind most held 0 names reads
 
--- none of them has more bytes than so many
+-- none of them has more bytes than n
 abbrev pub HaveAtMost : ℕ → List (Option (Vec ℕ Global)) → Type 0
 HaveAtMost most [] = Unit {0}
 HaveAtMost most (read ∷ reads) = HasAtMost most read × HaveAtMost most reads
 
--- how many of so many bytes are left after so many, none where these are more
+-- how many of n bytes are left after m, none where these are more
 abbrev pub AreLeft : (most before : ℕ) → Option ℕ → Type 0
 AreLeft most before None = most < before
 AreLeft most before (Some left) = before + left ≡ most
@@ -87,7 +87,7 @@ GoesOn (Some left) None now = now ≡ None
 GoesOn (Some left) (Some bytes) None = ⊥
 GoesOn (Some left) (Some bytes) (Some now) = Unit {0}
 
--- of the files of these names, after so many bytes of others, those that are opened: up to and including the first with which
+-- of the files of these names, after n bytes of others, those that are opened: up to and including the first with which
 -- they are more than `most` bytes, all where there is no such
 abbrev pub opened_within : (most : ℕ) → (List ℕ → List ℕ) → (before : ℕ) → List (List ℕ) → List (List ℕ)
 opened_within most held before [] = []

@@ -69,7 +69,7 @@ TurnsToRead before now name (Err NoMemory) = TurnsAtMost before now name
 abbrev pub TurnsToFront : List (List ℕ) → List (List ℕ) → List (List ℕ) → Type 0
 TurnsToFront before now names = (front : List (List ℕ)) × (rest : List (List ℕ)) × (names ≡ front ++ rest) × (now ≡ before ++ front)
 
--- where at most so many bytes may be read, if any: the names that reading a file turns to, none where no byte may be read
+-- where at most n bytes may be read, if any: the names that reading a file turns to, none where no byte may be read
 abbrev pub TurnsToNext : {T : Type 0} → Option ℕ → List (List ℕ) → List (List ℕ) → List ℕ → Result T ShelfRefusal → Type 0
 TurnsToNext None before now name result = now ≡ before
 TurnsToNext (Some left) before now name result = TurnsToRead before now name result

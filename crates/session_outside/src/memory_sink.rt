@@ -44,7 +44,7 @@ impl Sink for FirmSink {
     }
 }
 
-/// A sink in memory that takes only so many bytes in one call, and whose calls fail as they are told to.
+/// A sink in memory that takes only n bytes in one call, and whose calls fail as they are told to.
 #[derive(Drop)]
 pub struct VecSink {
     taken: Vec<u8>,

@@ -16,7 +16,7 @@ use Rattle.session_specs.specs.Answer.{file_line}
 use Rattle.session_trial.specs.Generated.{generated}
 use Rattle.session_specs.specs.Refusals.{TooLong, BadUtf8, Unexpected, TooDeep, Early, NoFunction, NoImage, refusal_line}
 
--- the functions at these sites and in them, at so many depths
+-- the functions at these sites and in them, at n depths
 abbrev compiled_within : ℕ → List Site → List (NamedFunction (List Command))
 compiled_within zero ss = []
 compiled_within (suc n) ss = flat_map (λ (s : Site). (compiled_at s).part ∷ compiled_within n (sites_in s)) ss

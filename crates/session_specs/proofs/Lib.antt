@@ -1,1 +1,2 @@
 mod AnswerRows
+mod CompiledRows

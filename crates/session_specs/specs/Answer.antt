@@ -32,11 +32,11 @@ to_show (asked.Numbers ns) = shown.Numbers ns
 abbrev pub file_line : List ℕ → List ℕ
 file_line name = codes "file " ++ name ++ codes "\n"
 
--- the script of a tree, whose text has so many bytes, with the functions that are wanted shown compiled
+-- the script of a tree, whose text has n bytes, with the functions that are wanted shown compiled
 abbrev pub Shows : Wanted → Stmts → ℕ → (NamedMerged (List Command) → Type 0) → Type 0
 Shows want items size Then = (merged : NamedMerged (List Command)) × IsShown (to_show want) items size merged × Then merged
 
--- what a command writes for a script with so many functions
+-- what a command writes for a script with n functions
 abbrev pub IsWritten : Word → Wanted → List ℕ → ℕ → Stmts → ℕ → List ℕ → Type 0
 IsWritten word.Code want name size items count out = Shows want items size (λ merged. out ≡ file_line name ++ code_text (listed_merged merged))
 IsWritten word.Scopes want name size items count out = Shows want items size (λ merged. out ≡ file_line name ++ scope_text (listed_merged merged))
@@ -77,7 +77,7 @@ IsOf word.Save want name file out refused = FromSource word.Save want name file 
 IsOf word.Load want name file out refused = IsListed name file out refused ⊎ (IsNoImage file × RefusedAs name NoImage out refused)
 IsOf word.Verify want name file out refused = IsChecked name file out refused ⊎ (IsNoImage file × RefusedAs name NoImage out refused)
 
--- what is written for a file after so many bytes of other files, and whether it is refused
+-- what is written for a file after n bytes of other files, and whether it is refused
 abbrev pub IsOfFile : Word → Wanted → ℕ → List ℕ → List ℕ → List ℕ → Bool → Type 0
 IsOfFile command want before name file out refused =
     ((most_bytes < before + length file) × RefusedAs name TooLong out refused)
@@ -85,7 +85,7 @@ IsOfFile command want before name file out refused =
 
 -- ---- all files of a command
 
--- for the files of these names, which hold these bytes, after so many bytes of others
+-- for the files of these names, which hold these bytes, after n bytes of others
 abbrev pub IsOfFiles : Word → Wanted → (List ℕ → List ℕ) → ℕ → List (List ℕ) → List ℕ → Bool → Type 0
 IsOfFiles command want held before [] out refused = (out ≡ []) × (refused ≡ false)
 IsOfFiles command want held before (name ∷ names) out refused =

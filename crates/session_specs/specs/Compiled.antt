@@ -20,7 +20,7 @@ compiled_among [] = 0
 compiled_among (None ∷ entries) = compiled_among entries
 compiled_among (Some function ∷ entries) = 1 + compiled_among entries
 
--- of the script of a tree, whose text has so many bytes, so many functions are shown compiled where these are wanted
+-- of the script of a tree, whose text has n bytes, m functions are shown compiled where these are wanted
 abbrev pub Compiles : Wanted → Stmts → ℕ → ℕ → Type 0
 Compiles want items size count = Shows want items size (λ merged. count ≡ compiled_among merged.entries)
 
@@ -33,7 +33,7 @@ shows_scripts word.Check = false
 shows_scripts word.Load = false
 shows_scripts word.Verify = false
 
--- of a file of source text that has so many bytes; of one that is refused none is
+-- of a file of source text that has n bytes; of one that is refused none is
 abbrev pub CompilesSource : Wanted → ℕ → Source → ℕ → Type 0
 CompilesSource want size (IsScript items functions) count = Compiles want items size count
 CompilesSource want size (IsRefused why) count = count ≡ 0
@@ -43,7 +43,7 @@ abbrev pub CompilesOf : Bool → Wanted → List ℕ → ℕ → Type 0
 CompilesOf true want file count = (source : Source) × IsSource want file source × CompilesSource want (length file) source count
 CompilesOf false want file count = count ≡ 0
 
--- of a file after so many bytes of other files
+-- of a file after n bytes of other files
 abbrev pub CompilesFile : Word → Wanted → ℕ → List ℕ → ℕ → Type 0
 CompilesFile command want before file count =
     ((most_bytes < before + length file) × (count ≡ 0))
@@ -51,7 +51,7 @@ CompilesFile command want before file count =
 
 -- ---- all files of a command
 
--- of the files of these names, which hold these bytes, after so many bytes of others
+-- of the files of these names, which hold these bytes, after n bytes of others
 abbrev pub CompilesFiles : Word → Wanted → (List ℕ → List ℕ) → ℕ → List (List ℕ) → ℕ → Type 0
 CompilesFiles command want held before [] count = count ≡ 0
 CompilesFiles command want held before (name ∷ names) count =
@@ -68,7 +68,7 @@ CompilesAsked (Files job) held count = CompilesFiles job.command job.want held 0
 CompilesAsked (Trial number size workers) held count = (items : Stmts) × HasAll (generated number size) asked.All items count
 CompilesAsked (Churn number size workers) held count = ⊥
 
--- So many functions are shown compiled in the answer to the words of a command, where the files hold these bytes.
+-- n functions are shown compiled in the answer to the words of a command, where the files hold these bytes.
 pub record ShowsCompiled (words : List (List ℕ)) (held : List ℕ → List ℕ) (count : ℕ) : Type 0 where
   pub asked : Asked
   pub form : asked_of words ≡ Some asked

@@ -28,7 +28,7 @@ pub record IsRead (file : List ℕ) (items : Stmts) : Type 0 where
   pub script : grammar.IsScript inner end items
   pub shallow : (j : ℕ) → get_or (depths (print_stmts whole 0 items) inner end script.fits) j 0 ≤ depth_limit
 
--- a script without early errors, which has so many functions
+-- a script without early errors, which has n functions
 pub record IsValid (file : List ℕ) (items : Stmts) (count : ℕ) : Type 0 where
   pub read : IsRead file items
   pub faultless : early_error items ≡ None
@@ -56,7 +56,7 @@ start_of [] k = 0
 start_of (t ∷ ts) zero = t.start
 start_of (t ∷ ts) (suc k) = start_of ts k
 
--- a script of this tree and with so many functions, or refused
+-- a script of this tree and with n functions, or refused
 pub data Source : Type 0 where
   IsScript : (items : Stmts) → (count : ℕ) → Source
   IsRefused : Refusal → Source

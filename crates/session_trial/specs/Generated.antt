@@ -1,4 +1,4 @@
--- A text that is generated from a number and a size: so many lines, each of one of four kinds. This project's own choice.
+-- A text that is generated from a number and a size: n lines, each of one of four kinds. This project's own choice.
 use Rattle.std.specs.Prelude.{ℕ, zero, suc, ◌+◌, ◌*◌, ◌/◌, ◌%◌, ◌^◌, List, [], ◌++◌, nat_eq, if◌then◌else◌, codes}
 use Rattle.std.specs.Fmt.{decimal}
 
@@ -28,7 +28,7 @@ next_state s = (s * 1664525 + 1013904223) % 2 ^ 32
 abbrev pub kind_of : ℕ → ℕ
 kind_of s = s / 65536 % 4
 
--- so many lines from number i on, after this state
+-- n lines from number i on, after this state
 abbrev pub lines_from : ℕ → ℕ → ℕ → List ℕ
 lines_from zero i s = []
 lines_from (suc more) i s = line_of (kind_of (next_state s)) (decimal i) ++ lines_from more (i + 1) (next_state s)

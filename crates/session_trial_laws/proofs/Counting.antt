@@ -4,7 +4,7 @@ use Rattle.scope_analysis.specs.Functions.{Inner, inner_stmt}
 use Rattle.compile_specs.specs.Counted.{Counts, no_functions, more_functions}
 use Rattle.session_trial_laws.proofs.Trees.{function_tree, counter_tree, loop_tree, object_tree}
 
--- the functions of a list are so many
+-- the functions of a list are n
 abbrev pub HasCount : List Inner → Type 0
 HasCount fs = (count : ℕ) × Counts fs count
 

@@ -15,7 +15,7 @@ use Rattle.script_scanner.specs.Braces.{in_substitution}
 use Rattle.script_scanner.specs.Lexemes.{lexeme_of}
 use Rattle.script_scanner.specs.Tokens.{Piece, Value, Lexed, place, front_of, token_at, braces_after, then_tokens, tokens_within}
 
--- so many more
+-- n more
 abbrev pub more : ℕ → ℕ → ℕ
 more zero n = n
 more (suc k) n = suc (more k n)

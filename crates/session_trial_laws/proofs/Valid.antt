@@ -27,7 +27,7 @@ read_whole number size r = record {
   shallow = shallow_depths (print_stmts whole 0 r.items) r.inner r.end r.fits r.shallow;
 }
 
--- the text is a script, without early errors, and has so many functions
+-- the text is a script, without early errors, and has n functions
 pub generated_is_valid : (number size : ℕ) → size ≤ 100000 → (items : Stmts) × (count : ℕ) × IsValid (generated number size) items count
 generated_is_valid number size le =
     let r : lines.ReadsAsStatements (length (generated number size)) 0 false (generated number size) = lines_read size 0 number (length (generated number size)) 0 false (omega (arith, le)) in

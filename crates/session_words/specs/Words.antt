@@ -84,7 +84,7 @@ abbrev pub all_file_names : List (List ℕ) → Bool
 all_file_names [] = true
 all_file_names (name ∷ names) = is_file_name name && all_file_names names
 
--- from 1 to so many file names
+-- from 1 to n file names
 abbrev pub are_names : ℕ → List (List ℕ) → Bool
 are_names most names = nat_le 1 (length names) && nat_le (length names) most && all_file_names names
 
@@ -98,7 +98,7 @@ or_else default (Some value) = value
 abbrev pub job_of : Command → Given → List (List ℕ) → Asked
 job_of c given names = Files (record { command = c; want = or_else All given.want; workers = or_else 4 given.workers; order = or_else order.First given.order; files = names })
 
--- of at most so many files
+-- of at most n files
 abbrev pub with_names : Command → ℕ → Taken → Option Asked
 with_names c most taken = if are_names most taken.names then Some (job_of c taken.given taken.names) else None
 

@@ -76,7 +76,7 @@ fn all_file_names(names: &[String]) -> bool
     true
 }
 
-/// Whether these are from 1 to so many file names.
+/// Whether these are from 1 to n file names.
 fn are_names(most: usize, names: &[String]) -> bool
     ensures { result ≡ form.are_names most (map string_bytes names.now) }
 {
@@ -106,7 +106,7 @@ fn job(command: Command, choices: Choices, files: Vec<String>) -> Options
     })
 }
 
-/// A command over these files, if they are at most so many.
+/// A command over these files, if they are at most n.
 fn with_names(
     alloc: Global,
     command: Command,

@@ -56,7 +56,7 @@ pub record Merges (parts : InitialView) (functions : List CompiledAlone) (merged
 
 -- ---- what is asked of them
 
--- each number is that of one of so many functions
+-- each number is that of one of n functions
 abbrev pub HaveNumbers : ℕ → List CompiledAlone → Type 0
 HaveNumbers count functions = All (λ (c : CompiledAlone). (1 ≤ c.number) × (c.number ≤ count)) functions
 

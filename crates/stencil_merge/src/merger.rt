@@ -37,7 +37,7 @@ impl Model for Merger {
     ghost invariant = { λ merger. IsMerging (record { texts = merger.atoms; top = merger.top; records = merger.records.items; entries = merger.entries.items }) };
 }
 
-// So many functions, none of which is compiled.
+// n functions, none of which is compiled.
 fn lazy_entries(alloc: Global, count: usize) -> Result<Vec<Entry>, AllocError>
     ensures { IfOk result (λ entries. entries.items ≡ replicate count entry.Lazy) }
 {

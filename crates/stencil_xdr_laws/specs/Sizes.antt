@@ -51,7 +51,7 @@ code_size (c ∷ cs) = width_of c.op + code_size cs
 abbrev pub IsNumber : ℕ → ℕ → Type 0
 IsNumber functions n = (1 ≤ n) × (n ≤ functions)
 
--- a compiled function among so many
+-- a compiled function among n
 pub record PartSmall (functions : ℕ) (part : NamedFunction (List Command)) : Type 0 where
   pub params : Small part.params
   pub few_scopes : Small (length part.scopes)

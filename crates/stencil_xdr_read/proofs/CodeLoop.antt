@@ -64,7 +64,7 @@ decoded_fits (byte ∷ rest) i bytes is = decoded_as_fits (op_at byte) rest i (�
 
 -- ---- one turn of a loop
 
--- what is left of a code from an offset on, after so many turns
+-- what is left of a code from an offset on, after n turns
 abbrev pub left_from : List ℕ → ℕ → ℕ → List Numbered
 left_from code at turn = instructions_within (length code - turn) (drop at code)
 

@@ -76,7 +76,7 @@ no_item : {A : Type 0} (p : A → List ℕ) (P : A → Type 0) (now rest : List 
 no_item p P now rest count [] is fits many some none = omega arith
 no_item p P now rest count (x ∷ items) is fits many some none = none x (flat_map p items ++ rest) fits.0 (is ∙ append_assoc (p x) (flat_map p items) rest)
 
--- where an item is missing, the bytes do not begin with so many items
+-- where an item is missing, the bytes do not begin with n items
 pub refused_items : {A : Type 0} (p : A → List ℕ) (P : A → Type 0) → AreUnique p P → (before now : List ℕ) (items : List A) (i count : ℕ) (e : ImageFault)
     → i < count → ReadsItems p P before now items i → IsRefusedBy p P now e → IsRefusedBy (flat_map p) (AreItems count P) before e
 refused_items p P u before now items i count fault.NoImage more r h = λ others rest fit is.

@@ -37,7 +37,7 @@ IsByte b = b < 256
 abbrev pub number : ℕ → ℕ → List ℕ
 number width n = le_bytes width n
 
--- the number fits so many bytes
+-- the number fits n bytes
 abbrev pub Fits : ℕ → ℕ → Type 0
 Fits width n = n < 256 ^ width
 
@@ -63,7 +63,7 @@ abbrev pub Each : {A : Type 0} → (A → Type 0) → List A → Type 0
 Each Fit [] = Unit {0}
 Each Fit (x ∷ xs) = Fit x × Each Fit xs
 
--- so many items
+-- n items
 abbrev pub AreItems : {A : Type 0} → ℕ → (A → Type 0) → List A → Type 0
 AreItems count Fit xs = (length xs ≡ count) × Each Fit xs
 

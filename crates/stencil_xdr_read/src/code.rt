@@ -9,7 +9,7 @@ ghost use Rattle.stencil_xdr_read.specs.Atoms as atoms;
 use bytecode_buf::{Instr, Op, Shape, decode_at};
 use std::alloc::AllocError;
 
-/// Whether the operand of a `Lambda` is the number of one of so many functions.
+/// Whether the operand of a `Lambda` is the number of one of n functions.
 fn is_lambda_within(functions: usize, op: Op, number: u64) -> bool
     ensures { IsTrue result ↔ LambdaWithin op number functions }
 {

@@ -35,7 +35,7 @@ impl<P> List<P> {
     }
 }
 
-/// Reads so many items from the beginning of the bytes that are left.
+/// Reads n items from the beginning of the bytes that are left.
 pub(crate) fn read_items<P: Part>(
     alloc: Global,
     reader: &mut Reader<'_>,

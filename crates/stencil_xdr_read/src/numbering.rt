@@ -19,7 +19,7 @@ fn next_seen(seen: u64, atom: u64) -> u64
     if atom == seen { seen + 1 } else { seen }
 }
 
-/// Whether the atoms name so many texts, each for the first time after those before it.
+/// Whether the atoms name n texts, each for the first time after those before it.
 fn are_numbered(atoms: &[u64], count: usize) -> bool
     ensures { IsTrue result ↔ (numbering.seen_after 0 atoms.now ≡ Some count) }
 {

@@ -38,7 +38,7 @@ impl<'a> Reader<'a> {
         self.rest.is_empty()
     }
 
-    /// So many bytes from the beginning of those that are left; `None` where fewer are left.
+    /// n bytes from the beginning of those that are left; `None` where fewer are left.
     pub fn take(&mut self, count: u64) -> Option<&'a [u8]>
         ensures none { IfNone result (length self.old < count) }
         ensures front { IfSome result (λ front. self.old ≡ front.now ++ self.new) }

@@ -10,7 +10,7 @@ use stencil_data::{
     Entry, Extent, FuncKind, FunctionStencil, LazyRecord, MergedStencil, ScopeData,
 };
 
-/// Whether a number is that of one of so many functions.
+/// Whether a number is that of one of n functions.
 fn is_number(functions: usize, number: u32) -> bool
     ensures { IsTrue result ↔ within.IsNumber functions number }
 {

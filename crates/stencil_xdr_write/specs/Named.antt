@@ -19,7 +19,7 @@ pub record HasRoom (texts : List (List ℕ)) (table : List (Option ℕ)) (atoms 
   pub few : length texts < 2 ^ 32 - 1
   pub fewer : length atoms ≤ count_by is_some table
 
--- the text that an item names, of so many, has a number
+-- the text that an item names, of n, has a number
 abbrev pub HasNumber : ℕ → List (Option ℕ) → Item → Type 0
 HasNumber count table (Bytes bs) = Unit {0}
 HasNumber count table (Atom a) = (k : ℕ) × (slice_get table (place_of count a) ≡ Some (Some k))

@@ -66,7 +66,7 @@ abbrev pub number_or : Option (Option ℕ) → ℕ
 number_or None = 0
 number_or (Some number) = unwrap_or number 0
 
--- the place of an atom's number where so many texts have their places: after them all for an atom that is no text's
+-- the place of an atom's number where n texts have their places: after them all for an atom that is no text's
 abbrev pub place_of : ℕ → ℕ → ℕ
 place_of count a = if nat_lt a count then a else count
 

@@ -54,7 +54,7 @@ fn no_numbers(alloc: Global, texts: &[Text]) -> Result<Vec<Option<u32>>, AllocEr
     Ok(table)
 }
 
-/// The place of an atom's number where so many texts have their places: after them all for an atom that is no text's.
+/// The place of an atom's number where n texts have their places: after them all for an atom that is no text's.
 pub(crate) fn place_of(count: usize, atom: u64) -> usize
     ensures { result ≡ numbers.place_of count atom }
 {

@@ -184,7 +184,7 @@ fn passes_a_whole_script(rt: HostRuntime) -> Result<(), Fail> {
     Ok(())
 }
 
-/// A call of `f` with so many arguments `0`.
+/// A call of `f` with n arguments `0`.
 fn call_of(alloc: Global, arguments: usize) -> Result<Vec<u8>, AllocError> {
     let mut text = Vec::from_slice(alloc, b"f(0")?;
     for _ in 1..arguments {
@@ -212,7 +212,7 @@ fn counts_arguments(rt: HostRuntime) -> Result<(), Fail> {
     Ok(())
 }
 
-/// So many times this byte, then `x` where it is wanted, then so many times the other byte.
+/// n times this byte, then `x` where it is wanted, then m times the other byte.
 fn nested(
     alloc: Global,
     open: u8,

@@ -44,7 +44,7 @@ fn counts<R: Threads + Wait + Sync>(
     Ok((status, tally.count()))
 }
 
-/// Whether this command is done, and counts so many functions.
+/// Whether this command is done, and counts n functions.
 fn compiles<R: Threads + Wait + Sync>(
     rt: &R,
     alloc: Global,

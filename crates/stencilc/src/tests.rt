@@ -283,7 +283,7 @@ fn lists_scripts_of_many_forms(rt: HostRuntime) -> Result<(), Fail> {
     Ok(())
 }
 
-/// So many times this byte.
+/// n times this byte.
 pub(crate) fn many(alloc: Global, byte: u8, count: usize) -> Result<Vec<u8>, AllocError> {
     vec![in alloc; byte; count]
 }

@@ -7,7 +7,7 @@ use std::sync::Wait;
 use std::test::Fail;
 use std::thread::Threads;
 
-/// The names `f0.js`, `f1.js` and so on, so many.
+/// The names `f0.js`, `f1.js` and so on, n.
 fn names_of(alloc: Global, count: usize) -> Result<Vec<String>, AllocError> {
     let mut names = Vec::new(alloc);
     for number in 0..count {
@@ -43,7 +43,7 @@ fn words_of(alloc: Global, options: &[&str], names: &[String]) -> Result<Vec<Str
     Ok(words)
 }
 
-/// The status of `code` with these options over so many files with this text, and what was printed.
+/// The status of `code` with these options over n files with this text, and what was printed.
 fn printed<R: Threads + Wait + Sync, G: Gate>(
     rt: &R,
     alloc: Global,

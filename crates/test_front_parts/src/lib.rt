@@ -8,6 +8,4 @@ mod brackets;
 #[cfg(test)]
 mod handlers;
 #[cfg(test)]
-mod pairs;
-#[cfg(test)]
 mod tokens;

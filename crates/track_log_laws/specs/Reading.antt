@@ -24,7 +24,7 @@ read_items parts inside (TextLeaf l ∷ items) = leaf l (read_items parts inside
 read_items parts inside (TextInner m ∷ items) =
     inner (kind_of (slice_get parts m)) (at_of (slice_get parts m)) (inside m) (read_items parts inside items)
 
--- what a region tells, with at most so many regions one in another
+-- what a region tells, with at most n regions one in another
 unfoldable pub read_region : ℕ → List TextPart → ℕ → Told Text
 read_region zero parts n = nothing
 read_region (suc room) parts n = read_items parts (read_region room parts) (items_of (slice_get parts n))

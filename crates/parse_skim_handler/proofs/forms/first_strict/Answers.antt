@@ -1,0 +1,21 @@
+use Rattle.parse_skim_handler.proofs.forms.first_strict.Goals as goal
+
+pub loop-item-preserved : goal.loop-item-preserved
+loop-item-preserved c =
+    let xs = c.args.items.now in
+    let k = c.loop-item.item-index in
+    let x = c.item-item.result in
+    strict_on (map stmt_errors xs) k (stmt_errors x) c.ends.result c.loop-item.first c.strict_at-at.result _ _ (next_image stmt_errors xs k x c.loop-item-test.true c.item-item.is) c.ends.ensures c.if-ends.false c.strict_at-at.ensures c.smaller-first.ensures c.loop-item.invariant
+
+pub returns-then-ends : goal.returns-then-ends
+returns-then-ends c =
+    let xs = c.args.items.now in
+    let k = c.loop-item.item-index in
+    let x = c.item-item.result in
+    sym (smaller_none c.loop-item.first)
+    ∙ (ap (smaller c.loop-item.first) (sym (strict_ends (map stmt_errors xs) k (stmt_errors x) c.ends.result (next_image stmt_errors xs k x c.loop-item-test.true c.item-item.is) c.ends.ensures c.if-ends.true)) ∙ c.loop-item.invariant)
+
+pub returns : goal.returns
+returns c =
+    sym (smaller_none c.loop-item.first)
+    ∙ (ap (λ (xs : List StmtErrors). smaller c.loop-item.first (strict_first xs)) (sym (ended_image stmt_errors c.args.items.now c.loop-item.item-index c.loop-item-test.false)) ∙ c.loop-item.invariant)

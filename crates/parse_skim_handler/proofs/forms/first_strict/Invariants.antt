@@ -1,0 +1,4 @@
+use Rattle.parse_skim_handler.proofs.forms.first_strict.Given as goal
+
+abbrev pub invariant-loop-item : goal.invariant-loop-item
+invariant-loop-item l = smaller l.first (strict_first (drop l.item-index (map stmt_errors l.items))) ≡ strict_first (map stmt_errors l.items)

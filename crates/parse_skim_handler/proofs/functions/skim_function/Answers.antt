@@ -1,0 +1,24 @@
+use Rattle.parse_track.specs.Tells as tell
+use Rattle.parse_skim_handler.proofs.functions.skim_function.Goals as goal
+
+pub returns : goal.returns
+returns c = λ i.
+    let func = c.args.func in
+    let old = c.args.kept.told in
+    let inside = c.in_ok-inside.ensures i in
+    let parts = c.in_ok-pieces.ensures in
+    let told = c.in_ok-told.ensures in
+    let more = c.are_more-more.ensures ∙ ap are_more c.deref.ensures.value in
+    let kind = tell.function_region func.form in
+    record {
+      says = λ rest.
+          told.says i rest
+          ∙ ap (told_says i old) (ap (λ k. says_region k func.start (pieces_say i c.in_ok-pieces.field-0.pieces.items) rest) (c.function_region-around.ensures i)
+          ∙ region-same kind func.start (pieces_say i c.in_ok-pieces.field-0.pieces.items) (inside_means i func.start func.params.items func.body).says (λ r. parts.says i r ∙ inside.says r) rest);
+      puts = λ r.
+          ap (λ l. founds_before i l r) told.found
+          ∙ (founds-then i (told_found old) (c.found-found.result ∷ []) r
+          ∙ ap (founds_before i (told_found old)) (ap (λ x. before (x ∷ []) r) (c.found-found.ensures i)
+          ∙ found-puts func.start func.end _ _ _ _ _ _ _ _ _ _ r c.kind_of-kind.ensures (c.atom_of.ensures i) c.is_braced-braced.ensures (ap not more) (ap (λ l. founds_before i l no_inner) parts.found ∙ inside.puts no_inner)));
+      first = c.sooner-first.ensures ∙ ap (sooner c.args.kept.first) inside.first;
+    }

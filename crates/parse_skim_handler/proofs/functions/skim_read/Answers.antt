@@ -1,0 +1,9 @@
+use Rattle.parse_skim_handler.proofs.functions.skim_read.Goals as goal
+
+pub returns : goal.returns
+returns c =
+    if_ok c.with_said.result c.with_said.ensures (λ made h i.
+    let body = c.args.body in
+    let one = c.in_ok-push.ensures.items ∙ ap (λ l. l ++ (body.told ∷ [])) c.new-pieces.ensures.items in
+    adds-same i (λ rest. says-Kept i _ rest ∙ ap (λ l. says_read (pieces_say i l) rest) one) (λ r. refl)
+    (sooner_none _ ∙ (c.sooner-error.ensures ∙ ap (λ o. sooner o body.errors.first) c.strict_error-strict.ensures)) (adds-then i (c.with_error-noted.ensures i) (h i)))

@@ -1,0 +1,5 @@
+use Rattle.script_grammar.specs.Tree as model
+use Rattle.parse_skim_handler.proofs.handler.SkimmingHandler.make_binary.Goals as goal
+
+pub returns : goal.returns
+returns c = λ i t os h q. expr-made i c.other.result (model.Binary t (operands_of os)) _ _ c.other.ensures (from i (c.of_expr.ensures i) (c.in_ok-kept.ensures i)) (then-stands i h.stands (operands-stand i c.args.rest.items os q)) (λ e k. ((h.errors.holds e k).start, refl))

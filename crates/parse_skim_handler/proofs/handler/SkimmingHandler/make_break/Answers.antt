@@ -1,0 +1,13 @@
+use Rattle.script_grammar.specs.Tree as model
+use Rattle.parse_track.specs.declared.region.Jump.TheVariants as jump
+use Rattle.parse_track.specs.Tells as tell
+use Rattle.parse_skim_handler.proofs.handler.SkimmingHandler.make_break.Goals as goal
+
+pub returns : goal.returns
+returns c = λ i.
+    stmt-made i c.plain.result (model.Break c.args.at (maybe_named i c.args.label) c.args._semi) false c.plain.ensures refl refl (begun i (c.nothing.ensures i) (c.in_ok-kept.ensures i))
+    (λ top. record {
+      says = same-says (says-Jumped i jump.Break c.args.at c.args.label) (tell-says (tell.tells_jump jump.Break c.args.at (maybe_named i c.args.label)));
+      puts = λ r. refl;
+      first = λ e k. refl;
+    })

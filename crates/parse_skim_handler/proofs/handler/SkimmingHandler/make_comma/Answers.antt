@@ -1,0 +1,8 @@
+use Rattle.script_grammar.specs.Tree as model
+use Rattle.parse_skim_handler.proofs.handler.SkimmingHandler.make_comma.Goals as goal
+
+pub returns : goal.returns
+returns c = λ i ts h.
+    let items = c.args.items.items in
+    expr-made i c.other.result (model.Comma (exprs_of ts)) _ _ c.other.ensures (begun i (c.nothing.ensures i) (c.in_ok-kept.ensures i)) (exprs-stand i items ts h)
+    (λ e k. (c.start_of_first-start.ensures ∙ (ap (λ l. start_of_first (map expr_errors l)) c.deref.ensures.value ∙ comma-start i e k (map expr_errors items) ts (errors-shown i items ts h)), refl))

@@ -1,0 +1,5 @@
+use Rattle.script_grammar.specs.Tree as model
+use Rattle.parse_skim_handler.proofs.handler.SkimmingHandler.make_debugger.Goals as goal
+
+pub returns : goal.returns
+returns c = λ i. stmt-made i c.plain.result (model.Debugger c.args._semi) false c.plain.ensures refl refl (c.nothing.ensures i) (λ top. nothing-stands i)

@@ -1,0 +1,5 @@
+use Rattle.script_grammar.specs.Tree as model
+use Rattle.parse_skim_handler.proofs.handler.SkimmingHandler.make_empty.Goals as goal
+
+pub returns : goal.returns
+returns c = λ i. stmt-made i c.plain.result model.Empty false c.plain.ensures refl refl (c.nothing.ensures i) (λ top. nothing-stands i)

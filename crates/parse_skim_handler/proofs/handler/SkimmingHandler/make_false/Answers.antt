@@ -1,0 +1,5 @@
+use Rattle.script_grammar.specs.Tree as model
+use Rattle.parse_skim_handler.proofs.handler.SkimmingHandler.make_false.Goals as goal
+
+pub returns : goal.returns
+returns c = λ i. quiet-made i c.quiet.result (model.False c.args.at) c.in_ok-errors.errors c.quiet.ensures none-says (λ r. refl) (c.in_ok-errors.ensures i)

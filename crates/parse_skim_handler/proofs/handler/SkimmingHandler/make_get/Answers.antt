@@ -1,0 +1,5 @@
+use Rattle.script_grammar.specs.Tree as model
+use Rattle.parse_skim_handler.proofs.handler.SkimmingHandler.make_get.Goals as goal
+
+pub returns : goal.returns
+returns c = λ i k f h q. prop-made i c.prop.result (model.Get k f) _ c.prop.ensures (begun i (c.nothing.ensures i) (adds-then i (c.in_ok-named.ensures i) (c.in_ok-kept.ensures i))) (then-stands i (key-stands i c.args.key k h) (function-stands i false c.args.func f q)) (λ e w. refl)

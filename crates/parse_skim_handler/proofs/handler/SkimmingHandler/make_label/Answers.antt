@@ -1,0 +1,9 @@
+use Rattle.script_grammar.specs.Tree as model
+use Rattle.parse_track.specs.Tells as tell
+use Rattle.parse_track.specs.Told as told
+use Rattle.parse_skim_handler.proofs.handler.SkimmingHandler.make_label.Goals as goal
+
+pub returns : goal.returns
+returns c = λ i b h.
+    stmt-made i c.looping.result (model.Label (named i c.args.name) b) true c.looping.ensures refl refl (begun i (c.nothing.ensures i) (c.in_ok-kept.ensures i))
+    (λ top. region-kept i (told.Label (tell.spelled (named i c.args.name))) 0 (c.in_ok-inside.ensures i) (label-stands i c.args.name c.args.body b h))

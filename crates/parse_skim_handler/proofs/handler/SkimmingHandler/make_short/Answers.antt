@@ -1,0 +1,6 @@
+use Rattle.script_grammar.specs.Tree as model
+use Rattle.parse_track.specs.Tells as tell
+use Rattle.parse_skim_handler.proofs.handler.SkimmingHandler.make_short.Goals as goal
+
+pub returns : goal.returns
+returns c = λ i. prop-noted i _ (model.Short (named i c.args.name)) (tell-says (tell.tells_use (text_of i c.args.name.atom))) (λ r. refl) (c.in_ok-errors.ensures i)

@@ -1,0 +1,5 @@
+use Rattle.script_grammar.specs.Tree as model
+use Rattle.parse_skim_handler.proofs.handler.SkimmingHandler.make_throw.Goals as goal
+
+pub returns : goal.returns
+returns c = λ i t h. stmt-made i c.plain.result (model.Throw t c.args._semi) false c.plain.ensures refl refl (c.of_expr.ensures i) (λ top. h.stands)

@@ -1,0 +1,7 @@
+use Rattle.script_grammar.specs.Tree as model
+use Rattle.parse_skim_handler.proofs.handler.SkimmingHandler.make_try.Goals as goal
+
+pub returns : goal.returns
+returns c = λ i bs hs h q.
+    stmt-made i c.plain.result (model.Try (stmts_of bs) (maybe_named i c.args.param) (stmts_of hs)) false c.plain.ensures refl refl (begun i (c.nothing.ensures i) (adds-then i (c.in_ok-tried.ensures i) (c.in_ok-kept.ensures i)))
+    (λ top. try-stands i top c.args.param c.args.body.items c.args.handler.items bs hs h q)

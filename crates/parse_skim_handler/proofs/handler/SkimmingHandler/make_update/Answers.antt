@@ -1,0 +1,5 @@
+use Rattle.script_grammar.specs.Tree as model
+use Rattle.parse_skim_handler.proofs.handler.SkimmingHandler.make_update.Goals as goal
+
+pub returns : goal.returns
+returns c = λ i t h. expr-noted i _ (model.Update c.args.at c.args.op c.args.prefix t) h.stands.says h.stands.puts (c.in_ok-errors.ensures i t h.errors)

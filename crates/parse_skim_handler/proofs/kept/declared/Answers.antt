@@ -1,0 +1,4 @@
+use Rattle.parse_skim_handler.proofs.kept.declared.Goals as goal
+
+pub returns : goal.returns
+returns c = if_ok c.with_said.result c.with_said.ensures (λ made h i. adds-same i (says-Declared i c.args.how c.args.name) (λ r. refl) refl (h i))

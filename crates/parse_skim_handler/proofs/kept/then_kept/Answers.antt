@@ -1,0 +1,10 @@
+use Rattle.parse_skim_handler.proofs.kept.then_kept.Goals as goal
+
+pub returns : goal.returns
+returns c = λ i.
+    let told = c.in_ok-told.ensures in
+    record {
+      says = λ rest. told.says i rest;
+      puts = λ r. ap (λ l. founds_before i l r) told.found ∙ founds-then i (told_found c.args.kept.told) (told_found c.args.other.told) r;
+      first = c.sooner-first.ensures;
+    }

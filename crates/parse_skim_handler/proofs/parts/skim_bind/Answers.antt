@@ -1,0 +1,4 @@
+use Rattle.parse_skim_handler.proofs.parts.skim_bind.Goals as goal
+
+pub returns : goal.returns
+returns c = if_ok c.skim.result c.skim.ensures (λ made h i. adds-then i (c.in_ok-named.ensures i) (h i))

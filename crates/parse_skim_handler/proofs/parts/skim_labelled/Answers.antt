@@ -1,0 +1,11 @@
+use Rattle.parse_track.specs.Told as told
+use Rattle.parse_skim_handler.proofs.parts.skim_labelled.Goals as goal
+
+pub returns-then-body : goal.returns-then-body
+returns-then-body c = if_ok c.skim.result c.skim.ensures (λ made h i. means-as i (λ on. labelled_as i on c.args.body) c.if-body.true (begun i (c.nothing-begin.ensures i) (h i)))
+
+pub returns-in_ok-inside : goal.returns-in_ok-inside
+returns-in_ok-inside c =
+    if_ok c.region.result c.region.ensures (λ made h i.
+    let inside = begun i (c.nothing-begin.ensures i) (c.in_ok-inside.ensures i) in
+    means-as i (λ on. labelled_as i on c.args.body) c.if-body.false (begun i (c.nothing-around.ensures i) (adds-region i told.Block 0 inside (h i))))

@@ -1,0 +1,19 @@
+use Rattle.parse_track_handler.specs.declared.piece.Piece.TheVariants as piece
+use Rattle.parse_skim_handler.proofs.told.with_region.Goals as goal
+
+pub returns : goal.returns
+returns c =
+    let opened = c.in_ok-parts.parts.value in
+    let inner = c.in_ok-pieces.ensures in
+    let pieces =
+    c.in_ok-find_all.ensures.pieces ∙ (ap (λ p. p.pieces.items) c.deref_mut-2.ensures.value
+    ∙ (c.in_ok-push.ensures.pieces ∙ ap (λ p. p.pieces.items ++ (piece.Inside c.args.kind c.args.at c.in_ok-pieces.field-0.pieces ∷ [])) c.deref_mut.ensures.value)) in
+    let found =
+    c.in_ok-find_all.ensures.found ∙ (ap (λ p. p.found.items ++ c.in_ok-pieces.field-0.found.items) c.deref_mut-2.ensures.value
+    ∙ (ap (λ l. l ++ c.in_ok-pieces.field-0.found.items) (c.in_ok-push.ensures.found ∙ ap (λ p. p.found.items) c.deref_mut.ensures.value)
+    ∙ ap (λ l. opened.found.items ++ l) inner.found)) in
+    tells-more c.args.told _ opened c.find_all.new.parts (λ i. says_region (region_text i (region_of c.args.kind)) c.args.at (told_says i c.args.inside)) (told_found c.args.inside) c.in_ok-parts.ensures (record { says = λ i rest. refl; found = refl })
+    (λ i rest.
+    let kind = region_text i (region_of c.args.kind) in
+    appended_as i opened.pieces.items _ c.find_all.new.parts.pieces.items (says_region kind c.args.at (told_says i c.args.inside)) pieces
+    (λ r. says-Inside i c.args.kind c.args.at c.in_ok-pieces.field-0.pieces r ∙ region-same kind c.args.at (pieces_say i c.in_ok-pieces.field-0.pieces.items) (told_says i c.args.inside) (inner.says i) r) rest) found

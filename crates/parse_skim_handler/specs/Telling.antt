@@ -1,0 +1,39 @@
+-- What is told and the functions that were found, as the handler keeps them.
+use Rattle.std.specs.Prelude.{◌≡◌, ℕ, List, [], ◌++◌}
+use Rattle.script_grammar.specs.Interpretation.{Interpretation, text_of}
+use Rattle.parse_track.specs.Tells.{tells_use}
+use Rattle.parse_handlers.specs.declared.found.Found.{Found}
+use Rattle.parse_handlers.specs.FoundOf.{founds_before}
+use Rattle.parse_handlers.specs.Inner.{Inner}
+use Rattle.parse_track_handler.specs.Pieces.{Rest, telling, pieces_say}
+use Rattle.parse_skim_handler.specs.declared.told.Parts.{Parts}
+use Rattle.parse_skim_handler.specs.declared.told.Told.{Told}
+use Rattle.parse_skim_handler.specs.declared.told.Told.TheVariants as told
+
+-- what a name says that is used
+abbrev pub use_says : Interpretation → (atom : ℕ) → Rest → Rest
+use_says i atom rest = telling rest (tells_use (text_of i atom) rest.told)
+
+abbrev pub told_says : Interpretation → Told → Rest → Rest
+told_says i told.Nothing rest = rest
+told_says i (told.Used atom) rest = use_says i atom rest
+told_says i (told.Parts parts) rest = pieces_say i parts.value.pieces.items rest
+
+abbrev pub told_found : Told → List Found
+told_found told.Nothing = []
+told_found (told.Used atom) = []
+told_found (told.Parts parts) = parts.value.found.items
+
+-- the functions that were found, and then these
+abbrev pub told_puts : Interpretation → Told → Inner → Inner
+told_puts i told inner = founds_before i (told_found told) inner
+
+-- These are the pieces and the functions of what is told.
+pub record ArePartsOf (told : Told) (parts : Parts) : Type 0 where
+  pub says : (i : Interpretation) (rest : Rest) → pieces_say i parts.pieces.items rest ≡ told_says i told rest
+  pub found : parts.found.items ≡ told_found told
+
+-- What is told after `old` says this, and these functions were found after those of `old`.
+pub record Tells (old new : Told) (more : Interpretation → Rest → Rest) (others : List Found) : Type 0 where
+  pub says : (i : Interpretation) (rest : Rest) → told_says i new rest ≡ told_says i old (more i rest)
+  pub found : told_found new ≡ told_found old ++ others

@@ -1,0 +1,645 @@
+//! The handler.
+
+ghost use Rattle.std.specs.Prelude.{◌≡◌, List, Option, None, true, false, IfOk};
+ghost use Rattle.script_grammar.specs.Interpretation.{Interpretation, text_of, named, maybe_named};
+ghost use Rattle.script_grammar.specs.Shows.{ShowAll, ShowMaybe, ShowArgs, ShowOperand, ShowPart, ShowTail, ShowKey, ShowFunc, ShowBind, ShowInit, ShowEach, ShowClause};
+ghost use Rattle.script_grammar.specs.Tree as model;
+ghost use Rattle.script_grammar.specs.TreeLists as part;
+ghost use Rattle.script_grammar.specs.TreeLists.{exprs_of, maybe_expr_of, items_of, maybe_args_of, operands_of, parts_of, tails_of, props_of, binds_of, clauses_of, stmts_of, maybe_stmt_of};
+ghost use Rattle.parse_early_handler.specs.declared.directive.Directive.TheVariants as kind;
+ghost use Rattle.parse_early_handler.specs.declared.shape.Shape.TheVariants as form;
+ghost use Rattle.parse_skim_handler.specs.declared.told.Told.TheVariants as told;
+ghost use Rattle.parse_skim_handler.specs.Skims.{SkimsExpr, SkimsStmt, SkimsProp, SkimsBody};
+
+use crate::forms::{first_strict, later_protos, start_of_first};
+use crate::functions::{named_function, skim_function};
+use crate::kept::{Kept, Skim, nothing, of_error, of_expr, of_target, region, skim_top, with_said};
+use crate::nodes::{SkimBody, SkimExpr, SkimProp, SkimStmt};
+use crate::parts::{skim_binds, skim_block, skim_handling, skim_labelled};
+use crate::told::{Parts, Told, parts_of};
+use parse_early_handler::keys::proto_key;
+use parse_early_handler::parts::end_in_property;
+use parse_early_handler::{
+    BodyErrors, Directive, EarlyErrorHandler, ExprErrors, PropErrors, Shape, StmtErrors,
+};
+use parse_handlers::SyntaxBody;
+use parse_track::region::{Jump, Region};
+use parse_track_handler::Piece;
+use script_grammar::handler::Handler;
+use script_grammar::node::{
+    NodeArgs, NodeBind, NodeClause, NodeEach, NodeFunc, NodeInit, NodeKey, NodeOperand, NodeTail,
+    NodeTemplatePart,
+};
+use script_grammar::token::Decl;
+use script_grammar::tree::Ident;
+use std::alloc::{AllocError, Global};
+
+/// A handler that keeps no tree. Its nodes are what the parts tell a track, the functions in them and their first early errors.
+#[derive(Drop)]
+pub struct Skimming {
+    alloc: Global,
+    errors: EarlyErrorHandler,
+}
+
+impl Skimming {
+    /// A handler that keeps its pieces in this memory.
+    pub fn new(alloc: Global) -> Skimming {
+        let errors = EarlyErrorHandler::new();
+        Skimming { alloc, errors }
+    }
+}
+
+/// An expression in which nothing is told.
+fn quiet(errors: ExprErrors) -> SkimExpr
+    ensures { result ≡ record { told = told.Nothing; errors = errors } }
+{
+    let told = Told::Nothing;
+    SkimExpr { told, errors }
+}
+
+/// An expression of this form, of which this is kept.
+fn expr(kept: Kept, start: u32, shape: Shape) -> SkimExpr
+    ensures { result ≡ record { told = kept.told; errors = record { first = kept.first; start = start; shape = shape } } }
+{
+    let Kept { told, first } = kept;
+    SkimExpr {
+        told,
+        errors: ExprErrors {
+            first,
+            start,
+            shape,
+        },
+    }
+}
+
+/// An expression whose form no rule looks at.
+fn other(kept: Kept, start: u32) -> SkimExpr
+    ensures { result ≡ record { told = kept.told; errors = record { first = kept.first; start = start; shape = form.Other } } }
+{
+    expr(kept, start, Shape::Other)
+}
+
+/// A property, of which this is kept.
+fn prop(kept: Kept, proto: Option<u32>) -> SkimProp
+    ensures { result ≡ record { told = kept.told; errors = record { first = kept.first; proto = proto } } }
+{
+    let Kept { told, first } = kept;
+    SkimProp {
+        told,
+        errors: PropErrors { first, proto },
+    }
+}
+
+/// A statement that is no directive, of which this is kept.
+fn stmt(kept: Kept, declares: Option<Ident>, labels_on: bool) -> SkimStmt
+    ensures { result ≡ record { declares = declares; labels_on = labels_on; told = kept.told; errors = record { first = kept.first; directive = kind.No } } }
+{
+    let Kept { told, first } = kept;
+    SkimStmt {
+        declares,
+        labels_on,
+        told,
+        errors: StmtErrors {
+            first,
+            directive: Directive::No,
+        },
+    }
+}
+
+/// A statement that declares no function and is neither a loop nor a label.
+fn plain(kept: Kept) -> SkimStmt
+    ensures { result ≡ record { declares = None; labels_on = false; told = kept.told; errors = record { first = kept.first; directive = kind.No } } }
+{
+    stmt(kept, None, false)
+}
+
+/// A loop, or a statement after a label.
+fn looping(kept: Kept) -> SkimStmt
+    ensures { result ≡ record { declares = None; labels_on = true; told = kept.told; errors = record { first = kept.first; directive = kind.No } } }
+{
+    stmt(kept, None, true)
+}
+
+impl Handler for Skimming {
+    type E = SkimExpr;
+
+    type S = SkimStmt;
+
+    type P = SkimProp;
+
+    type B = SkimBody;
+
+    ghost shows_expr = { SkimsExpr };
+
+    ghost shows_stmt = { SkimsStmt };
+
+    ghost shows_prop = { SkimsProp };
+
+    ghost shows_body = { SkimsBody };
+
+    fn make_this(&mut self, at: u32) -> Result<SkimExpr, AllocError>
+        ensures { (i : Interpretation) → IfOk result (λ e. SkimsExpr i e (model.This at)) }
+    {
+        let errors = self.errors.make_this(at)?;
+        let kept = with_said(self.alloc, nothing(), Piece::This)?;
+        let told = kept.told;
+        Ok(SkimExpr { told, errors })
+    }
+
+    fn make_name(&mut self, name: Ident) -> Result<SkimExpr, AllocError>
+        ensures { (i : Interpretation) → IfOk result (λ e. SkimsExpr i e (model.Name (named i name))) }
+    {
+        let errors = self.errors.make_name(name)?;
+        Ok(SkimExpr {
+            told: Told::Used { atom: name.atom },
+            errors,
+        })
+    }
+
+    fn make_null(&mut self, at: u32) -> Result<SkimExpr, AllocError>
+        ensures { (i : Interpretation) → IfOk result (λ e. SkimsExpr i e (model.Null at)) }
+    {
+        let errors = self.errors.make_null(at)?;
+        Ok(quiet(errors))
+    }
+
+    fn make_true(&mut self, at: u32) -> Result<SkimExpr, AllocError>
+        ensures { (i : Interpretation) → IfOk result (λ e. SkimsExpr i e (model.True at)) }
+    {
+        let errors = self.errors.make_true(at)?;
+        Ok(quiet(errors))
+    }
+
+    fn make_false(&mut self, at: u32) -> Result<SkimExpr, AllocError>
+        ensures { (i : Interpretation) → IfOk result (λ e. SkimsExpr i e (model.False at)) }
+    {
+        let errors = self.errors.make_false(at)?;
+        Ok(quiet(errors))
+    }
+
+    fn make_number(&mut self, at: u32, value: u64) -> Result<SkimExpr, AllocError>
+        ensures { (i : Interpretation) → IfOk result (λ e. SkimsExpr i e (model.Number at value)) }
+    {
+        let errors = self.errors.make_number(at, value)?;
+        Ok(quiet(errors))
+    }
+
+    fn make_str(&mut self, at: u32, end: u32, atom: u32) -> Result<SkimExpr, AllocError>
+        ensures { (i : Interpretation) → IfOk result (λ e. SkimsExpr i e (model.Str at end (text_of i atom))) }
+    {
+        let errors = self.errors.make_str(at, end, atom)?;
+        Ok(quiet(errors))
+    }
+
+    fn make_template(
+        &mut self,
+        at: u32,
+        _first: u32,
+        parts: Vec<NodeTemplatePart<SkimExpr>>,
+    ) -> Result<SkimExpr, AllocError>
+        ensures { (i : Interpretation) (ps : List part.Part) → ShowAll (ShowPart i (SkimsExpr i)) parts.items ps
+            → IfOk result (λ e. SkimsExpr i e (model.Template at (text_of i _first) (parts_of ps))) }
+    {
+        let kept = parts.skim(self.alloc, nothing())?;
+        Ok(other(kept, at))
+    }
+
+    fn make_array(
+        &mut self,
+        at: u32,
+        items: Vec<Option<SkimExpr>>,
+        _comma: bool,
+    ) -> Result<SkimExpr, AllocError>
+        ensures { (i : Interpretation) (ts : List (Option model.Expr)) → ShowAll (ShowMaybe (SkimsExpr i)) items.items ts
+            → IfOk result (λ e. SkimsExpr i e (model.Array at (items_of ts) _comma)) }
+    {
+        let kept = items.skim(self.alloc, nothing())?;
+        Ok(other(kept, at))
+    }
+
+    fn make_object(
+        &mut self,
+        at: u32,
+        props: Vec<SkimProp>,
+        _comma: bool,
+    ) -> Result<SkimExpr, AllocError>
+        ensures { (i : Interpretation) (ps : List model.Prop) → ShowAll (SkimsProp i) props.items ps
+            → IfOk result (λ e. SkimsExpr i e (model.Object at (props_of ps) _comma)) }
+    {
+        let later = later_protos(&props);
+        let kept = props.skim(self.alloc, of_error(later))?;
+        Ok(other(kept, at))
+    }
+
+    fn make_func(
+        &mut self,
+        at: u32,
+        func: NodeFunc<SkimExpr, SkimBody>,
+    ) -> Result<SkimExpr, AllocError>
+        ensures { (i : Interpretation) (f : model.Function) → ShowFunc i (SkimsExpr i) (SkimsBody i) func f
+            → IfOk result (λ e. SkimsExpr i e (model.Func at f)) }
+    {
+        let kept = named_function(self.alloc, func)?;
+        Ok(other(kept, at))
+    }
+
+    fn make_paren(&mut self, at: u32, inner: SkimExpr) -> Result<SkimExpr, AllocError>
+        ensures { (i : Interpretation) (t : model.Expr) → SkimsExpr i inner t
+            → IfOk result (λ e. SkimsExpr i e (model.Paren at t)) }
+    {
+        let SkimExpr { told, errors } = inner;
+        let errors = self.errors.make_paren(at, errors)?;
+        Ok(SkimExpr { told, errors })
+    }
+
+    fn make_chain(
+        &mut self,
+        head: SkimExpr,
+        tails: Vec<NodeTail<SkimExpr>>,
+    ) -> Result<SkimExpr, AllocError>
+        ensures { (i : Interpretation) (t : model.Expr) (ts : List model.Tail) → SkimsExpr i head t → ShowAll (ShowTail i (SkimsExpr i)) tails.items ts
+            → IfOk result (λ e. SkimsExpr i e (model.Chain t (tails_of ts))) }
+    {
+        let start = head.errors.start;
+        let property = end_in_property(&tails);
+        let shape = Shape::of_chain(property);
+        let kept = tails.skim(self.alloc, of_expr(head))?;
+        Ok(expr(kept, start, shape))
+    }
+
+    fn make_new(
+        &mut self,
+        at: u32,
+        callee: SkimExpr,
+        args: Option<NodeArgs<SkimExpr>>,
+    ) -> Result<SkimExpr, AllocError>
+        ensures { (i : Interpretation) (t : model.Expr) (a : Option part.Args) → SkimsExpr i callee t → ShowMaybe (ShowArgs (SkimsExpr i)) args a
+            → IfOk result (λ e. SkimsExpr i e (model.New at t (maybe_args_of a))) }
+    {
+        let kept = args.skim(self.alloc, of_expr(callee))?;
+        Ok(other(kept, at))
+    }
+
+    fn make_unary(
+        &mut self,
+        at: u32,
+        op: u8,
+        of: SkimExpr,
+        is_word: bool,
+    ) -> Result<SkimExpr, AllocError>
+        ensures { (i : Interpretation) (t : model.Expr) → SkimsExpr i of t
+            → IfOk result (λ e. SkimsExpr i e (model.Unary at op t is_word)) }
+    {
+        let SkimExpr { told, errors } = of;
+        let errors = self.errors.make_unary(at, op, errors, is_word)?;
+        Ok(SkimExpr { told, errors })
+    }
+
+    fn make_update(
+        &mut self,
+        at: u32,
+        op: u8,
+        prefix: bool,
+        of: SkimExpr,
+    ) -> Result<SkimExpr, AllocError>
+        ensures { (i : Interpretation) (t : model.Expr) → SkimsExpr i of t
+            → IfOk result (λ e. SkimsExpr i e (model.Update at op prefix t)) }
+    {
+        let SkimExpr { told, errors } = of;
+        let errors = self.errors.make_update(at, op, prefix, errors)?;
+        Ok(SkimExpr { told, errors })
+    }
+
+    fn make_binary(
+        &mut self,
+        first: SkimExpr,
+        rest: Vec<NodeOperand<SkimExpr>>,
+    ) -> Result<SkimExpr, AllocError>
+        ensures { (i : Interpretation) (t : model.Expr) (os : List part.Operand) → SkimsExpr i first t → ShowAll (ShowOperand (SkimsExpr i)) rest.items os
+            → IfOk result (λ e. SkimsExpr i e (model.Binary t (operands_of os))) }
+    {
+        let start = first.errors.start;
+        let kept = rest.skim(self.alloc, of_expr(first))?;
+        Ok(other(kept, start))
+    }
+
+    fn make_cond(
+        &mut self,
+        test: SkimExpr,
+        yes: SkimExpr,
+        no: SkimExpr,
+    ) -> Result<SkimExpr, AllocError>
+        ensures { (i : Interpretation) (t u v : model.Expr) → SkimsExpr i test t → SkimsExpr i yes u → SkimsExpr i no v
+            → IfOk result (λ e. SkimsExpr i e (model.Cond t u v)) }
+    {
+        let start = test.errors.start;
+        let chosen = yes.skim(self.alloc, of_expr(test))?;
+        let kept = no.skim(self.alloc, chosen)?;
+        Ok(other(kept, start))
+    }
+
+    fn make_assign(
+        &mut self,
+        _op: u8,
+        target: SkimExpr,
+        value: SkimExpr,
+    ) -> Result<SkimExpr, AllocError>
+        ensures { (i : Interpretation) (t v : model.Expr) → SkimsExpr i target t → SkimsExpr i value v
+            → IfOk result (λ e. SkimsExpr i e (model.Assign _op t v)) }
+    {
+        let start = target.errors.start;
+        let kept = value.skim(self.alloc, of_target(target))?;
+        Ok(other(kept, start))
+    }
+
+    fn make_comma(&mut self, items: Vec<SkimExpr>) -> Result<SkimExpr, AllocError>
+        ensures { (i : Interpretation) (ts : List model.Expr) → ShowAll (SkimsExpr i) items.items ts
+            → IfOk result (λ e. SkimsExpr i e (model.Comma (exprs_of ts))) }
+    {
+        let start = start_of_first(&items);
+        let kept = items.skim(self.alloc, nothing())?;
+        Ok(other(kept, start))
+    }
+
+    fn make_short(&mut self, name: Ident) -> Result<SkimProp, AllocError>
+        ensures { (i : Interpretation) → IfOk result (λ p. SkimsProp i p (model.Short (named i name))) }
+    {
+        let errors = self.errors.make_short(name)?;
+        Ok(SkimProp {
+            told: Told::Used { atom: name.atom },
+            errors,
+        })
+    }
+
+    fn make_pair(&mut self, key: NodeKey<SkimExpr>, value: SkimExpr) -> Result<SkimProp, AllocError>
+        ensures { (i : Interpretation) (k : model.Key) (v : model.Expr) → ShowKey i (SkimsExpr i) key k → SkimsExpr i value v
+            → IfOk result (λ p. SkimsProp i p (model.Pair k v)) }
+    {
+        let proto = proto_key(&key);
+        let named = key.skim(self.alloc, nothing())?;
+        let kept = value.skim(self.alloc, named)?;
+        Ok(prop(kept, proto))
+    }
+
+    fn make_method(
+        &mut self,
+        key: NodeKey<SkimExpr>,
+        func: NodeFunc<SkimExpr, SkimBody>,
+    ) -> Result<SkimProp, AllocError>
+        ensures { (i : Interpretation) (k : model.Key) (f : model.Function) → ShowKey i (SkimsExpr i) key k → ShowFunc i (SkimsExpr i) (SkimsBody i) func f
+            → IfOk result (λ p. SkimsProp i p (model.Method k f)) }
+    {
+        let named = key.skim(self.alloc, nothing())?;
+        let kept = skim_function(self.alloc, named, false, func)?;
+        Ok(prop(kept, None))
+    }
+
+    fn make_get(
+        &mut self,
+        key: NodeKey<SkimExpr>,
+        func: NodeFunc<SkimExpr, SkimBody>,
+    ) -> Result<SkimProp, AllocError>
+        ensures { (i : Interpretation) (k : model.Key) (f : model.Function) → ShowKey i (SkimsExpr i) key k → ShowFunc i (SkimsExpr i) (SkimsBody i) func f
+            → IfOk result (λ p. SkimsProp i p (model.Get k f)) }
+    {
+        let named = key.skim(self.alloc, nothing())?;
+        let kept = skim_function(self.alloc, named, false, func)?;
+        Ok(prop(kept, None))
+    }
+
+    fn make_set(
+        &mut self,
+        key: NodeKey<SkimExpr>,
+        func: NodeFunc<SkimExpr, SkimBody>,
+    ) -> Result<SkimProp, AllocError>
+        ensures { (i : Interpretation) (k : model.Key) (f : model.Function) → ShowKey i (SkimsExpr i) key k → ShowFunc i (SkimsExpr i) (SkimsBody i) func f
+            → IfOk result (λ p. SkimsProp i p (model.Set k f)) }
+    {
+        let named = key.skim(self.alloc, nothing())?;
+        let kept = skim_function(self.alloc, named, false, func)?;
+        Ok(prop(kept, None))
+    }
+
+    fn make_block(&mut self, items: Vec<SkimStmt>) -> Result<SkimStmt, AllocError>
+        ensures { (i : Interpretation) (ss : List model.Stmt) → ShowAll (SkimsStmt i) items.items ss
+            → IfOk result (λ s. SkimsStmt i s (model.Block (stmts_of ss))) }
+    {
+        let kept = skim_block(self.alloc, nothing(), items)?;
+        Ok(plain(kept))
+    }
+
+    fn make_empty(&mut self) -> Result<SkimStmt, AllocError>
+        ensures { (i : Interpretation) → IfOk result (λ s. SkimsStmt i s model.Empty) }
+    {
+        Ok(plain(nothing()))
+    }
+
+    fn make_debugger(&mut self, _semi: bool) -> Result<SkimStmt, AllocError>
+        ensures { (i : Interpretation) → IfOk result (λ s. SkimsStmt i s (model.Debugger _semi)) }
+    {
+        Ok(plain(nothing()))
+    }
+
+    fn make_binds(
+        &mut self,
+        decl: Decl,
+        binds: Vec<NodeBind<SkimExpr>>,
+        _semi: bool,
+    ) -> Result<SkimStmt, AllocError>
+        ensures { (i : Interpretation) (bs : List part.Bind) → ShowAll (ShowBind i (SkimsExpr i)) binds.items bs
+            → IfOk result (λ s. SkimsStmt i s (model.Binding decl (binds_of bs) _semi)) }
+    {
+        let kept = skim_binds(self.alloc, nothing(), decl, binds)?;
+        Ok(plain(kept))
+    }
+
+    fn make_value(&mut self, value: SkimExpr, semi: bool) -> Result<SkimStmt, AllocError>
+        ensures { (i : Interpretation) (t : model.Expr) → SkimsExpr i value t
+            → IfOk result (λ s. SkimsStmt i s (model.Value t semi)) }
+    {
+        let SkimExpr { told, errors } = value;
+        let errors = self.errors.make_value(errors, semi)?;
+        Ok(SkimStmt {
+            declares: None,
+            labels_on: false,
+            told,
+            errors,
+        })
+    }
+
+    fn make_if(
+        &mut self,
+        test: SkimExpr,
+        yes: SkimStmt,
+        no: Option<SkimStmt>,
+    ) -> Result<SkimStmt, AllocError>
+        ensures { (i : Interpretation) (t : model.Expr) (u : model.Stmt) (v : Option model.Stmt) → SkimsExpr i test t → SkimsStmt i yes u → ShowMaybe (SkimsStmt i) no v
+            → IfOk result (λ s. SkimsStmt i s (model.If t u (maybe_stmt_of v))) }
+    {
+        let chosen = yes.skim(self.alloc, of_expr(test))?;
+        let kept = no.skim(self.alloc, chosen)?;
+        Ok(plain(kept))
+    }
+
+    fn make_do(
+        &mut self,
+        body: SkimStmt,
+        test: SkimExpr,
+        _semi: bool,
+    ) -> Result<SkimStmt, AllocError>
+        ensures { (i : Interpretation) (b : model.Stmt) (t : model.Expr) → SkimsStmt i body b → SkimsExpr i test t
+            → IfOk result (λ s. SkimsStmt i s (model.Do b t _semi)) }
+    {
+        let done = body.skim(self.alloc, nothing())?;
+        let inside = test.skim(self.alloc, done)?;
+        let kept = region(self.alloc, nothing(), Region::Loop, inside)?;
+        Ok(looping(kept))
+    }
+
+    fn make_while(&mut self, test: SkimExpr, body: SkimStmt) -> Result<SkimStmt, AllocError>
+        ensures { (i : Interpretation) (t : model.Expr) (b : model.Stmt) → SkimsExpr i test t → SkimsStmt i body b
+            → IfOk result (λ s. SkimsStmt i s (model.While t b)) }
+    {
+        let inside = body.skim(self.alloc, of_expr(test))?;
+        let kept = region(self.alloc, nothing(), Region::Loop, inside)?;
+        Ok(looping(kept))
+    }
+
+    fn make_for(
+        &mut self,
+        init: NodeInit<SkimExpr>,
+        test: Option<SkimExpr>,
+        update: Option<SkimExpr>,
+        body: SkimStmt,
+    ) -> Result<SkimStmt, AllocError>
+        ensures { (i : Interpretation) (n : model.Init) (t u : Option model.Expr) (b : model.Stmt) → ShowInit i (SkimsExpr i) init n
+            → ShowMaybe (SkimsExpr i) test t → ShowMaybe (SkimsExpr i) update u → SkimsStmt i body b
+            → IfOk result (λ s. SkimsStmt i s (model.For n (maybe_expr_of t) (maybe_expr_of u) b)) }
+    {
+        let begun = init.skim(self.alloc, nothing())?;
+        let tested = test.skim(self.alloc, begun)?;
+        let updated = update.skim(self.alloc, tested)?;
+        let inside = body.skim(self.alloc, updated)?;
+        let head = region(self.alloc, nothing(), Region::ForHead, inside)?;
+        let kept = region(self.alloc, nothing(), Region::Loop, head)?;
+        Ok(looping(kept))
+    }
+
+    fn make_forin(
+        &mut self,
+        each: NodeEach<SkimExpr>,
+        over: SkimExpr,
+        body: SkimStmt,
+    ) -> Result<SkimStmt, AllocError>
+        ensures { (i : Interpretation) (n : model.Each) (t : model.Expr) (b : model.Stmt) → ShowEach i (SkimsExpr i) each n → SkimsExpr i over t → SkimsStmt i body b
+            → IfOk result (λ s. SkimsStmt i s (model.ForIn n t b)) }
+    {
+        let begun = each.skim(self.alloc, nothing())?;
+        let listed = over.skim(self.alloc, begun)?;
+        let inside = body.skim(self.alloc, listed)?;
+        let head = region(self.alloc, nothing(), Region::ForHead, inside)?;
+        let kept = region(self.alloc, nothing(), Region::Loop, head)?;
+        Ok(looping(kept))
+    }
+
+    fn make_continue(
+        &mut self,
+        at: u32,
+        label: Option<Ident>,
+        _semi: bool,
+    ) -> Result<SkimStmt, AllocError>
+        ensures { (i : Interpretation) → IfOk result (λ s. SkimsStmt i s (model.Continue at (maybe_named i label) _semi)) }
+    {
+        let word = Jump::Continue;
+        let kept = with_said(self.alloc, nothing(), Piece::Jumped { word, at, label })?;
+        Ok(plain(kept))
+    }
+
+    fn make_break(
+        &mut self,
+        at: u32,
+        label: Option<Ident>,
+        _semi: bool,
+    ) -> Result<SkimStmt, AllocError>
+        ensures { (i : Interpretation) → IfOk result (λ s. SkimsStmt i s (model.Break at (maybe_named i label) _semi)) }
+    {
+        let word = Jump::Break;
+        let kept = with_said(self.alloc, nothing(), Piece::Jumped { word, at, label })?;
+        Ok(plain(kept))
+    }
+
+    fn make_return(&mut self, value: Option<SkimExpr>, _semi: bool) -> Result<SkimStmt, AllocError>
+        ensures { (i : Interpretation) (t : Option model.Expr) → ShowMaybe (SkimsExpr i) value t
+            → IfOk result (λ s. SkimsStmt i s (model.Return (maybe_expr_of t) _semi)) }
+    {
+        let kept = value.skim(self.alloc, nothing())?;
+        Ok(plain(kept))
+    }
+
+    fn make_throw(&mut self, value: SkimExpr, _semi: bool) -> Result<SkimStmt, AllocError>
+        ensures { (i : Interpretation) (t : model.Expr) → SkimsExpr i value t
+            → IfOk result (λ s. SkimsStmt i s (model.Throw t _semi)) }
+    {
+        Ok(plain(of_expr(value)))
+    }
+
+    fn make_switch(
+        &mut self,
+        of: SkimExpr,
+        clauses: Vec<NodeClause<SkimExpr, SkimStmt>>,
+    ) -> Result<SkimStmt, AllocError>
+        ensures { (i : Interpretation) (t : model.Expr) (cs : List part.Clause) → SkimsExpr i of t → ShowAll (ShowClause (SkimsExpr i) (SkimsStmt i)) clauses.items cs
+            → IfOk result (λ s. SkimsStmt i s (model.Switch t (clauses_of cs))) }
+    {
+        let inside = clauses.skim(self.alloc, nothing())?;
+        let kept = region(self.alloc, of_expr(of), Region::Switch, inside)?;
+        Ok(plain(kept))
+    }
+
+    fn make_label(&mut self, name: Ident, body: SkimStmt) -> Result<SkimStmt, AllocError>
+        ensures { (i : Interpretation) (b : model.Stmt) → SkimsStmt i body b
+            → IfOk result (λ s. SkimsStmt i s (model.Label (named i name) b)) }
+    {
+        let inside = skim_labelled(self.alloc, body)?;
+        let kept = region(self.alloc, nothing(), Region::Label(name), inside)?;
+        Ok(looping(kept))
+    }
+
+    fn make_try(
+        &mut self,
+        body: Vec<SkimStmt>,
+        param: Option<Ident>,
+        handler: Vec<SkimStmt>,
+    ) -> Result<SkimStmt, AllocError>
+        ensures { (i : Interpretation) (bs hs : List model.Stmt) → ShowAll (SkimsStmt i) body.items bs → ShowAll (SkimsStmt i) handler.items hs
+            → IfOk result (λ s. SkimsStmt i s (model.Try (stmts_of bs) (maybe_named i param) (stmts_of hs))) }
+    {
+        let tried = skim_block(self.alloc, nothing(), body)?;
+        let kept = skim_handling(self.alloc, tried, param, handler)?;
+        Ok(plain(kept))
+    }
+
+    fn make_declared(&mut self, func: NodeFunc<SkimExpr, SkimBody>) -> Result<SkimStmt, AllocError>
+        ensures { (i : Interpretation) (f : model.Function) → ShowFunc i (SkimsExpr i) (SkimsBody i) func f
+            → IfOk result (λ s. SkimsStmt i s (model.Declared f)) }
+    {
+        let declares = func.name;
+        let kept = skim_function(self.alloc, nothing(), true, func)?;
+        Ok(stmt(kept, declares, false))
+    }
+
+    fn body(&mut self, items: Vec<SkimStmt>) -> Result<SkimBody, AllocError>
+        ensures { (i : Interpretation) (ss : List model.Stmt) → ShowAll (SkimsStmt i) items.items ss
+            → IfOk result (λ b. SkimsBody i b (stmts_of ss)) }
+    {
+        let strict = first_strict(&items);
+        let kept = skim_top(self.alloc, nothing(), items)?;
+        let Kept { told, first } = kept;
+        let Parts { pieces, found } = parts_of(self.alloc, told)?;
+        Ok(SkimBody {
+            told: Piece::Many { pieces },
+            found: SyntaxBody { found },
+            errors: BodyErrors { first, strict },
+        })
+    }
+}

@@ -1,9 +1,38 @@
 -- The nodes that methods make stand for what the law says.
+use Rattle.std.proofs.Common.{Bool, List, None, Option, Some, false, refl, subst, sym, true, ℕ, ◌≡◌}
+use Rattle.std.proofs.lemmas.List.{append_assoc}
+use Rattle.script_grammar.specs.Braced.{in_expr, in_prop, in_stmt}
+use Rattle.script_grammar.specs.Interpretation.{Interpretation, maybe_named}
 use Rattle.script_grammar.specs.Tree as model
+use Rattle.script_grammar.specs.Tree.{Expr, Prop, Stmt}
+use Rattle.script_grammar.specs.declared.tree.Ident.{Ident}
+use Rattle.parse_track.specs.Notes.{notes_expr, notes_function, proto_of, start_of, target_error}
 use Rattle.parse_track.specs.Tells as tell
+use Rattle.parse_track.specs.Tells.{labels_on, tells_expr}
+use Rattle.parse_track.specs.declared.region.Early.{Early}
 use Rattle.parse_handlers.specs.Inner as inner
+use Rattle.parse_early_handler.specs.Directives.{directive_of}
+use Rattle.parse_early_handler.specs.HasErrors.{HasEmptyBodies, HasErrorsExpr, HasErrorsProp, HasErrorsStmt}
+use Rattle.parse_early_handler.specs.Known.{KnowsWords, known_atoms}
+use Rattle.parse_early_handler.specs.Shapes.{shape_of}
 use Rattle.parse_early_handler.specs.declared.directive.Directive.TheVariants as kind
+use Rattle.parse_early_handler.specs.declared.nodes.ExprErrors.{ExprErrors}
+use Rattle.parse_early_handler.specs.declared.shape.Shape.{Shape}
+use Rattle.parse_track_handler.specs.Says.{Says}
+use Rattle.parse_track_handler.proofs.Saying.{name-says, then-says}
+use Rattle.parse_skim_handler.specs.Kept.{Means, kept_means, stmt_means}
+use Rattle.parse_skim_handler.specs.Meaning.{Meaning}
+use Rattle.parse_skim_handler.specs.Means.{Owed, Stands, expr_owed, prop_owed, stmt_owed, then_owed}
+use Rattle.parse_skim_handler.specs.Skims.{SkimsExpr, SkimsProp, SkimsStmt}
+use Rattle.parse_skim_handler.specs.Telling.{told_puts, told_says}
+use Rattle.parse_skim_handler.specs.declared.kept.Kept.{Kept}
+use Rattle.parse_skim_handler.specs.declared.nodes.SkimExpr.{SkimExpr}
+use Rattle.parse_skim_handler.specs.declared.nodes.SkimProp.{SkimProp}
+use Rattle.parse_skim_handler.specs.declared.nodes.SkimStmt.{SkimStmt}
 use Rattle.parse_skim_handler.specs.declared.told.Told.TheVariants as told
+use Rattle.parse_skim_handler.proofs.Standing.{kept-stands, stands-as}
+use Rattle.parse_skim_handler.proofs.StandingFunctions.{function_owed}
+use Rattle.parse_skim_handler.proofs.StandingParts.{target_owed}
 
 module _ (i : Interpretation) where
   -- an expression of which this is kept

@@ -1,5 +1,17 @@
 -- What is put after what is kept.
+use Rattle.std.proofs.Common.{Err, IfOk, List, Ok, Option, Result, [], ap, refl, subst, sym, ℕ, ◌++◌, ◌∙◌, ◌∷◌, ◌≡◌}
+use Rattle.script_grammar.specs.Interpretation.{Interpretation}
+use Rattle.parse_track.specs.EarlyErrors.{sooner}
+use Rattle.parse_track.specs.Tells.{Text}
 use Rattle.parse_track.specs.Told as told
+use Rattle.parse_track.specs.declared.region.Early.{Early}
+use Rattle.parse_handlers.specs.Inner.{Inner}
+use Rattle.parse_early_handler.proofs.Sooner.{sooner_assoc, sooner_none}
+use Rattle.parse_track_handler.specs.Pieces.{Rest}
+use Rattle.parse_track_handler.proofs.Appending.{region-same}
+use Rattle.parse_skim_handler.specs.Kept.{Adds, Means, kept_means}
+use Rattle.parse_skim_handler.specs.Meaning.{Meaning, all_meant, nothing_meant, region_meant, then_meant}
+use Rattle.parse_skim_handler.specs.declared.kept.Kept.{Kept}
 
 -- what a call gives, by what it gives
 pub if_ok : {A E : Type 0} {P Q : A → Type 0} (r : Result A E) → IfOk r P → ((a : A) → P a → Q a) → IfOk r Q

@@ -1,5 +1,21 @@
 -- How the meanings of parts stand for the whole.
+use Rattle.std.proofs.Common.{List, None, Option, Some, [], ap, refl, subst, sym, ℕ, ◌∙◌, ◌∷◌, ◌≡◌}
+use Rattle.script_grammar.specs.Interpretation.{Interpretation, named}
+use Rattle.script_grammar.specs.Shows.{ShowAll, ShowMaybe}
+use Rattle.script_grammar.specs.declared.tree.Ident.{Ident}
+use Rattle.parse_track.specs.Tells.{Text}
 use Rattle.parse_track.specs.Told as told
+use Rattle.parse_track.specs.declared.region.Declare.{Declare}
+use Rattle.parse_track.specs.declared.region.Early.{Early}
+use Rattle.parse_early_handler.specs.HasErrors.{HasEmptyBodies}
+use Rattle.parse_early_handler.specs.Known.{KnowsWords, known_atoms}
+use Rattle.parse_early_handler.proofs.Parting.{IsFirst, then-first}
+use Rattle.parse_track_handler.proofs.Appending.{region-same}
+use Rattle.parse_track_handler.proofs.Saying.{name-says, none-says, region-says, same-says, then-says}
+use Rattle.parse_skim_handler.specs.Kept.{Means, kept_means}
+use Rattle.parse_skim_handler.specs.Meaning.{Meaning, all_meant, error_meant, maybe_meant, name_meant, nothing_meant, region_meant, then_meant}
+use Rattle.parse_skim_handler.specs.Means.{Owed, Stands, error_owed, name_owed, nothing_owed, region_owed, then_owed}
+use Rattle.parse_skim_handler.specs.declared.kept.Kept.{Kept}
 
 module _ (i : Interpretation) where
   pub nothing-stands : Stands i nothing_meant nothing_owed

@@ -1,13 +1,36 @@
 -- Functions.
-use Rattle.script_grammar.specs.declared.node.NodeFuncBody.TheVariants as bodies
+use Rattle.std.proofs.Common.{Bool, List, None, Option, Some, [], ap, false, not, option_map, refl, sym, true, ℕ, ◌&&◌, ◌++◌, ◌||◌, ◌∙◌, ◌∷◌, ◌≡◌}
+use Rattle.stencil_data.specs.declared.functions.FuncKind.{FuncKind}
 use Rattle.script_grammar.specs.Braced as braced
+use Rattle.script_grammar.specs.Interpretation.{Interpretation, maybe_named, named}
+use Rattle.script_grammar.specs.Shows.{FuncBodyOf, ShowAll, ShowFunc, ShowMaybe, ShowParam}
 use Rattle.script_grammar.specs.Tree as model
 use Rattle.script_grammar.specs.TreeLists as part
-use Rattle.parse_track.specs.declared.region.Declare.TheVariants as how
+use Rattle.script_grammar.specs.TreeLists.{maybe_expr_of, params_of}
+use Rattle.script_grammar.specs.declared.node.NodeFunc.{NodeFunc}
+use Rattle.script_grammar.specs.declared.node.NodeFuncBody.TheVariants as bodies
+use Rattle.script_grammar.specs.declared.node.NodeFuncBody.{NodeFuncBody}
+use Rattle.script_grammar.specs.declared.node.NodeParam.{NodeParam}
+use Rattle.script_grammar.specs.declared.tree.Ident.{Ident}
 use Rattle.parse_track.specs.Notes as note
-use Rattle.parse_track.specs.Told as told
 use Rattle.parse_track.specs.Tells as tell
+use Rattle.parse_track.specs.Tells.{Text}
+use Rattle.parse_track.specs.Told as told
+use Rattle.parse_track.specs.Told.{Told, nothing}
+use Rattle.parse_track.specs.declared.region.Declare.TheVariants as how
 use Rattle.parse_handlers.specs.Inner as inner
+use Rattle.parse_early_handler.specs.Firsts.{are_more, is_some_or}
+use Rattle.parse_early_handler.proofs.Expressions.{inside}
+use Rattle.parse_early_handler.proofs.Functions.{braced-first, deferred-first, more-is, more_params, params_many, short-first}
+use Rattle.parse_track_handler.proofs.Saying.{passed-says, read-says, told-same}
+use Rattle.parse_skim_handler.specs.Kept.{body_means, function_around, function_means, has_braces, have_initializer, inside_means, named_means, own_means, param_means}
+use Rattle.parse_skim_handler.specs.Meaning.{Meaning, all_meant}
+use Rattle.parse_skim_handler.specs.Means.{Owed, Stands, error_owed, name_owed, then_owed}
+use Rattle.parse_skim_handler.specs.Skims.{SkimsBody, SkimsExpr}
+use Rattle.parse_skim_handler.specs.declared.nodes.SkimBody.{SkimBody}
+use Rattle.parse_skim_handler.specs.declared.nodes.SkimExpr.{SkimExpr}
+use Rattle.parse_skim_handler.proofs.Standing.{all-stand, error-stands, name-stands, region-stands, stands-as, then-stands}
+use Rattle.parse_skim_handler.proofs.StandingParts.{maybe_expr-stands, maybe_owed}
 
 abbrev params_owed : model.Params → Owed
 params_owed ps = record { tells = tell.tells_params ps; braced = braced.in_params true ps; inner = inner.in_params ps; errors = note.notes_params ps }

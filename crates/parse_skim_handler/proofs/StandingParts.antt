@@ -1,16 +1,45 @@
 -- What parts over nodes mean stands for the parts of the model that they stand for.
-use Rattle.script_grammar.specs.declared.node.NodeTail.TheVariants as tails
-use Rattle.script_grammar.specs.declared.node.NodeKey.TheVariants as keys
-use Rattle.script_grammar.specs.declared.node.NodeInit.TheVariants as inits
-use Rattle.script_grammar.specs.declared.node.NodeEach.TheVariants as eaches
+use Rattle.std.proofs.Common.{Bool, List, None, Option, Some, [], ap, false, map, refl, sym, true, ◌++◌, ◌∷◌, ◌≡◌}
+use Rattle.std.proofs.lemmas.List.{append_assoc}
 use Rattle.script_grammar.specs.Braced as braced
+use Rattle.script_grammar.specs.Interpretation.{Interpretation, maybe_named, named}
+use Rattle.script_grammar.specs.Shows.{MaybeOf, ShowAll, ShowArgs, ShowBind, ShowClause, ShowEach, ShowInit, ShowKey, ShowMaybe, ShowOperand, ShowPart, ShowTail}
 use Rattle.script_grammar.specs.Tree as model
 use Rattle.script_grammar.specs.TreeLists as part
-use Rattle.parse_track.specs.declared.region.Declare.TheVariants as how
+use Rattle.script_grammar.specs.TreeLists.{binds_of, clauses_of, exprs_of, items_of, maybe_args_of, maybe_expr_of, maybe_stmt_of, operands_of, parts_of, props_of, stmts_of, tails_of}
+use Rattle.script_grammar.specs.declared.node.NodeArgs.{NodeArgs}
+use Rattle.script_grammar.specs.declared.node.NodeBind.{NodeBind}
+use Rattle.script_grammar.specs.declared.node.NodeClause.{NodeClause}
+use Rattle.script_grammar.specs.declared.node.NodeEach.TheVariants as eaches
+use Rattle.script_grammar.specs.declared.node.NodeEach.{NodeEach}
+use Rattle.script_grammar.specs.declared.node.NodeInit.TheVariants as inits
+use Rattle.script_grammar.specs.declared.node.NodeInit.{NodeInit}
+use Rattle.script_grammar.specs.declared.node.NodeKey.TheVariants as keys
+use Rattle.script_grammar.specs.declared.node.NodeKey.{NodeKey}
+use Rattle.script_grammar.specs.declared.node.NodeOperand.{NodeOperand}
+use Rattle.script_grammar.specs.declared.node.NodeTail.TheVariants as tails
+use Rattle.script_grammar.specs.declared.node.NodeTail.{NodeTail}
+use Rattle.script_grammar.specs.declared.node.NodeTemplatePart.{NodeTemplatePart}
+use Rattle.script_grammar.specs.declared.token.Decl.{Decl}
+use Rattle.script_grammar.specs.declared.tree.Ident.{Ident}
 use Rattle.parse_track.specs.Notes as note
-use Rattle.parse_track.specs.Told as told
 use Rattle.parse_track.specs.Tells as tell
+use Rattle.parse_track.specs.Told as told
+use Rattle.parse_track.specs.declared.region.Declare.TheVariants as how
+use Rattle.parse_track.specs.declared.region.Early.{Early}
 use Rattle.parse_handlers.specs.Inner as inner
+use Rattle.parse_early_handler.specs.HasErrors.{HasErrorsExpr, HasErrorsProp, HasErrorsStmt}
+use Rattle.parse_early_handler.proofs.Expressions.{inside, items_args}
+use Rattle.parse_early_handler.proofs.Statements.{const-first}
+use Rattle.parse_early_handler.proofs.Targets.{target-first}
+use Rattle.parse_skim_handler.specs.Kept.{args_mean, bind_means, binds_mean, block_means, clause_means, each_means, expr_errors, expr_means, handling_means, init_means, key_means, labelled_as, operand_means, part_means, prop_errors, prop_means, stmt_errors, stmt_means, tail_means, target_means}
+use Rattle.parse_skim_handler.specs.Meaning.{all_meant, maybe_meant, region_meant, then_meant}
+use Rattle.parse_skim_handler.specs.Means.{Owed, Stands, error_owed, expr_owed, name_owed, prop_owed, region_owed, stmt_owed, stmts_owed, then_owed}
+use Rattle.parse_skim_handler.specs.Skims.{SkimsExpr, SkimsProp, SkimsStmt}
+use Rattle.parse_skim_handler.specs.declared.nodes.SkimExpr.{SkimExpr}
+use Rattle.parse_skim_handler.specs.declared.nodes.SkimProp.{SkimProp}
+use Rattle.parse_skim_handler.specs.declared.nodes.SkimStmt.{SkimStmt}
+use Rattle.parse_skim_handler.proofs.Standing.{all-stand, error-stands, maybe-stands, name-stands, nothing-stands, region-stands, stands-as, then-stands}
 
 -- Nodes stand for what their images stand for.
 pub all-mapped : {N M X : Type 0} (f : N → M) (R : N → X → Type 0) (Q : M → X → Type 0) → ((n : N) (x : X) → R n x → Q (f n) x) → (ns : List N) (xs : List X) → ShowAll R ns xs → ShowAll Q (map f ns) xs

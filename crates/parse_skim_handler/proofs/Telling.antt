@@ -1,4 +1,14 @@
 -- Pieces and functions that are put after others.
+use Rattle.std.proofs.Common.{List, [], ap, refl, sym, ◌++◌, ◌∙◌, ◌∷◌, ◌≡◌}
+use Rattle.script_grammar.specs.Interpretation.{Interpretation}
+use Rattle.parse_handlers.specs.FoundOf.{before, found_of, founds_before}
+use Rattle.parse_handlers.specs.Inner.{Inner}
+use Rattle.parse_handlers.specs.declared.found.Found.{Found}
+use Rattle.parse_track_handler.specs.Pieces.{Rest, piece_says, pieces_say}
+use Rattle.parse_track_handler.specs.declared.piece.Piece.{Piece}
+use Rattle.parse_skim_handler.specs.Telling.{ArePartsOf, Tells}
+use Rattle.parse_skim_handler.specs.declared.told.Parts.{Parts}
+use Rattle.parse_skim_handler.specs.declared.told.Told.{Told}
 
 pub founds-then : (i : Interpretation) (xs ys : List Found) (r : Inner) → founds_before i (xs ++ ys) r ≡ founds_before i xs (founds_before i ys r)
 founds-then i [] ys r = refl

@@ -29,9 +29,9 @@ use Rattle.parse_handlers.specs.Inner.{Inner, no_inner, more_inner, kind_of, tex
 use Rattle.parse_early_handler.specs.declared.nodes.ExprErrors.{ExprErrors}
 use Rattle.parse_early_handler.specs.declared.nodes.PropErrors.{PropErrors}
 use Rattle.parse_early_handler.specs.declared.nodes.StmtErrors.{StmtErrors}
-use Rattle.parse_early_handler.specs.Firsts.{are_more, const_first, many_args, many_params, strict_error, target_first}
+use Rattle.parse_early_handler.specs.Firsts.{are_more, const_first, is_some_or, many_args, many_params, strict_error, target_first}
 use Rattle.parse_track_handler.specs.Pieces.{Rest, piece_says, says_passed, says_read, says_region}
-use Rattle.parse_track_handler.specs.Parts.{declares_as, is_some_or}
+use Rattle.parse_track_handler.specs.Parts.{declares_as}
 use Rattle.parse_skim_handler.specs.declared.kept.Kept.{Kept}
 use Rattle.parse_skim_handler.specs.declared.nodes.SkimBody.{SkimBody}
 use Rattle.parse_skim_handler.specs.declared.nodes.SkimExpr.{SkimExpr}

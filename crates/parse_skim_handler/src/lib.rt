@@ -3,9 +3,9 @@
 //! It stands on `script_grammar`, whose trait `Handler` says what each method has to do, and on `parse_track_handler`,
 //! `parse_handlers` and `parse_early_handler`, whose definitions say what a part of a script tells a track, which functions are
 //! directly in it, and which early errors of the rules that look at no region it has. A parser that is generic over its
-//! handler reads a script with it once, and its nodes have all three. Each list is walked once. A part that tells nothing or uses
-//! one name takes no memory; what others tell is put after what is there, and a long list of pieces stays together, so that
-//! time and memory are in proportion to the script.
+//! handler reads a script with it once, and its nodes have all three. Each node is taken once into the node around it. A part that
+//! tells nothing or uses one name takes no memory; what others tell is put after what is there, and a long list of pieces stays
+//! together, so that time and memory are in proportion to the script.
 //!
 //! Its law (`specs/Skims.antt`): a node stands for the trees that the nodes of these three stand for.
 #![tactic(auto)]
@@ -21,3 +21,6 @@ pub mod told;
 pub use handler::Skimming;
 pub use nodes::{SkimBody, SkimExpr, SkimProp, SkimStmt};
 pub use told::{Parts, Told};
+
+#[cfg(test)]
+mod tests;

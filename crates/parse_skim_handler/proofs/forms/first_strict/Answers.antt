@@ -1,3 +1,11 @@
+use Rattle.std.proofs.Common.{List, ap, map, sym, ◌∙◌}
+use Rattle.parse_track.specs.EarlyErrors.{smaller}
+use Rattle.parse_track.proofs.Smallest.{smaller_none}
+use Rattle.parse_early_handler.specs.Firsts.{strict_first}
+use Rattle.parse_early_handler.specs.declared.nodes.StmtErrors.{StmtErrors}
+use Rattle.parse_early_handler.proofs.Turns.{strict_ends, strict_on}
+use Rattle.parse_skim_handler.specs.Kept.{stmt_errors}
+use Rattle.parse_skim_handler.proofs.Images.{ended_image, next_image}
 use Rattle.parse_skim_handler.proofs.forms.first_strict.Goals as goal
 
 pub loop-item-preserved : goal.loop-item-preserved

@@ -1,3 +1,10 @@
+use Rattle.std.proofs.Common.{List, Option, add-one, ap, drop, get_or, length, sym, ℕ, ◌+◌, ◌<◌, ◌∙◌, ◌∷◌, ◌≡◌}
+use Rattle.std.proofs.Math.ListN.{drop_of_length-le}
+use Rattle.std.proofs.Math.Seq.{drop-cons}
+use Rattle.script_grammar.specs.declared.node.NodeParam.{NodeParam}
+use Rattle.parse_early_handler.specs.Firsts.{is_some_or}
+use Rattle.parse_skim_handler.specs.Kept.{have_initializer}
+use Rattle.parse_skim_handler.specs.declared.nodes.SkimExpr.{SkimExpr}
 use Rattle.parse_skim_handler.proofs.functions.has_initializer.Goals as goal
 
 here : (ps : List (NodeParam SkimExpr)) (k : ℕ) (p : NodeParam SkimExpr) (v : Option SkimExpr) → k < length ps → p ≡ get_or ps k p → p.value ≡ v

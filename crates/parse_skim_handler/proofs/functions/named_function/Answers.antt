@@ -1,5 +1,9 @@
-use Rattle.parse_track.specs.Told as told
+use Rattle.std.proofs.Common.{false}
+use Rattle.script_grammar.specs.Interpretation.{named}
 use Rattle.parse_track.specs.Tells as tell
+use Rattle.parse_track.specs.Told as told
+use Rattle.parse_skim_handler.specs.Kept.{function_means, named_means}
+use Rattle.parse_skim_handler.proofs.Meanings.{adds-region, begun, if_ok, means-as}
 use Rattle.parse_skim_handler.proofs.functions.named_function.Goals as goal
 
 pub returns-in-None : goal.returns-in-None

@@ -1,3 +1,7 @@
+use Rattle.std.proofs.Common.{refl}
+use Rattle.parse_track_handler.proofs.PieceEquations.{says-Passed}
+use Rattle.parse_skim_handler.specs.Kept.{body_means}
+use Rattle.parse_skim_handler.proofs.Meanings.{adds-same, if_ok, made-as}
 use Rattle.parse_skim_handler.proofs.functions.skim_body.Goals as goal
 
 pub returns-in-Braced : goal.returns-in-Braced

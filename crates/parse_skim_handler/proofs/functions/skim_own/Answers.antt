@@ -1,4 +1,6 @@
 use Rattle.parse_track.specs.Told as told
+use Rattle.parse_skim_handler.specs.Kept.{own_means}
+use Rattle.parse_skim_handler.proofs.Meanings.{adds-region, begun, if_ok, made-as}
 use Rattle.parse_skim_handler.proofs.functions.skim_own.Goals as goal
 
 pub returns-in_ok-inside : goal.returns-in_ok-inside

@@ -1,3 +1,12 @@
+use Rattle.std.proofs.Common.{Option}
+use Rattle.script_grammar.specs.Interpretation.{Interpretation}
+use Rattle.script_grammar.specs.declared.tree.Ident.{Ident}
+use Rattle.parse_track.specs.declared.region.Declare.{Declare}
+use Rattle.parse_track_handler.specs.Parts.{declares_as}
+use Rattle.parse_skim_handler.specs.Meaning.{Meaning}
+use Rattle.parse_skim_handler.specs.Telling.{told_puts, told_says}
+use Rattle.parse_skim_handler.specs.declared.nodes.SkimStmt.{SkimStmt}
+use Rattle.parse_skim_handler.proofs.Meanings.{adds-as, adds-then, if_ok}
 use Rattle.parse_skim_handler.proofs.kept.skim_stmt.Goals as goal
 
 -- a statement that declares this name, in this way

@@ -1,3 +1,10 @@
+use Rattle.std.proofs.Common.{sym, true, ◌∙◌}
+use Rattle.std.proofs.lemmas.Iterator.Adapters.{YieldsList-from_vec}
+use Rattle.std.proofs.lemmas.Iterator.Consumers.{YieldsList-end}
+use Rattle.parse_track_handler.proofs.Appending.{map-same}
+use Rattle.parse_skim_handler.specs.Kept.{stmt_means}
+use Rattle.parse_skim_handler.specs.Meaning.{all_meant}
+use Rattle.parse_skim_handler.proofs.Meanings.{adds-as, adds-more, adds-nothing}
 use Rattle.parse_skim_handler.proofs.kept.skim_top.Goals as goal
 
 pub loop-item-init : goal.loop-item-init

@@ -1,3 +1,7 @@
+use Rattle.std.proofs.Common.{ap, ◌∙◌}
+use Rattle.parse_handlers.specs.FoundOf.{founds_before}
+use Rattle.parse_skim_handler.specs.Telling.{told_found}
+use Rattle.parse_skim_handler.proofs.Telling.{founds-then}
 use Rattle.parse_skim_handler.proofs.kept.then_kept.Goals as goal
 
 pub returns : goal.returns

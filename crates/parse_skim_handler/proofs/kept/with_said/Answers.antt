@@ -1,3 +1,8 @@
+use Rattle.std.proofs.Common.{[], ap, sym, ◌∙◌}
+use Rattle.parse_handlers.specs.FoundOf.{founds_before}
+use Rattle.parse_early_handler.proofs.Sooner.{sooner_none}
+use Rattle.parse_skim_handler.specs.Telling.{told_found}
+use Rattle.parse_skim_handler.proofs.Telling.{founds-then}
 use Rattle.parse_skim_handler.proofs.kept.with_said.Goals as goal
 
 pub returns : goal.returns

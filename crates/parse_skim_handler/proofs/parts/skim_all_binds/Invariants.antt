@@ -1,3 +1,6 @@
+use Rattle.script_grammar.specs.Interpretation.{Interpretation}
+use Rattle.parse_skim_handler.specs.Kept.{Adds, bind_means}
+use Rattle.parse_skim_handler.specs.Meaning.{all_meant}
 use Rattle.parse_skim_handler.proofs.parts.skim_all_binds.Given as goal
 
 abbrev pub invariant-loop-bind : goal.invariant-loop-bind

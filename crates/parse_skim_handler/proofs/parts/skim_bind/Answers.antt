@@ -1,3 +1,4 @@
+use Rattle.parse_skim_handler.proofs.Meanings.{adds-then, if_ok}
 use Rattle.parse_skim_handler.proofs.parts.skim_bind.Goals as goal
 
 pub returns : goal.returns

@@ -1,3 +1,8 @@
+use Rattle.std.proofs.Common.{ap, sym, ◌∙◌}
+use Rattle.parse_early_handler.specs.Firsts.{const_first}
+use Rattle.parse_skim_handler.specs.Kept.{bind_means}
+use Rattle.parse_skim_handler.specs.Meaning.{all_meant, error_meant}
+use Rattle.parse_skim_handler.proofs.Meanings.{adds-as, adds-then, if_ok}
 use Rattle.parse_skim_handler.proofs.parts.skim_binds.Goals as goal
 
 pub returns : goal.returns

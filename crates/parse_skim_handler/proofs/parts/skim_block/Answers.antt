@@ -1,4 +1,5 @@
 use Rattle.parse_track.specs.Told as told
+use Rattle.parse_skim_handler.proofs.Meanings.{adds-region, begun, if_ok}
 use Rattle.parse_skim_handler.proofs.parts.skim_block.Goals as goal
 
 pub returns : goal.returns

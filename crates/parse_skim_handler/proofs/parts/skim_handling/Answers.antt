@@ -1,4 +1,6 @@
 use Rattle.parse_track.specs.Told as told
+use Rattle.parse_skim_handler.specs.Kept.{handling_means}
+use Rattle.parse_skim_handler.proofs.Meanings.{adds-region, adds-then, begun, if_ok, made-as}
 use Rattle.parse_skim_handler.proofs.parts.skim_handling.Goals as goal
 
 pub returns-in-None : goal.returns-in-None

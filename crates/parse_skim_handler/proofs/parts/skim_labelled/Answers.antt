@@ -1,4 +1,6 @@
 use Rattle.parse_track.specs.Told as told
+use Rattle.parse_skim_handler.specs.Kept.{labelled_as}
+use Rattle.parse_skim_handler.proofs.Meanings.{adds-region, begun, if_ok, means-as}
 use Rattle.parse_skim_handler.proofs.parts.skim_labelled.Goals as goal
 
 pub returns-then-body : goal.returns-then-body

@@ -1,3 +1,8 @@
+use Rattle.std.proofs.Common.{ap, ◌∙◌}
+use Rattle.parse_track_handler.specs.Pieces.{pieces_say}
+use Rattle.parse_track_handler.proofs.Appending.{appended_as}
+use Rattle.parse_track_handler.proofs.PieceEquations.{says-Many}
+use Rattle.parse_skim_handler.proofs.Telling.{pieces-then}
 use Rattle.parse_skim_handler.proofs.told.push_all.Goals as goal
 
 pub returns-in_ok-append-clause-pieces : goal.returns-in_ok-append-clause-pieces

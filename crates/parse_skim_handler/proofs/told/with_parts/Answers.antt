@@ -1,3 +1,6 @@
+use Rattle.std.proofs.Common.{ap, refl, ◌++◌, ◌∙◌}
+use Rattle.parse_track_handler.specs.Pieces.{pieces_say}
+use Rattle.parse_skim_handler.proofs.Telling.{tells-more}
 use Rattle.parse_skim_handler.proofs.told.with_parts.Goals as goal
 
 pub returns-in_ok-find_all-in_default : goal.returns-in_ok-find_all-in_default

@@ -1,4 +1,9 @@
+use Rattle.std.proofs.Common.{refl}
 use Rattle.script_grammar.specs.Tree as model
+use Rattle.script_grammar.specs.TreeLists.{items_of}
+use Rattle.parse_skim_handler.proofs.Made.{expr-made}
+use Rattle.parse_skim_handler.proofs.Meanings.{begun}
+use Rattle.parse_skim_handler.proofs.StandingParts.{items-stand}
 use Rattle.parse_skim_handler.proofs.handler.SkimmingHandler.make_array.Goals as goal
 
 pub returns : goal.returns

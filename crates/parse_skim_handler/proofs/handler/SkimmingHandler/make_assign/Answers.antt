@@ -1,4 +1,9 @@
+use Rattle.std.proofs.Common.{refl}
 use Rattle.script_grammar.specs.Tree as model
+use Rattle.parse_skim_handler.proofs.Made.{assign-stands, expr-made}
+use Rattle.parse_skim_handler.proofs.Meanings.{from}
+use Rattle.parse_skim_handler.proofs.Standing.{then-stands}
+use Rattle.parse_skim_handler.proofs.StandingParts.{target-stands}
 use Rattle.parse_skim_handler.proofs.handler.SkimmingHandler.make_assign.Goals as goal
 
 pub returns : goal.returns

@@ -1,4 +1,9 @@
+use Rattle.std.proofs.Common.{false, refl}
 use Rattle.script_grammar.specs.Tree as model
+use Rattle.script_grammar.specs.TreeLists.{stmts_of}
+use Rattle.parse_skim_handler.proofs.Made.{stmt-made}
+use Rattle.parse_skim_handler.proofs.Meanings.{begun}
+use Rattle.parse_skim_handler.proofs.StandingParts.{block-stands}
 use Rattle.parse_skim_handler.proofs.handler.SkimmingHandler.make_block.Goals as goal
 
 pub returns : goal.returns

@@ -1,4 +1,14 @@
+use Rattle.std.proofs.Common.{ap, ◌∙◌}
 use Rattle.script_grammar.specs.Tree as model
+use Rattle.script_grammar.specs.TreeLists.{tails_of}
+use Rattle.parse_early_handler.specs.Firsts.{end_in_property}
+use Rattle.parse_early_handler.specs.Shapes.{chain_shape}
+use Rattle.parse_early_handler.proofs.Expressions.{last-property}
+use Rattle.parse_skim_handler.specs.Skims.{SkimsExpr}
+use Rattle.parse_skim_handler.proofs.Made.{expr-made}
+use Rattle.parse_skim_handler.proofs.Meanings.{from}
+use Rattle.parse_skim_handler.proofs.Standing.{then-stands}
+use Rattle.parse_skim_handler.proofs.StandingParts.{tails-stand}
 use Rattle.parse_skim_handler.proofs.handler.SkimmingHandler.make_chain.Goals as goal
 
 pub returns : goal.returns

@@ -1,4 +1,12 @@
+use Rattle.std.proofs.Common.{ap, map, refl, ◌∙◌}
 use Rattle.script_grammar.specs.Tree as model
+use Rattle.script_grammar.specs.TreeLists.{exprs_of}
+use Rattle.parse_early_handler.specs.Firsts.{start_of_first}
+use Rattle.parse_early_handler.proofs.Expressions.{comma-start}
+use Rattle.parse_skim_handler.specs.Kept.{expr_errors}
+use Rattle.parse_skim_handler.proofs.Made.{expr-made}
+use Rattle.parse_skim_handler.proofs.Meanings.{begun}
+use Rattle.parse_skim_handler.proofs.StandingParts.{errors-shown, exprs-stand}
 use Rattle.parse_skim_handler.proofs.handler.SkimmingHandler.make_comma.Goals as goal
 
 pub returns : goal.returns

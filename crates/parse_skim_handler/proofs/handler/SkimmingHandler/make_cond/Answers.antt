@@ -1,4 +1,8 @@
+use Rattle.std.proofs.Common.{refl}
 use Rattle.script_grammar.specs.Tree as model
+use Rattle.parse_skim_handler.proofs.Made.{expr-made}
+use Rattle.parse_skim_handler.proofs.Meanings.{adds-then, from}
+use Rattle.parse_skim_handler.proofs.Standing.{then-stands}
 use Rattle.parse_skim_handler.proofs.handler.SkimmingHandler.make_cond.Goals as goal
 
 pub returns : goal.returns

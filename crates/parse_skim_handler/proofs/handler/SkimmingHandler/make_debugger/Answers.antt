@@ -1,4 +1,7 @@
+use Rattle.std.proofs.Common.{false, refl}
 use Rattle.script_grammar.specs.Tree as model
+use Rattle.parse_skim_handler.proofs.Made.{stmt-made}
+use Rattle.parse_skim_handler.proofs.Standing.{nothing-stands}
 use Rattle.parse_skim_handler.proofs.handler.SkimmingHandler.make_debugger.Goals as goal
 
 pub returns : goal.returns

@@ -1,3 +1,7 @@
+use Rattle.std.proofs.Common.{true}
+use Rattle.parse_skim_handler.proofs.Made.{declared-made}
+use Rattle.parse_skim_handler.proofs.Meanings.{begun}
+use Rattle.parse_skim_handler.proofs.StandingFunctions.{function-stands, function_name-is}
 use Rattle.parse_skim_handler.proofs.handler.SkimmingHandler.make_declared.Goals as goal
 
 pub returns : goal.returns

@@ -1,5 +1,9 @@
+use Rattle.std.proofs.Common.{false, refl, true}
 use Rattle.script_grammar.specs.Tree as model
 use Rattle.parse_track.specs.Told as told
+use Rattle.parse_skim_handler.proofs.Made.{stmt-made}
+use Rattle.parse_skim_handler.proofs.Meanings.{adds-then, begun}
+use Rattle.parse_skim_handler.proofs.Standing.{kept-stands, region-stands, then-stands}
 use Rattle.parse_skim_handler.proofs.handler.SkimmingHandler.make_do.Goals as goal
 
 pub returns : goal.returns

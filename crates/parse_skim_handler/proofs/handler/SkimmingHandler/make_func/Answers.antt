@@ -1,4 +1,7 @@
+use Rattle.std.proofs.Common.{refl}
 use Rattle.script_grammar.specs.Tree as model
+use Rattle.parse_skim_handler.proofs.Made.{expr-made}
+use Rattle.parse_skim_handler.proofs.StandingFunctions.{named-stands}
 use Rattle.parse_skim_handler.proofs.handler.SkimmingHandler.make_func.Goals as goal
 
 pub returns : goal.returns

@@ -1,4 +1,10 @@
+use Rattle.std.proofs.Common.{false, refl}
 use Rattle.script_grammar.specs.Tree as model
+use Rattle.script_grammar.specs.TreeLists.{maybe_stmt_of}
+use Rattle.parse_skim_handler.proofs.Made.{stmt-made}
+use Rattle.parse_skim_handler.proofs.Meanings.{adds-then, from}
+use Rattle.parse_skim_handler.proofs.Standing.{then-stands}
+use Rattle.parse_skim_handler.proofs.StandingParts.{maybe_stmt-stands}
 use Rattle.parse_skim_handler.proofs.handler.SkimmingHandler.make_if.Goals as goal
 
 pub returns : goal.returns

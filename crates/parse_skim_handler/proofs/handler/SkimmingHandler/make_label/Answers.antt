@@ -1,6 +1,12 @@
+use Rattle.std.proofs.Common.{refl, true}
+use Rattle.script_grammar.specs.Interpretation.{named}
 use Rattle.script_grammar.specs.Tree as model
 use Rattle.parse_track.specs.Tells as tell
 use Rattle.parse_track.specs.Told as told
+use Rattle.parse_skim_handler.proofs.Made.{stmt-made}
+use Rattle.parse_skim_handler.proofs.Meanings.{begun}
+use Rattle.parse_skim_handler.proofs.Standing.{region-kept}
+use Rattle.parse_skim_handler.proofs.StandingParts.{label-stands}
 use Rattle.parse_skim_handler.proofs.handler.SkimmingHandler.make_label.Goals as goal
 
 pub returns : goal.returns

@@ -1,4 +1,10 @@
+use Rattle.std.proofs.Common.{refl}
 use Rattle.script_grammar.specs.Tree as model
+use Rattle.script_grammar.specs.TreeLists.{maybe_args_of}
+use Rattle.parse_skim_handler.proofs.Made.{expr-made}
+use Rattle.parse_skim_handler.proofs.Meanings.{from}
+use Rattle.parse_skim_handler.proofs.Standing.{then-stands}
+use Rattle.parse_skim_handler.proofs.StandingParts.{maybe_args-stand}
 use Rattle.parse_skim_handler.proofs.handler.SkimmingHandler.make_new.Goals as goal
 
 pub returns : goal.returns

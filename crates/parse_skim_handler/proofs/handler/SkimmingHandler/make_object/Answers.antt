@@ -1,4 +1,15 @@
+use Rattle.std.proofs.Common.{ap, false, map, refl}
 use Rattle.script_grammar.specs.Tree as model
+use Rattle.script_grammar.specs.TreeLists.{props_of}
+use Rattle.parse_track.specs.Notes.{later_protos}
+use Rattle.parse_early_handler.specs.Firsts.{protos_first}
+use Rattle.parse_early_handler.proofs.Parting.{same-first}
+use Rattle.parse_early_handler.proofs.Properties.{protos-first}
+use Rattle.parse_skim_handler.specs.Kept.{prop_errors}
+use Rattle.parse_skim_handler.proofs.Made.{expr-made}
+use Rattle.parse_skim_handler.proofs.Meanings.{from}
+use Rattle.parse_skim_handler.proofs.Standing.{error-stands, then-stands}
+use Rattle.parse_skim_handler.proofs.StandingParts.{prop_errors-shown, props-stand}
 use Rattle.parse_skim_handler.proofs.handler.SkimmingHandler.make_object.Goals as goal
 
 pub returns : goal.returns

@@ -1,4 +1,11 @@
+use Rattle.std.proofs.Common.{◌∙◌}
 use Rattle.script_grammar.specs.Tree as model
+use Rattle.parse_early_handler.proofs.Properties.{key-proto}
+use Rattle.parse_skim_handler.specs.Skims.{SkimsExpr}
+use Rattle.parse_skim_handler.proofs.Made.{prop-made}
+use Rattle.parse_skim_handler.proofs.Meanings.{adds-then, begun}
+use Rattle.parse_skim_handler.proofs.Standing.{then-stands}
+use Rattle.parse_skim_handler.proofs.StandingParts.{key-stands}
 use Rattle.parse_skim_handler.proofs.handler.SkimmingHandler.make_pair.Goals as goal
 
 pub returns : goal.returns

@@ -1,4 +1,5 @@
 use Rattle.script_grammar.specs.Tree as model
+use Rattle.parse_skim_handler.proofs.Made.{expr-noted}
 use Rattle.parse_skim_handler.proofs.handler.SkimmingHandler.make_paren.Goals as goal
 
 pub returns : goal.returns

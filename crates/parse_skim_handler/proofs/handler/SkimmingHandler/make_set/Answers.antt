@@ -1,4 +1,10 @@
+use Rattle.std.proofs.Common.{false, refl}
 use Rattle.script_grammar.specs.Tree as model
+use Rattle.parse_skim_handler.proofs.Made.{prop-made}
+use Rattle.parse_skim_handler.proofs.Meanings.{adds-then, begun}
+use Rattle.parse_skim_handler.proofs.Standing.{then-stands}
+use Rattle.parse_skim_handler.proofs.StandingFunctions.{function-stands}
+use Rattle.parse_skim_handler.proofs.StandingParts.{key-stands}
 use Rattle.parse_skim_handler.proofs.handler.SkimmingHandler.make_set.Goals as goal
 
 pub returns : goal.returns

@@ -1,4 +1,10 @@
+use Rattle.std.proofs.Common.{refl}
+use Rattle.script_grammar.specs.Interpretation.{text_of}
 use Rattle.script_grammar.specs.Tree as model
+use Rattle.script_grammar.specs.TreeLists.{parts_of}
+use Rattle.parse_skim_handler.proofs.Made.{expr-made}
+use Rattle.parse_skim_handler.proofs.Meanings.{begun}
+use Rattle.parse_skim_handler.proofs.StandingParts.{parts-stand}
 use Rattle.parse_skim_handler.proofs.handler.SkimmingHandler.make_template.Goals as goal
 
 pub returns : goal.returns

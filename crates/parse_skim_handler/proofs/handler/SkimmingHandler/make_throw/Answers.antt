@@ -1,4 +1,6 @@
+use Rattle.std.proofs.Common.{false, refl}
 use Rattle.script_grammar.specs.Tree as model
+use Rattle.parse_skim_handler.proofs.Made.{stmt-made}
 use Rattle.parse_skim_handler.proofs.handler.SkimmingHandler.make_throw.Goals as goal
 
 pub returns : goal.returns

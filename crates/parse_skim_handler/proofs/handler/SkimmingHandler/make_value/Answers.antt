@@ -1,4 +1,6 @@
+use Rattle.std.proofs.Common.{refl}
 use Rattle.script_grammar.specs.Tree as model
+use Rattle.parse_skim_handler.proofs.Made.{stmt-noted}
 use Rattle.parse_skim_handler.proofs.handler.SkimmingHandler.make_value.Goals as goal
 
 pub returns : goal.returns

@@ -1,3 +1,4 @@
+use Rattle.parse_skim_handler.proofs.Meanings.{adds-kept, if_ok}
 use Rattle.parse_skim_handler.proofs.kept.SkimExprSkim.skim.Goals as goal
 
 pub returns : goal.returns

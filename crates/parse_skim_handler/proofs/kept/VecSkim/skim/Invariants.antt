@@ -1,3 +1,6 @@
+use Rattle.script_grammar.specs.Interpretation.{Interpretation}
+use Rattle.parse_skim_handler.specs.Kept.{Adds}
+use Rattle.parse_skim_handler.specs.Meaning.{all_meant}
 use Rattle.parse_skim_handler.proofs.kept.VecSkim.skim.Given as goal
 
 abbrev pub invariant-loop-part : goal.invariant-loop-part

@@ -1,3 +1,7 @@
+use Rattle.std.proofs.Common.{sym}
+use Rattle.parse_skim_handler.specs.Kept.{each_means}
+use Rattle.parse_skim_handler.specs.Meaning.{name_meant}
+use Rattle.parse_skim_handler.proofs.Meanings.{adds-as, adds-kept, if_ok, made-as}
 use Rattle.parse_skim_handler.proofs.parts.NodeEachSkimExprSkim.skim.Goals as goal
 
 pub returns-in-Target : goal.returns-in-Target

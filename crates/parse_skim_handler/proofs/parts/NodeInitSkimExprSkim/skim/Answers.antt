@@ -1,3 +1,5 @@
+use Rattle.parse_skim_handler.specs.Kept.{init_means}
+use Rattle.parse_skim_handler.proofs.Meanings.{made-as}
 use Rattle.parse_skim_handler.proofs.parts.NodeInitSkimExprSkim.skim.Goals as goal
 
 pub returns-in-Value : goal.returns-in-Value

@@ -1,3 +1,5 @@
+use Rattle.parse_skim_handler.specs.Kept.{key_means}
+use Rattle.parse_skim_handler.proofs.Meanings.{made-as}
 use Rattle.parse_skim_handler.proofs.parts.NodeKeySkimExprSkim.skim.Goals as goal
 
 pub returns-in-Computed : goal.returns-in-Computed

@@ -1,3 +1,5 @@
+use Rattle.parse_skim_handler.specs.Kept.{tail_means}
+use Rattle.parse_skim_handler.proofs.Meanings.{made-as}
 use Rattle.parse_skim_handler.proofs.parts.NodeTailSkimExprSkim.skim.Goals as goal
 
 pub returns-in-Index : goal.returns-in-Index

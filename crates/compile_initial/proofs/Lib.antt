@@ -1,3 +1,4 @@
+pub mod Inside
 pub mod Listed
 pub mod Scripts
 pub mod Standing

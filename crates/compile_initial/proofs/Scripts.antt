@@ -62,6 +62,7 @@ use Rattle.compile_initial.specs.declared.Around.{Around}
 use Rattle.compile_initial.specs.declared.InitialStencil.{InitialStencil}
 use Rattle.compile_initial.specs.Initial.{AreAround, HasTextsOf, IsInitialOf}
 use Rattle.compile_initial.specs.Records.{HaveNumbers, start_at, record_at, around_at}
+use Rattle.compile_initial.proofs.Inside.{IsInsideAt, all_inside}
 use Rattle.compile_initial.proofs.Listed.{part_starts, starts_listed, records_stand}
 use Rattle.compile_initial.proofs.Standing.{AllAfter, all_after, all_around}
 
@@ -163,6 +164,9 @@ module _ (bytes : List ℕ) (script : SyntaxScript) (is : IsSyntaxOf bytes scrip
   listed : ShowAll (IsPlacedAt top_chains sited.all) (map (placed_of i) found) sited.all
   listed = subst (λ (ps : List Placed). ShowAll (IsPlacedAt top_chains sited.all) ps sited.all) (sym is.placed.2) sited.placed
 
+  held : ShowAll (IsInsideAt sited.all) (map (placed_of i) found) sited.all
+  held = subst (λ (ps : List Placed). ShowAll (IsInsideAt sited.all) ps sited.all) (sym is.placed.2) (all_inside is.items (length bytes) is.placed.0 sited.all is.placed.1 sited.functions)
+
   at_sites : AllOf (IsFunctionAt is.items) sited.all
   at_sites = all_at is.items (length bytes) sited.all read.inner read.end sited.functions stands
 
@@ -212,7 +216,7 @@ module _ (bytes : List ℕ) (script : SyntaxScript) (is : IsSyntaxOf bytes scrip
           records = subst (λ (ts : List (List ℕ)). RecordsStandFor ts made.parts.records named_records) (sym texts_are) (subst (λ (rs : List RecordView). RecordsStandFor texts rs named_records) (sym kept) (records_are closed sorted));
         };
         chains = chains ∙ top.chains_are;
-        around = subst (λ (as_ : List Around). AreAround is.items (length bytes) as_ sited.all) (sym around) (all_around top_chains sited.all i 1 found sited.all after listed);
+        around = subst (λ (as_ : List Around). AreAround is.items (length bytes) as_ sited.all) (sym around) (all_around top_chains sited.all i 1 found sited.all after held listed);
         few = subst (λ (ts : List (List ℕ)). length ts < 2 ^ 31) (sym texts_are) is.sound.few;
         apart = subst AreWithoutEquals (sym texts_are) is.sound.apart;
         texts = subst (HasTextsOf bytes) (sym texts_are) (record {

@@ -10,6 +10,7 @@ use Rattle.parse_function_list.specs.Placed.{Placed, AllPlaced, no_placed, more_
 use Rattle.compile_site_laws.specs.Around.{IsPlacedAt}
 use Rattle.compile_initial.specs.Initial.{AllAround}
 use Rattle.compile_initial.specs.Records.{around_at}
+use Rattle.compile_initial.proofs.Inside.{IsInsideAt}
 
 -- the functions around those of these numbers on have smaller numbers
 abbrev pub AllAfter : ℕ → List Placed → Type 0
@@ -25,9 +26,9 @@ all_after around place at fs ps (no_placed _ _ _) lt = tt
 all_after around place at fs ps (more_placed _ _ _ f rest inside after h k) lt =
     (lt, after_both (suc at) inside after (all_after at 0 (suc at) (directly_in f) inside h (omega arith)) (all_after around (suc place) (suc at + length inside) rest after k (omega (arith, lt))))
 
-pub all_around : (top : List (List LinkView)) (all : List Site) (i : Interpretation) (number : ℕ) (found : List FoundFunction) (some : List Site)
-    → AllAfter number (map (placed_of i) found) → ShowAll (IsPlacedAt top all) (map (placed_of i) found) some → AllAround top all number (map around_at found) some
-all_around top all i number [] [] h k = tt
-all_around top all i number [] (s ∷ some) h k = absurd k
-all_around top all i number (f ∷ found) [] h k = absurd k
-all_around top all i number (f ∷ found) (s ∷ some) h k = (record { before = h.0; chain = k.0.chain }, all_around top all i (suc number) found some h.1 k.1)
+pub all_around : (top : List (List LinkView)) (all : List Site) (i : Interpretation) (number : ℕ) (found : List FoundFunction) (some : List Site) → AllAfter number (map (placed_of i) found)
+    → ShowAll (IsInsideAt all) (map (placed_of i) found) some → ShowAll (IsPlacedAt top all) (map (placed_of i) found) some → AllAround top all number (map around_at found) some
+all_around top all i number [] [] h inside k = tt
+all_around top all i number [] (s ∷ some) h inside k = absurd k
+all_around top all i number (f ∷ found) [] h inside k = absurd k
+all_around top all i number (f ∷ found) (s ∷ some) h inside k = (record { before = h.0; inside = inside.0; chain = k.0.chain }, all_around top all i (suc number) found some h.1 inside.1 k.1)

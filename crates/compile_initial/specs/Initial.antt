@@ -1,6 +1,6 @@
 -- What a script is before any of its functions is compiled, of a file's bytes, with what compiling one of its functions on its own
 -- asks for. This project's own choice.
-use Rattle.std.specs.Prelude.{◌≡◌, ℕ, suc, ◌≤◌, ◌<◌, ◌^◌, List, [], ◌∷◌, length, map}
+use Rattle.std.specs.Prelude.{◌≡◌, ℕ, zero, suc, ◌≤◌, ◌<◌, ◌^◌, List, [], ◌∷◌, length, map, slice_get, Some}
 use Rattle.script_grammar.specs.Tree.{Stmts}
 use Rattle.unit_text.specs.Points.{points}
 use Rattle.script_scanner.specs.Stands.{IsValueAmong}
@@ -13,6 +13,7 @@ use Rattle.bytecode_buf.specs.Command.{Command, ShowsCommands}
 use Rattle.bytecode_buf.specs.InRange.{TextsSmall}
 use Rattle.parse_track.specs.Notes.{closed_names}
 use Rattle.track_atoms.specs.Known.{HasWords, known_atoms}
+use Rattle.scope_analysis.specs.Functions.{Inner, inner_function}
 use Rattle.emit_stmts.specs.Functions.{top_script}
 use Rattle.compile_specs.specs.Eager.{Site, AreFunctions, compiled_at}
 use Rattle.compile_specs.specs.Shown as shown
@@ -21,9 +22,15 @@ use Rattle.compile_site_laws.specs.Around.{HandsDown}
 use Rattle.compile_initial.specs.declared.Around.{Around}
 use Rattle.compile_initial.specs.declared.InitialStencil.{InitialStencil}
 
--- The function of this number gets its chain from the one around it, whose number is smaller.
+-- The function stands at this place directly in the one of this number. Where the number is 0, nothing is said.
+abbrev pub StandsInside : List Site → (number place : ℕ) → Inner → Type 0
+StandsInside all zero place f = Unit {0}
+StandsInside all (suc n) place f = (outer : Site) × (slice_get all n ≡ Some outer) × (slice_get (inner_function outer.inner.kind outer.inner.name outer.inner.func) place ≡ Some f)
+
+-- The function of this number stands directly in the one around it, whose number is smaller, and gets its chain from there.
 pub record IsAround (top : List (List LinkView)) (all : List Site) (number : ℕ) (a : Around) (s : Site) : Type 0 where
   pub before : a.number < number
+  pub inside : StandsInside all a.number a.place s.inner
   pub chain : HandsDown top all a.number a.place s.chain
 
 -- one for one, those of these numbers on

@@ -1,0 +1,3 @@
+pub mod Among
+mod ExtentsInside
+pub mod Numbered

@@ -1,0 +1,3 @@
+pub mod Numbered
+pub mod OneProof
+pub mod Texts

@@ -1,0 +1,5 @@
+pub mod Depths
+mod Results
+mod Slots
+mod Standing
+mod Upward

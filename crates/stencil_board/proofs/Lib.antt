@@ -1,0 +1,5 @@
+pub mod AtHand
+pub mod Counting
+mod FilledFacts
+mod Notes
+mod Upward

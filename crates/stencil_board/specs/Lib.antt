@@ -1,0 +1,3 @@
+pub mod Files
+pub mod Passes
+pub mod Views

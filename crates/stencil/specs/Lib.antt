@@ -1,0 +1,6 @@
+pub mod Answers
+pub mod Code
+pub mod Refusals
+pub mod Scripts
+pub mod Stencils
+pub mod Verified

@@ -1,3 +1,4 @@
+pub mod Crossing
 pub mod Depths
 mod Results
 mod Slots

@@ -1,5 +1,5 @@
 -- What is read of a slot.
-use Rattle.std.proofs.Common.{◌≡◌, ◌∙◌, ℕ, Bool, true, Option, Some, None, is_some, sym, ap}
+use Rattle.std.proofs.Common.{◌≡◌, ◌∙◌, ℕ, true, Option, Some, None, is_some, sym, ap}
 use Rattle.std.specs.Arc.{arc_value}
 use Rattle.lazy_compile.specs.declared.Delazified.{Delazified}
 use Rattle.relazy_board.specs.declared.place.Kept.{Kept}

@@ -1,34 +1,34 @@
 -- Lines of the generated kinds, one after the other, are statements without any error.
-use Rattle.std.proofs.Common.{◌≡◌, ℕ, zero, suc, ◌+◌, ◌<◌, ◌≤◌, List, [], ◌∷◌, ◌++◌, length, Bool, true, false, cond, refl, sym, ◌∙◌, ap, subst, arith, append_assoc}
-use Rattle.std.specs.Prelude.{◌&&◌, nat_eq, fold}
+use Rattle.std.proofs.Common.{Bool, List, [], ap, append_assoc, arith, cond, false, length, refl, subst, suc, sym, true, zero, ℕ, ◌*◌, ◌++◌, ◌+◌, ◌<◌, ◌∙◌, ◌∷◌, ◌≡◌, ◌≤◌}
 use Rattle.std.specs.Fmt.{decimal}
-use Rattle.script_grammar.specs.declared.token.Kind.TheVariants as kind
-use Rattle.script_grammar.specs.Lexeme.{Lexeme}
-use Rattle.script_grammar.specs.Pieces.{whole, Piece, Fits}
-use Rattle.script_grammar.specs.Print.{print_stmt, print_stmts}
-use Rattle.script_grammar.specs.Proper.{ProperStmt, ProperStmts}
-use Rattle.script_grammar.specs.Tree.{Stmt, Stmts, no_stmts, more_stmts}
-use Rattle.unit_text.specs.Points.{points_from}
+use Rattle.std.specs.Prelude.{fold, nat_eq, ◌&&◌}
+use Rattle.compile_specs.specs.Counted.{no_functions}
 use Rattle.parse_track.specs.Notes.{notes_stmt, notes_stmts}
-use Rattle.parse_track.specs.Told.{Told, nothing}
 use Rattle.parse_track.specs.Tells.{Text, tells_stmt, tells_stmts}
+use Rattle.parse_track.specs.Told.{Told, nothing}
 use Rattle.scope_analysis.specs.Functions.{Inner, inner_stmt, inner_stmts}
 use Rattle.scope_analysis.specs.Scopes.{count_stmt}
+use Rattle.script_grammar.specs.Lexeme.{Lexeme}
+use Rattle.script_grammar.specs.Pieces.{Fits, Piece, whole}
+use Rattle.script_grammar.specs.Print.{print_stmt, print_stmts}
+use Rattle.script_grammar.specs.Proper.{ProperStmt, ProperStmts}
+use Rattle.script_grammar.specs.Tree.{Stmt, Stmts, more_stmts, no_stmts}
 use Rattle.script_scanner.specs.Blanks.{begins}
 use Rattle.script_scanner.specs.Lexemes.{lexeme_of}
 use Rattle.script_scanner.specs.Numbers.{with_digit}
 use Rattle.script_scanner.specs.Tokens.{last_token, token_at}
-use Rattle.compile_specs.specs.Counted.{no_functions}
-use Rattle.session_trial.specs.Generated.{function_line, counter_line, loop_line, object_line, line_of, next_state, kind_of, lines_from}
-use Rattle.session_trial_laws.proofs.Counting.{HasCount, function_counts, counter_counts, loop_counts, object_counts}
+use Rattle.session_trial.specs.Generated.{counter_line, function_line, kind_of, line_of, lines_from, loop_line, next_state, object_line}
+use Rattle.session_trial_laws.proofs.Counting.{HasCount, counter_counts, function_counts, loop_counts, object_counts}
 use Rattle.session_trial_laws.proofs.Digits.{AreDigits, IsNumber, decimal_is, digits_ascii}
-use Rattle.session_trial_laws.proofs.Lines.{Shape, IsShape, Offsets, line, tokens, line_read, enough}
-use Rattle.session_trial_laws.proofs.Quiet.{IsQuiet, quiet_nothing, function_quiet, counter_quiet, loop_quiet, object_quiet}
-use Rattle.session_trial_laws.proofs.Scanning.{scan, is_ascii}
+use Rattle.session_trial_laws.proofs.Lines.{IsShape, Offsets, Shape, enough, line, line_read, tokens}
+use Rattle.session_trial_laws.proofs.Quiet.{IsQuiet, counter_quiet, function_quiet, loop_quiet, object_quiet, quiet_nothing}
+use Rattle.session_trial_laws.proofs.Scanning.{is_ascii, scan}
 use Rattle.session_trial_laws.proofs.Shallow.{is_shallow}
-use Rattle.session_trial_laws.proofs.Shapes.{function_shape, counter_shape, loop_shape, object_shape, is_function_shape, is_counter_shape, is_loop_shape, is_object_shape, function_line_is, counter_line_is, loop_line_is, object_line_is}
-use Rattle.session_trial_laws.proofs.Trees.{function_tree, counter_tree, loop_tree, object_tree, function_proper, counter_proper, loop_proper, object_proper, function_fits, counter_fits, loop_fits, object_fits, function_shallow, counter_shallow, loop_shallow, object_shallow}
+use Rattle.session_trial_laws.proofs.Shapes.{counter_line_is, counter_shape, function_line_is, function_shape, is_counter_shape, is_function_shape, is_loop_shape, is_object_shape, loop_line_is, loop_shape, object_line_is, object_shape}
+use Rattle.session_trial_laws.proofs.Trees.{counter_fits, counter_proper, counter_shallow, counter_tree, function_fits, function_proper, function_shallow, function_tree, loop_fits, loop_proper, loop_shallow, loop_tree, object_fits, object_proper, object_shallow, object_tree}
 use Rattle.session_trial_laws.proofs.WholeTexts.{ascii_both}
+use Rattle.unit_text.specs.Points.{points_from}
+use Rattle.script_grammar.specs.declared.token.Kind.TheVariants as kind
 
 -- What is asked of the tree of a line.
 record IsKind (s : Shape) (tree : (b m k t : ℕ) → List ℕ → ℕ → Stmt) : Type 0 where
@@ -39,7 +39,7 @@ record IsKind (s : Shape) (tree : (b m k t : ℕ) → List ℕ → ℕ → Stmt)
   shallow : (b m k t : ℕ) (n : List ℕ) (i : ℕ) (ps : List Piece) → is_shallow (print_stmt whole 1 (tree b m k t n i) ++ ps) ≡ is_shallow ps
   notes : (b m k t : ℕ) (n : List ℕ) (i : ℕ) → notes_stmt (tree b m k t n i) ≡ []
   quiet : (b m k t : ℕ) (n : List ℕ) (i : ℕ) (told : Told Text) → IsQuiet told → IsQuiet (tells_stmt true (tree b m k t n i) told)
-  counts : (b m k t : ℕ) (n : List ℕ) (i next : ℕ) (around : List ℕ) (fs : List Inner) → HasCount fs → HasCount (inner_stmt (tree b m k t n i) next around ++ fs)
+  counts : (b m k t : ℕ) (n : List ℕ) (i next : ℕ) (around : List ℕ) (most : ℕ) (fs : List Inner) → HasCount most fs → HasCount (most + 2) (inner_stmt (tree b m k t n i) next around ++ fs)
 
 function_kind : IsKind function_shape function_tree
 function_kind = record { shape = is_function_shape; proper = function_proper; fits = function_fits; shallow = function_shallow; notes = λ b m k t n i. refl; quiet = function_quiet; counts = function_counts }
@@ -53,8 +53,8 @@ loop_kind = record { shape = is_loop_shape; proper = loop_proper; fits = loop_fi
 object_kind : IsKind object_shape object_tree
 object_kind = record { shape = is_object_shape; proper = object_proper; fits = object_fits; shallow = object_shallow; notes = λ b m k t n i. refl; quiet = object_quiet; counts = object_counts }
 
--- A text, which stands at an offset, is read as statements without an error.
-pub record ReadsAsStatements (to o : ℕ) (after : Bool) (text : List ℕ) : Type 0 where
+-- A text of n lines, which stands at an offset, is read as statements without an error, which have at most two functions for each line.
+pub record ReadsAsStatements (lines to o : ℕ) (after : Bool) (text : List ℕ) : Type 0 where
   pub items : Stmts
   pub inner : List Lexeme
   pub end : Lexeme
@@ -66,14 +66,14 @@ pub record ReadsAsStatements (to o : ℕ) (after : Bool) (text : List ℕ) : Typ
   pub shallow : is_shallow (print_stmts whole 0 items) ≡ true
   pub notes : notes_stmts items ≡ []
   pub quiet : IsQuiet (tells_stmts true items nothing)
-  pub counts : (next : ℕ) (around : List ℕ) → HasCount (inner_stmts items next around)
+  pub counts : (next : ℕ) (around : List ℕ) → HasCount (2 * lines) (inner_stmts items next around)
 
 end_scans : (to o : ℕ) (after : Bool) (fuel : ℕ) → 0 < fuel → scan fuel to [] after (points_from o []) ≡ lexeme_of (last_token to after []) ∷ []
 unfolding token_at
 end_scans to o after zero lt = absurd (omega (arith, lt))
 end_scans to o after (suc fuel) lt = refl
 
-nothing_read : (to o : ℕ) (after : Bool) → ReadsAsStatements to o after []
+nothing_read : (to o : ℕ) (after : Bool) → ReadsAsStatements 0 to o after []
 nothing_read to o after = record {
   items = no_stmts;
   inner = [];
@@ -86,7 +86,7 @@ nothing_read to o after = record {
   shallow = refl;
   notes = refl;
   quiet = quiet_nothing;
-  counts = λ next around. (0, no_functions);
+  counts = λ next around. (0, no_functions, omega arith);
 }
 
 line_ascii : (s : Shape) → IsShape s → (n : List ℕ) → is_ascii n ≡ true → is_ascii (line s n) ≡ true
@@ -96,9 +96,9 @@ line_ascii s is n e =
     ∙ ascii_both n (s.middle ++ (n ++ s.tail)) e (ascii_both s.middle (n ++ s.tail) is.middle_ascii (ascii_both n s.tail e is.tail_ascii)))
 
 -- one more line in front
-module _ (s : Shape) (tree : (b m k t : ℕ) → List ℕ → ℕ → Stmt) (is : IsKind s tree) (to o i : ℕ) (after : Bool) (small : i ≤ 9007199254740991) where
+module _ (s : Shape) (tree : (b m k t : ℕ) → List ℕ → ℕ → Stmt) (is : IsKind s tree) (lines to o i : ℕ) (after : Bool) (small : i ≤ 9007199254740991) where
   digits_read : (c : ℕ) (cs rest : List ℕ) → AreDigits (c ∷ cs) → fold (with_digit 10) 0 (c ∷ cs) ≡ i → (c ≡ 48 → (i ≡ 0) × (cs ≡ []))
-      → ((e : ℕ) → ReadsAsStatements to e true rest) → ReadsAsStatements to o after (line s (c ∷ cs) ++ rest)
+      → ((e : ℕ) → ReadsAsStatements lines to e true rest) → ReadsAsStatements (suc lines) to o after (line s (c ∷ cs) ++ rest)
   digits_read c cs rest digits value lead behind =
       let n : List ℕ = c ∷ cs in
       let b : ℕ = o + length s.head in
@@ -107,7 +107,7 @@ module _ (s : Shape) (tree : (b m k t : ℕ) → List ℕ → ℕ → Stmt) (is 
       let t : ℕ = k + length n in
       let e : ℕ = t + length s.tail in
       let at : Offsets s n o b m k t e = record { name = refl; middle = refl; number = refl; tail = refl; end = refl } in
-      let r : ReadsAsStatements to e true rest = behind e in
+      let r : ReadsAsStatements lines to e true rest = behind e in
       let scans : (fuel : ℕ) → length (line s n ++ rest) < fuel → scan fuel to [] after (points_from o (line s n ++ rest)) ≡ (tokens s after o b m k t n i ++ r.inner) ++ r.end ∷ [] =
       λ fuel lt. let (left, more, same) = enough s is.shape fuel n rest (omega arith) lt in
       ap (λ (f : ℕ). scan f to [] after (points_from o (line s n ++ rest))) same
@@ -126,11 +126,14 @@ module _ (s : Shape) (tree : (b m k t : ℕ) → List ℕ → ℕ → Stmt) (is 
         shallow = is.shallow b m k t n i (print_stmts whole 0 r.items) ∙ r.shallow;
         notes = ap (λ (xs : List _). xs ++ notes_stmts r.items) (is.notes b m k t n i) ∙ r.notes;
         quiet = is.quiet b m k t n i (tells_stmts true r.items nothing) r.quiet;
-        counts = λ next around. is.counts b m k t n i next around (inner_stmts r.items (next + count_stmt (tree b m k t n i)) around) (r.counts (next + count_stmt (tree b m k t n i)) around);
+        counts = λ next around.
+            let both : 2 * lines + 2 ≡ 2 * suc lines = omega arith in
+            let fs : List Inner = inner_stmts r.items (next + count_stmt (tree b m k t n i)) around in
+            subst (λ (most : ℕ). HasCount most (inner_stmt (tree b m k t n i) next around ++ fs)) both (is.counts b m k t n i next around (2 * lines) fs (r.counts (next + count_stmt (tree b m k t n i)) around));
       }
 
-  number_read : (n rest : List ℕ) → IsNumber i n → ((e : ℕ) → ReadsAsStatements to e true rest) → ReadsAsStatements to o after (line s n ++ rest)
-  number_read n rest h behind = subst (λ (text : List ℕ). ReadsAsStatements to o after (line s text ++ rest)) (sym h.split) (digits_read h.first h.more rest h.digits h.value h.lead behind)
+  number_read : (n rest : List ℕ) → IsNumber i n → ((e : ℕ) → ReadsAsStatements lines to e true rest) → ReadsAsStatements (suc lines) to o after (line s n ++ rest)
+  number_read n rest h behind = subst (λ (text : List ℕ). ReadsAsStatements (suc lines) to o after (line s text ++ rest)) (sym h.split) (digits_read h.first h.more rest h.digits h.value h.lead behind)
 
 -- what holds of the four lines holds of the line of each kind
 pub by_kind : (P : List ℕ → Type 0) (n : List ℕ) → P (line function_shape n) → P (line counter_shape n) → P (line loop_shape n) → P (line object_shape n) → (kind : ℕ) → P (line_of kind n)
@@ -143,18 +146,18 @@ by_kind P n f g h l kind =
     either true x y p q = p
     either false x y p q = q
 
-pub lines_read : (more i s to o : ℕ) (after : Bool) → i + more ≤ 9007199254740991 → ReadsAsStatements to o after (lines_from more i s)
+pub lines_read : (more i s to o : ℕ) (after : Bool) → i + more ≤ 9007199254740991 → ReadsAsStatements more to o after (lines_from more i s)
 lines_read zero i s to o after le = nothing_read to o after
 lines_read (suc more) i s to o after le =
     let small : i ≤ 9007199254740991 = omega (arith, le) in
     let n : IsNumber i (decimal i) = decimal_is i (omega (arith, le)) in
     let rest : List ℕ = lines_from more (i + 1) (next_state s) in
-    let behind : (e : ℕ) → ReadsAsStatements to e true rest = λ e. lines_read more (i + 1) (next_state s) to e true (omega (arith, le)) in
-    by_kind (λ (text : List ℕ). ReadsAsStatements to o after (text ++ rest)) (decimal i)
-    (number_read function_shape function_tree function_kind to o i after small (decimal i) rest n behind)
-    (number_read counter_shape counter_tree counter_kind to o i after small (decimal i) rest n behind)
-    (number_read loop_shape loop_tree loop_kind to o i after small (decimal i) rest n behind)
-    (number_read object_shape object_tree object_kind to o i after small (decimal i) rest n behind)
+    let behind : (e : ℕ) → ReadsAsStatements more to e true rest = λ e. lines_read more (i + 1) (next_state s) to e true (omega (arith, le)) in
+    by_kind (λ (text : List ℕ). ReadsAsStatements (suc more) to o after (text ++ rest)) (decimal i)
+    (number_read function_shape function_tree function_kind more to o i after small (decimal i) rest n behind)
+    (number_read counter_shape counter_tree counter_kind more to o i after small (decimal i) rest n behind)
+    (number_read loop_shape loop_tree loop_kind more to o i after small (decimal i) rest n behind)
+    (number_read object_shape object_tree object_kind more to o i after small (decimal i) rest n behind)
     (kind_of (next_state s))
 
 -- no line begins with `#!`

@@ -1,22 +1,22 @@
 -- The text that is generated from any number, of 100000 lines at most, is a script without any error, of less than 16 MiB.
-use Rattle.std.proofs.Common.{◌≡◌, ℕ, zero, suc, ◌+◌, ◌*◌, ◌≤◌, List, [], ◌∷◌, ◌++◌, length, false, refl, ◌∙◌, arith, length-append}
-use Rattle.std.specs.Fmt.{decimal}
+use Rattle.std.proofs.Common.{List, [], arith, false, length, length-append, refl, suc, zero, ℕ, ◌*◌, ◌++◌, ◌+◌, ◌∙◌, ◌∷◌, ◌≡◌, ◌≤◌}
 use Rattle.std.proofs.lemmas.Fmt.{length-decimal-le}
+use Rattle.std.specs.Fmt.{decimal}
 use Rattle.script_grammar.specs.Pieces.{whole}
 use Rattle.script_grammar.specs.Print.{print_stmts}
 use Rattle.script_grammar.specs.Tree.{Stmts}
-use Rattle.session_words.specs.Asked as asked
-use Rattle.session_trial.specs.Generated.{next_state, kind_of, lines_from, generated}
-use Rattle.session_specs.specs.Sources.{IsRead, IsValid, HasAll}
+use Rattle.session_specs.specs.Sources.{HasAll, IsRead, IsValid}
+use Rattle.session_trial.specs.Generated.{generated, kind_of, lines_from, next_state}
 use Rattle.session_trial_laws.proofs.Lines.{Shape, line, line_length}
-use Rattle.session_trial_laws.proofs.LinesRead.{lines_read, by_kind, no_hash}
-use Rattle.session_trial_laws.proofs.LinesRead as lines
+use Rattle.session_trial_laws.proofs.LinesRead.{by_kind, lines_read, no_hash}
 use Rattle.session_trial_laws.proofs.Quiet.{no_early_error}
 use Rattle.session_trial_laws.proofs.Shallow.{shallow_depths}
-use Rattle.session_trial_laws.proofs.Shapes.{function_shape, counter_shape, loop_shape, object_shape}
+use Rattle.session_trial_laws.proofs.Shapes.{counter_shape, function_shape, loop_shape, object_shape}
 use Rattle.session_trial_laws.proofs.WholeTexts.{ascii_utf8, whole_text}
+use Rattle.session_words.specs.Asked as asked
+use Rattle.session_trial_laws.proofs.LinesRead as lines
 
-read_whole : (number size : ℕ) (r : lines.ReadsAsStatements (length (generated number size)) 0 false (generated number size)) → IsRead (generated number size) r.items
+read_whole : (number size : ℕ) (r : lines.ReadsAsStatements size (length (generated number size)) 0 false (generated number size)) → IsRead (generated number size) r.items
 read_whole number size r = record {
   utf8 = ascii_utf8 (generated number size) r.ascii;
   inner = r.inner;
@@ -27,16 +27,16 @@ read_whole number size r = record {
   shallow = shallow_depths (print_stmts whole 0 r.items) r.inner r.end r.fits r.shallow;
 }
 
--- the text is a script, without early errors, and has n functions
-pub generated_is_valid : (number size : ℕ) → size ≤ 100000 → (items : Stmts) × (count : ℕ) × IsValid (generated number size) items count
+-- the text is a script, without early errors, and has n functions, at most two in each line
+pub generated_is_valid : (number size : ℕ) → size ≤ 100000 → (items : Stmts) × (count : ℕ) × IsValid (generated number size) items count × (count ≤ 2 * size)
 generated_is_valid number size le =
-    let r : lines.ReadsAsStatements (length (generated number size)) 0 false (generated number size) = lines_read size 0 number (length (generated number size)) 0 false (omega (arith, le)) in
-    let (count, counts) = r.counts 1 (0 ∷ []) in
-    (r.items, count, record { read = read_whole number size r; faultless = no_early_error r.items r.notes r.quiet; functions = counts })
+    let r : lines.ReadsAsStatements size (length (generated number size)) 0 false (generated number size) = lines_read size 0 number (length (generated number size)) 0 false (omega (arith, le)) in
+    let (count, counts, few) = r.counts 1 (0 ∷ []) in
+    (r.items, count, record { read = read_whole number size r; faultless = no_early_error r.items r.notes r.quiet; functions = counts }, few)
 
 -- and no function that is wanted is missing, where all are
 pub generated_has_all : (number size : ℕ) → size ≤ 100000 → (items : Stmts) × (count : ℕ) × HasAll (generated number size) asked.All items count
-generated_has_all number size le = let (items, count, valid) = generated_is_valid number size le in (items, count, record { valid = valid; present = refl })
+generated_has_all number size le = let (items, count, valid, few) = generated_is_valid number size le in (items, count, record { valid = valid; present = refl })
 
 -- How long the text is.
 

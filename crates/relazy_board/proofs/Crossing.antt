@@ -1,0 +1,44 @@
+-- A board is shared by threads: so is all that it is made of, one part after another.
+use denote.Param.Send.{sendable, IsSend, IsSync}
+use denote.Ref.{NamedLft}
+use Rattle.std.proofs.Crossing as std
+use Rattle.std.proofs.MapsCrossing as maps
+use Rattle.std.proofs.vec.Vec.TheSendSync as vec
+use Rattle.std.proofs.sync.Arc.TheSendSync as arc
+use Rattle.std.proofs.option.Option.TheSendSync as option
+use Rattle.counted_slot.proofs.Counted.TheSendSync as counted
+use Rattle.stencil_data.specs.contracts.chains.Chain as chain_row
+use Rattle.stencil_data.proofs.chains.Chain.TheLaws.TheKnot as knot
+use Rattle.stencil_data.proofs.indexed_link.IndexedLink.TheSendSync as indexed
+use Rattle.stencil_data.proofs.stencils.FunctionStencil.TheSendSync as stencil
+use Rattle.stencil_data.proofs.stencils.InitialParts.TheSendSync as parts
+use Rattle.stencil_data.proofs.texts.Text.TheSendSync as text
+use Rattle.compile_initial.proofs.Around.TheSendSync as around
+use Rattle.compile_initial.specs.contracts.InitialStencil as initial
+use Rattle.lazy_compile.specs.contracts.Delazified as made
+use Rattle.relazy_board.specs.contracts.place.Kept as kept
+use Rattle.relazy_board.specs.contracts.board.RelazyBoard as board
+
+chain_send : IsSend chain_row.the_row
+chain_send = search (indexed.the_send, indexed.the_sync, knot.crosses, maps.crosses, std.crosses, sendable) depth 60 fits 20000
+
+chain_sync : IsSync chain_row.the_row
+chain_sync = search (indexed.the_send, indexed.the_sync, knot.crosses, maps.crosses, std.crosses, sendable) depth 60 fits 20000
+
+made_send : IsSend made.the_row
+made_send = search (stencil.the_send, text.the_send, chain_send, vec.the_send, std.crosses, sendable) depth 60 fits 20000
+
+made_sync : IsSync made.the_row
+made_sync = search (stencil.the_sync, text.the_sync, chain_sync, vec.the_sync, std.crosses, sendable) depth 60 fits 20000
+
+initial_sync : IsSync initial.the_row
+initial_sync = search (parts.the_sync, around.the_sync, chain_sync, vec.the_sync, std.crosses, sendable) depth 60 fits 20000
+
+kept_send : (κ : NamedLft) → IsSend (kept.the_row κ)
+kept_send κ = search (made_send, made_sync, arc.the_send, std.crosses, sendable) depth 60 fits 20000
+
+kept_sync : (κ : NamedLft) → IsSync (kept.the_row κ)
+kept_sync κ = search (made_send, made_sync, arc.the_sync, std.crosses, sendable) depth 60 fits 20000
+
+pub board_sync : (κ : NamedLft) → IsSync (board.the_row κ)
+board_sync κ = search (kept_send, kept_sync, initial_sync, option.the_send, option.the_sync, counted.the_sync, vec.the_sync, std.crosses, sendable) depth 60 fits 20000

@@ -1,0 +1,3 @@
+mod Crossing
+pub mod Instructions
+pub mod Totals

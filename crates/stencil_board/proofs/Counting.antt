@@ -91,3 +91,10 @@ lacks_some shown number pass low high is none =
     let none_before : count_to (length pass.cells) (λ k. false) + 1 ≤ lacking shown pass =
     count_one_fewer (length pass.cells) number (λ k. false) (λ k. shown k && is_none (at_hand pass k)) low high (λ k from e. absurd (cc)) refl (none_lacks (shown number) (at_hand pass number) is none) in
     omega (arith, none_before)
+
+-- one who came to know more and still has nothing for a function lacked it before
+pub one_lacking : (shown : ℕ → Bool) (number : ℕ) (old new : PassView) → length new.cells ≡ length old.cells → Keeps old new → 1 ≤ number → number ≤ length new.cells → shown number ≡ true → at_hand new number ≡ None → 1 ≤ lacking shown old
+one_lacking shown number old new same keeps low high is none =
+    let less = lacking_less shown old new same keeps in
+    let some = lacks_some shown number new low high is none in
+    omega (arith, less, some)

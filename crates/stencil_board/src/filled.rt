@@ -13,7 +13,7 @@ use std::sync::Arc;
 
 /// What a function of a file is compiled to. It says of which file and which function it is, since a cell can keep any.
 #[derive(Drop)]
-pub(crate) struct Filled<N: Sources> {
+pub struct Filled<N: Sources> {
     file: u32,
     number: u32,
     made: Arc<Delazified>,
@@ -31,7 +31,8 @@ impl<N: Sources> Model for Filled<N> {
 }
 
 impl<N: Sources> Filled<N> {
-    pub(crate) fn new(file: u32, number: u32, made: Arc<Delazified>) -> Self
+    /// The result of the function of this number in the file at this place.
+    pub fn new(file: u32, number: u32, made: Arc<Delazified>) -> Self
         requires { IsFilled (file_at N.files file) number (arc_value made) }
         ensures { result ≡ record { file = file; number = number; made = arc_value made } }
     {

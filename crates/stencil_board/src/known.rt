@@ -1,12 +1,14 @@
 //! What passes know of the cells: for every pass the same.
 
-ghost use Rattle.std.specs.Prelude.{◌≡◌, ◌<◌, length, option_map, MatchOption, None};
+ghost use Rattle.std.specs.Prelude.{◌≡◌, ◌<◌, length, option_map, IfOk, MatchOption, Some, None};
 ghost use Rattle.stencil_board.specs.Passes.{AgreeAt, AgreesWith, BelongsTo, IsNumberOf, Keeps, known_of};
 
 use crate::board::Board;
+use crate::filled::Filled;
 use crate::pass::Pass;
 use crate::sources::Sources;
 use lazy_compile::Delazified;
+use std::alloc::{AllocError, Global};
 
 impl<'a, N: Sources> Board<'a, N> {
     /// What the cell of this function keeps. None comes only where the pass knows nothing of the cell. It takes no memory.
@@ -22,6 +24,26 @@ impl<'a, N: Sources> Board<'a, N> {
             Some(found) => Some(found.made()),
             None => None,
         }
+    }
+
+    /// Offers a result to the cell of this function, and answers what the cell keeps from then on: the first that it was offered. A
+    /// result of another function is kept too; requests pass it by.
+    pub fn publish<'b>(
+        &'b self,
+        alloc: Global,
+        pass: &mut Pass<N>,
+        number: u32,
+        value: Filled<N>,
+    ) -> Result<&'b Delazified, AllocError>
+        requires belongs { BelongsTo pass.old self.now }
+        requires number { IsNumberOf self.now number }
+        ensures belongs { BelongsTo pass.new self.now }
+        ensures keeps { Keeps pass.old pass.new }
+        ensures value { IfOk result (λ made. option_map (λ r. r.made) (known_of pass.new number) ≡ Some made.now) }
+    {
+        let offered = Box::new(alloc, value)?;
+        let stands = self.offer(pass, number, offered);
+        Ok(stands.made())
     }
 
     /// A cell that both passes know has one value. It changes neither of them, and takes no memory.

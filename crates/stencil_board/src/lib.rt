@@ -7,7 +7,7 @@
 //! what the function is compiled to, whoever compiled it (`IsCompiledFunction` of lazy_function). It first requests the function
 //! around that one, for its chain; it counts each compile beforehand; and it compiles only where the pass has no result, so
 //! a pass has each function compiled once at most: the room that a pass lacks (`lacking` of `specs/Passes.antt`) goes on
-//! sufficing. [`Board::known`] and [`Board::meet`] say that a cell has one value for everybody.
+//! sufficing. [`Board::publish`], [`Board::known`] and [`Board::meet`] say that a cell has one value for everybody.
 //!
 //! That a value is what its function is compiled to is in its type: a type parameter names the files of the command
 //! ([`Sources`]), and the call that begins the work picks them. A reader compares which file and which number the value is of,
@@ -22,7 +22,10 @@ mod known;
 mod pass;
 mod requests;
 mod sources;
+#[cfg(test)]
+mod tests;
 
 pub use board::Board;
+pub use filled::Filled;
 pub use pass::Pass;
 pub use sources::Sources;

@@ -42,6 +42,8 @@ impl<'a, N: Sources> Board<'a, N> {
         ensures rising { T.count tally.old ≤ T.count tally.new }
         ensures counted { (shown : ℕ → Bool) → IsUpward self.now.initial shown → shown number ≡ true
             → OnOk result (T.count tally.new + lacking shown pass.new ≤ T.count tally.old + lacking shown pass.old) }
+        ensures most { (shown : ℕ → Bool) → IsUpward self.now.initial shown → shown number ≡ true
+            → T.count tally.new ≤ T.count tally.old + lacking shown pass.old }
     {
         if let Some(found) = self.at_hand(pass, number)? {
             return Ok(found);
@@ -79,6 +81,7 @@ impl<'a, N: Sources> Board<'a, N> {
         ensures rising { T.count tally.old ≤ T.count tally.new }
         ensures counted { (shown : ℕ → Bool) → shown number ≡ true
             → OnOk result (T.count tally.new + lacking shown pass.new ≤ T.count tally.old + lacking shown pass.old) }
+        ensures most { (shown : ℕ → Bool) → shown number ≡ true → T.count tally.new ≤ T.count tally.old + lacking shown pass.old }
     {
         if let Some(found) = self.at_hand(pass, number)? {
             return Ok(found);

@@ -145,3 +145,30 @@ returns-clause-counted g t c = λ shown upward is.
     on_ok_weaker c.fill-2.result
     (λ (h : g.T.Ticks.count c.fill-2.new.tally + lacking shown c.fill-2.new.pass ≤ g.T.Ticks.count c.request.new.tally + lacking shown c.request.new.pass). omega (arith, less, counted, h))
     (c.fill-2.ensures.counted shown is)
+
+-- ---- at most
+
+pub returns-then-around-eq0-clause-most : goal.returns-then-around-eq0-clause-most
+returns-then-around-eq0-clause-most g t c = λ shown upward is.
+    let less = lacking_less shown c.args.pass.now c.at_hand.new.pass (ap length (c.in_ok-found.ensures.belongs.cells ∙ sym c.requires.belongs.cells)) c.in_ok-found.ensures.keeps in
+    let most = c.fill.ensures.most shown is in
+    omega (arith, less, most)
+
+pub returns-in_err-outer-clause-most : goal.returns-in_err-outer-clause-most
+returns-in_err-outer-clause-most g t c = λ shown upward is.
+    let board = c.args.self.now in
+    let less = lacking_less shown c.args.pass.now c.at_hand.new.pass (ap length (c.in_ok-found.ensures.belongs.cells ∙ sym c.requires.belongs.cells)) c.in_ok-found.ensures.keeps in
+    let place : c.around_of-around.result ≡ around_in board.initial c.args.number = c.around_of-around.ensures.is ∙ ap (λ (b : BoardView). around_in b.initial c.args.number) c.self.view_is in
+    let shows = around_shown board shown c.args.number c.around_of-around.result c.requires.board.cells c.requires.number upward is place c.if-around-eq0.false in
+    let most = c.request.ensures.most shown upward shows in
+    omega (arith, less, most)
+
+pub returns-clause-most : goal.returns-clause-most
+returns-clause-most g t c = λ shown upward is.
+    let board = c.args.self.now in
+    let less = lacking_less shown c.args.pass.now c.at_hand.new.pass (ap length (c.in_ok-found.ensures.belongs.cells ∙ sym c.requires.belongs.cells)) c.in_ok-found.ensures.keeps in
+    let place : c.around_of-around.result ≡ around_in board.initial c.args.number = c.around_of-around.ensures.is ∙ ap (λ (b : BoardView). around_in b.initial c.args.number) c.self.view_is in
+    let shows = around_shown board shown c.args.number c.around_of-around.result c.requires.board.cells c.requires.number upward is place c.if-around-eq0.false in
+    let counted = c.in_ok-outer.ensures.counted shown upward shows in
+    let most = c.fill-2.ensures.most shown is in
+    omega (arith, less, counted, most)

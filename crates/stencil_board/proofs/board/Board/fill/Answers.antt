@@ -3,7 +3,7 @@ use Rattle.std.specs.Arc.{arc_value}
 use Rattle.stencil_board.specs.Files.{IsFilled, file_at}
 use Rattle.stencil_board.specs.Passes.{at_hand}
 use Rattle.stencil_board.proofs.AtHand.{keeps_both}
-use Rattle.stencil_board.proofs.Counting.{lacking_less, lacking_one_less, lacks_some}
+use Rattle.stencil_board.proofs.Counting.{lacking_less, lacking_one_less, lacks_some, one_lacking}
 use Rattle.stencil_board.proofs.FilledFacts.{filled_compiled, filled_texts, if_some}
 use Rattle.stencil_board.proofs.board.Board.fill.Goals as goal
 
@@ -68,3 +68,33 @@ returns-clause-counted g c = λ shown is.
     let counts = c.compile.ensures.counted in
     let up = counts.count in
     omega (arith, less, one, up)
+
+pub returns-clause-most : goal.returns-clause-most
+returns-clause-most g c = λ shown is.
+    let same : length c.at_hand.new.pass.cells ≡ length c.args.pass.now.cells = ap length (c.in_ok-found.ensures.belongs.cells ∙ sym c.requires.belongs.cells) in
+    let long : length c.args.pass.now.cells ≡ length c.args.self.now.cells = ap length c.requires.belongs.cells in
+    let high = c.requires.number.1 in
+    let none : at_hand c.at_hand.new.pass c.args.number ≡ None = sym c.in_ok-found.ensures.found ∙ ap (option_map arc_value) c.in_default.is in
+    let one = one_lacking shown c.args.number c.args.pass.now c.at_hand.new.pass same c.in_ok-found.ensures.keeps c.requires.number.0 (omega (arith, same, long, high)) is none in
+    let up = c.compile.ensures.counted.count in
+    omega (arith, one, up)
+
+pub returns-in_err-made-clause-most : goal.returns-in_err-made-clause-most
+returns-in_err-made-clause-most g c = λ shown is.
+    let same : length c.at_hand.new.pass.cells ≡ length c.args.pass.now.cells = ap length (c.in_ok-found.ensures.belongs.cells ∙ sym c.requires.belongs.cells) in
+    let long : length c.args.pass.now.cells ≡ length c.args.self.now.cells = ap length c.requires.belongs.cells in
+    let high = c.requires.number.1 in
+    let none : at_hand c.at_hand.new.pass c.args.number ≡ None = sym c.in_ok-found.ensures.found ∙ ap (option_map arc_value) c.in_default.is in
+    let one = one_lacking shown c.args.number c.args.pass.now c.at_hand.new.pass same c.in_ok-found.ensures.keeps c.requires.number.0 (omega (arith, same, long, high)) is none in
+    let up = c.compile.ensures.counted.count in
+    omega (arith, one, up)
+
+pub returns-in_err-held-clause-most : goal.returns-in_err-held-clause-most
+returns-in_err-held-clause-most g c = λ shown is.
+    let same : length c.at_hand.new.pass.cells ≡ length c.args.pass.now.cells = ap length (c.in_ok-found.ensures.belongs.cells ∙ sym c.requires.belongs.cells) in
+    let long : length c.args.pass.now.cells ≡ length c.args.self.now.cells = ap length c.requires.belongs.cells in
+    let high = c.requires.number.1 in
+    let none : at_hand c.at_hand.new.pass c.args.number ≡ None = sym c.in_ok-found.ensures.found ∙ ap (option_map arc_value) c.in_default.is in
+    let one = one_lacking shown c.args.number c.args.pass.now c.at_hand.new.pass same c.in_ok-found.ensures.keeps c.requires.number.0 (omega (arith, same, long, high)) is none in
+    let up = c.compile.ensures.counted.count in
+    omega (arith, one, up)

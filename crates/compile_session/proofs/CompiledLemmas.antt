@@ -1,5 +1,5 @@
 -- How many functions are shown compiled: as many as are counted while the functions of a script are compiled, and that is one number.
-use Rattle.std.proofs.Common.{◌≡◌, ℕ, suc, ◌+◌, ◌^◌, ◌<◌, ◌≤◌, inl, inr, Bool, true, false, ◌&&◌, ◌||◌, cond, nat_le, List, [], ◌∷◌, ◌++◌, length, map, filter, Some, None, Option, refl, sym, ◌∙◌, ap, ap₂, subst, arith, append_assoc, le-leb}
+use Rattle.std.proofs.Common.{◌≡◌, ℕ, suc, ◌+◌, inl, inr, Bool, true, false, ◌&&◌, ◌||◌, cond, List, [], ◌∷◌, ◌++◌, length, map, filter, Some, None, Option, refl, sym, ◌∙◌, ap, ap₂, subst, arith, append_assoc, le-leb}
 use Rattle.std.specs.Prelude.{if◌then◌else◌}
 use Rattle.std.specs.List.{list_any}
 use Rattle.std.proofs.lemmas.List.{length-map}
@@ -7,7 +7,6 @@ use Rattle.std.proofs.lemmas.List.Folds.{list_any-append}
 use Rattle.script_grammar.specs.Tree.{Stmts}
 use Rattle.stencil_data.specs.declared.functions.Extent.{Extent}
 use Rattle.stencil_data.specs.Named.{NamedFunction, NamedInitial, NamedMerged}
-use Rattle.stencil_data.specs.Views.{RecordView}
 use Rattle.bytecode_buf.specs.Command.{Command}
 use Rattle.parse_track.specs.Notes.{closed_names}
 use Rattle.emit_limit_laws.proofs.SiteCounts.{functions_counted}
@@ -20,16 +19,15 @@ use Rattle.compile_first_pass.specs.declared.pass.SyntaxScript.{SyntaxScript}
 use Rattle.compile_first_pass.specs.Passes.{IsSyntaxOf}
 use Rattle.compile_initial.specs.declared.InitialStencil.{InitialStencil}
 use Rattle.compile_initial.specs.Initial.{IsInitialOf}
-use Rattle.compile_shown.specs.Counting.{extents_in, shown_count}
+use Rattle.compile_shown.specs.Counting.{shown_count}
 use Rattle.compile_shown.specs.Shown.{shown_in}
 use Rattle.compile_shown.proofs.Steps.{same_extents}
 use Rattle.session_trial.specs.Generated.{generated}
 use Rattle.session_words.specs.declared.options.Command.{Command as Word}
 use Rattle.session_words.specs.Asked.{Wanted, Job, Asked, Files, Trial, Churn}
 use Rattle.session_words.specs.Asked as asked
-use Rattle.session_words.specs.Words.{asked_of}
-use Rattle.session_specs.specs.Answer.{Shows, to_show, most_bytes}
-use Rattle.session_specs.specs.Sources.{Source, IsScript, IsRefused, IsSource, HasAll}
+use Rattle.session_specs.specs.Answer.{to_show}
+use Rattle.session_specs.specs.Sources.{Source, IsScript, IsRefused}
 use Rattle.session_specs.specs.Compiled.{compiled_among, Compiles, shows_scripts, CompilesSource, CompilesOf, CompilesFile, CompilesFiles, CompilesAsked, ShowsCompiled, wants_none, compiles_none}
 use Rattle.compile_session.proofs.SourceLemmas.{one_shown, sources_equal, same_valid}
 

@@ -1,28 +1,28 @@
 -- How many functions were compiled for one file, and for a generated text: as many as are shown compiled.
-use Rattle.std.proofs.Common.{◌≡◌, ℕ, ◌^◌, ◌<◌, inl, inr, Bool, true, false, List, length, Option, Some, None, Vec, Result, refl, sym, ◌∙◌, subst, arith}
+use Rattle.std.proofs.Common.{Bool, List, None, Option, Result, Some, Vec, arith, false, inl, inr, length, refl, subst, sym, true, ℕ, ◌<◌, ◌^◌, ◌∙◌, ◌≡◌}
+use Rattle.std.proofs.lemmas.Result.{IfOk-weaker}
 use Rattle.std.specs.Result.{IfOk}
 use Rattle.std.specs.declared.alloc.Global.{Global}
-use Rattle.std.proofs.lemmas.Result.{IfOk-weaker}
+use Rattle.compile_first_pass.specs.declared.pass.SyntaxScript.{SyntaxScript}
+use Rattle.compile_session.proofs.CompiledLemmas.{all_compiled, none_compiled}
+use Rattle.compile_session.proofs.FileLemmas.{shows_unless_check}
+use Rattle.compile_session.specs.Answers.{CountsRead, IsScriptOf}
+use Rattle.compile_session.specs.Files.{CountsChurn, CountsTrial, CountsWork}
+use Rattle.compile_session.specs.Work.{is_source}
+use Rattle.compile_session.specs.declared.answer.FileAnswer.{FileAnswer}
 use Rattle.script_grammar.specs.Tree.{Stmts}
 use Rattle.session_outside.specs.Loops.{IsWholeBehind}
-use Rattle.session_trial.specs.Generated.{generated}
-use Rattle.session_words.specs.declared.options.Command.{Command}
-use Rattle.session_words.specs.declared.options.Command.TheVariants as command
-use Rattle.session_words.specs.declared.options.FileJob.{FileJob}
-use Rattle.session_words.specs.declared.options.Options.{Options}
-use Rattle.session_words.specs.declared.options.Options.TheVariants as options
-use Rattle.session_words.specs.Asked.{Wanted, Job, Files, Trial, All, asked, job}
 use Rattle.session_specs.specs.Answer.{most_bytes}
 use Rattle.session_specs.specs.Compiled.{Compiles, CompilesOf, shows_scripts}
 use Rattle.session_specs.specs.Refusals.{Refusal}
-use Rattle.session_specs.specs.Sources.{IsScript, IsRefused, IsSource, HasAll}
-use Rattle.compile_first_pass.specs.declared.pass.SyntaxScript.{SyntaxScript}
-use Rattle.compile_session.specs.declared.answer.FileAnswer.{FileAnswer}
-use Rattle.compile_session.specs.Answers.{IsScriptOf, CountsRead}
-use Rattle.compile_session.specs.Built.{is_source}
-use Rattle.compile_session.specs.Files.{CountsWork, CountsTrial}
-use Rattle.compile_session.proofs.CompiledLemmas.{none_compiled, all_compiled}
-use Rattle.compile_session.proofs.FileLemmas.{shows_unless_check}
+use Rattle.session_specs.specs.Sources.{HasAll, IsRefused, IsScript, IsSource}
+use Rattle.session_trial.specs.Generated.{generated}
+use Rattle.session_words.specs.Asked.{All, Files, Job, Wanted, asked, job}
+use Rattle.session_words.specs.declared.options.Command.{Command}
+use Rattle.session_words.specs.declared.options.FileJob.{FileJob}
+use Rattle.session_words.specs.declared.options.Options.{Options}
+use Rattle.session_words.specs.declared.options.Command.TheVariants as command
+use Rattle.session_words.specs.declared.options.Options.TheVariants as options
 
 -- ---- source text
 
@@ -76,7 +76,7 @@ counts_long j read count is none = record {
 -- all functions of a generated text are compiled
 pub trial_counts : (number size : ℕ) (bytes : List ℕ) (items : Stmts) (functions count : ℕ) → bytes ≡ generated number size → HasAll bytes All items functions → Compiles All items (length bytes) count → count < 2 ^ 32 → CountsTrial number size count
 trial_counts number size bytes items functions count is has compiles few workers reads = record {
-  is = λ held whole. (items, subst (λ (n : ℕ). HasAll (generated number size) All items n) (sym all) (subst (λ (b : List ℕ). HasAll b All items functions) is has));
+  is = λ once held whole. (items, subst (λ (n : ℕ). HasAll (generated number size) All items n) (sym all) (subst (λ (b : List ℕ). HasAll b All items functions) is has));
   few = omega (arith, few);
   none = λ e. absurd (cc);
 }
@@ -89,3 +89,11 @@ files_counted w j reads count is counts = subst (λ (x : Options). CountsWork (a
 
 pub trial_counted : (w : Options) (number size workers : ℕ) (reads : List (Option (Vec ℕ Global))) (count : ℕ) → w ≡ options.Trial number size workers → CountsTrial number size count → CountsWork (asked w) reads count
 trial_counted w number size workers reads count is counts = subst (λ (x : Options). CountsWork (asked x) reads count) (sym is) (counts workers reads)
+
+-- of a text whose functions are compiled again and again no more is said
+pub churn_counted : (w : Options) (number size workers : ℕ) (reads : List (Option (Vec ℕ Global))) (count : ℕ) → w ≡ options.Churn number size workers → CountsChurn count → CountsWork (asked w) reads count
+churn_counted w number size workers reads count is few = subst (λ (x : Options). CountsWork (asked x) reads count) (sym is) (record {
+  is = λ once. absurd (cc);
+  few = few;
+  none = λ e. absurd (cc);
+})

@@ -1,20 +1,20 @@
 -- Many files: how many functions are compiled for them is put together from how many are for each.
-use Rattle.std.proofs.Common.{◌≡◌, ℕ, suc, ◌+◌, ◌*◌, ◌^◌, ◌<◌, ◌≤◌, Bool, true, List, [], ◌∷◌, length, min, Option, Vec, map, take, drop, get_or, refl, ap, sym, ◌∙◌, subst, arith, None, Some}
+use Rattle.std.proofs.Common.{List, None, Option, Some, Vec, [], arith, drop, get_or, length, map, min, refl, subst, suc, sym, take, true, ℕ, ◌*◌, ◌+◌, ◌<◌, ◌^◌, ◌∷◌, ◌≡◌, ◌≤◌}
+use Rattle.std.proofs.lemmas.List.{length-map}
+use Rattle.std.proofs.lemmas.Option.{slice_get-get_or, slice_get_within}
 use Rattle.std.specs.Prelude.{slice_get}
 use Rattle.std.specs.String.{string_bytes}
 use Rattle.std.specs.declared.alloc.Global.{Global}
-use Rattle.std.proofs.lemmas.List.{length-map}
-use Rattle.std.proofs.lemmas.Option.{slice_get_within, slice_get-get_or}
-use Rattle.session_outside.specs.Loops.{IsWholeBehind, AreWholeBehind}
-use Rattle.session_words.specs.declared.options.FileJob.{FileJob}
-use Rattle.session_words.specs.Asked.{Job, Files, job}
-use Rattle.session_specs.specs.Answer.{most_bytes}
-use Rattle.session_specs.specs.Compiled.{CompilesFile, CompilesFiles, compiles_none}
-use Rattle.compile_session.specs.declared.answer.FileAnswer.{FileAnswer}
+use Rattle.compile_session.proofs.FilesLemmas.{drop_all, drop_more, read_at, same_length, total, total_more}
 use Rattle.compile_session.specs.Answers.{CountsRead}
 use Rattle.compile_session.specs.Files.{CountsWork}
-use Rattle.compile_session.specs.Workers.{SettlesFile, SettleFiles}
-use Rattle.compile_session.proofs.FilesLemmas.{total, read_at, total_more, drop_more, drop_all, same_length}
+use Rattle.compile_session.specs.Workers.{SettleFiles, SettlesFile}
+use Rattle.compile_session.specs.declared.answer.FileAnswer.{FileAnswer}
+use Rattle.session_outside.specs.Loops.{AreWholeBehind}
+use Rattle.session_specs.specs.Answer.{most_bytes}
+use Rattle.session_specs.specs.Compiled.{CompilesFile, CompilesFiles, compiles_none}
+use Rattle.session_words.specs.Asked.{Files, Job, job}
+use Rattle.session_words.specs.declared.options.FileJob.{FileJob}
 
 -- In the middle of the files: with whatever is compiled for those that are left, n are compiled for all. `reads` are what was
 -- read of all.
@@ -101,7 +101,7 @@ counted_end j reads count index compiled is past most at =
     let names : List (List ℕ) = map string_bytes j.files.items in
     let long : length names ≡ length j.files.items = length-map j.files.items string_bytes in
     record {
-      is = counting_end (job j) names reads index compiled (λ n a b. omega (arith, a, b, is, past, long)) at;
+      is = λ once. counting_end (job j) names reads index compiled (λ n a b. omega (arith, a, b, is, past, long)) at;
       few = let f = at.few in let w = at.within in omega (arith, f, w, long, most);
       none = at.none;
     }

@@ -1,38 +1,38 @@
 -- One file: what is printed is its answer.
-use Rattle.std.proofs.Common.{◌≡◌, ℕ, true, false, List, [], ◌++◌, length, Option, Some, None, Vec, ap, refl, sym, ◌∙◌, subst, codes}
+use Rattle.std.proofs.Common.{List, None, Option, Some, Vec, [], ap, codes, false, length, refl, subst, sym, true, ℕ, ◌++◌, ◌∙◌, ◌≡◌}
 use Rattle.std.specs.Fmt.{decimal}
 use Rattle.std.specs.declared.alloc.Global.{Global}
-use Rattle.session_outside.specs.Loops.{IsWholeBehind}
-use Rattle.session_words.specs.declared.options.Command.{Command}
-use Rattle.session_words.specs.declared.options.Command.TheVariants as command
-use Rattle.session_words.specs.Asked.{Job, Wanted, All}
-use Rattle.session_specs.specs.Answer.{IsWritten, most_bytes}
-use Rattle.session_specs.specs.Compiled.{shows_scripts}
-use Rattle.session_specs.specs.Refusals.{refusal_line}
-use Rattle.session_specs.specs.Sources.{IsScript, IsRefused, IsSource, IsLeastOf, LacksFunction, missing}
-use Rattle.compile_first_pass.specs.declared.pass.SourceFault.{SourceFault}
-use Rattle.compile_first_pass.specs.declared.pass.SourceFault.TheVariants as fault
-use Rattle.compile_first_pass.specs.declared.pass.SyntaxScript.{SyntaxScript}
 use Rattle.compile_first_pass.specs.Passes.{IsSyntaxOf}
-use Rattle.compile_first_pass.specs.Passes as pass
+use Rattle.compile_first_pass.specs.declared.pass.SourceFault.{SourceFault}
+use Rattle.compile_first_pass.specs.declared.pass.SyntaxScript.{SyntaxScript}
+use Rattle.compile_session.proofs.SourceLemmas.{answers_source, settles_within}
+use Rattle.compile_session.specs.Answers.{IsAnswerFor, IsMissing, IsScriptOf, IsSourceText, SettlesRead, refusal_of}
+use Rattle.compile_session.specs.Work.{is_source}
 use Rattle.compile_session.specs.declared.answer.FileAnswer.{FileAnswer}
 use Rattle.compile_session.specs.declared.refusal.Refusal.{Refusal}
 use Rattle.compile_session.specs.declared.source.SourceText.{SourceText}
+use Rattle.session_outside.specs.Loops.{IsWholeBehind}
+use Rattle.session_specs.specs.Answer.{IsWritten, most_bytes}
+use Rattle.session_specs.specs.Compiled.{shows_scripts}
+use Rattle.session_specs.specs.Refusals.{refusal_line}
+use Rattle.session_specs.specs.Sources.{IsLeastOf, IsRefused, IsScript, IsSource, LacksFunction, missing}
+use Rattle.session_words.specs.Asked.{All, Job, Wanted}
+use Rattle.session_words.specs.declared.options.Command.{Command}
+use Rattle.session_words.specs.declared.options.Command.TheVariants as command
+use Rattle.compile_first_pass.specs.declared.pass.SourceFault.TheVariants as fault
+use Rattle.compile_first_pass.specs.Passes as pass
 use Rattle.compile_session.specs.declared.source.SourceText.TheVariants as source
-use Rattle.compile_session.specs.Built.{is_built, is_source}
-use Rattle.compile_session.specs.Answers.{IsAnswerFor, IsMissing, IsScriptOf, IsSourceText, SettlesRead, refusal_of}
-use Rattle.compile_session.proofs.SourceLemmas.{answers_source, settles_within}
 
 -- ---- commands
 
--- a command that is built takes files as source text, or is one of the two that take images
-pub is_of_source : (c : Command) → is_built c ≡ true → (c ≡ command.Load → ⊥) → (c ≡ command.Verify → ⊥) → is_source c ≡ true
-is_of_source command.Code b l v = refl
-is_of_source command.Scopes b l v = refl
-is_of_source command.Check b l v = refl
-is_of_source command.Save b l v = refl
-is_of_source command.Load b l v = absurd (l refl)
-is_of_source command.Verify b l v = absurd (v refl)
+-- a command takes files as source text, or is one of the two that take images
+pub is_of_source : (c : Command) → (c ≡ command.Load → ⊥) → (c ≡ command.Verify → ⊥) → is_source c ≡ true
+is_of_source command.Code l v = refl
+is_of_source command.Scopes l v = refl
+is_of_source command.Check l v = refl
+is_of_source command.Save l v = refl
+is_of_source command.Load l v = absurd (l refl)
+is_of_source command.Verify l v = absurd (v refl)
 
 -- a command over source text shows scripts, unless it only checks
 pub shows_unless_check : (c : Command) → is_source c ≡ true → (c ≡ command.Check → ⊥) → shows_scripts c ≡ true

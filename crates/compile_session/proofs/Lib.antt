@@ -1,3 +1,4 @@
+pub mod ChurnLemmas
 pub mod CompiledLemmas
 pub mod CountLemmas
 pub mod CountingLemmas

@@ -1,28 +1,20 @@
 -- The command: what the sink has taken is a front of the answer.
-use Rattle.std.proofs.Common.{◌≡◌, ℕ, ◌+◌, ◌≤◌, Bool, true, false, List, [], ◌∷◌, ◌++◌, Option, Some, None, Vec, refl, ap, sym, ◌∙◌, subst, append-nil, arith, if◌then◌else◌}
+use Rattle.std.proofs.Common.{Bool, List, None, Option, Some, Vec, [], ap, append-nil, arith, false, refl, subst, sym, true, ℕ, ◌++◌, ◌+◌, ◌∙◌, ◌∷◌, ◌≡◌, ◌≤◌}
 use Rattle.std.specs.declared.alloc.Global.{Global}
+use Rattle.compile_session.proofs.CompiledLemmas.{one_number}
+use Rattle.compile_session.specs.Alike.{AskAlike, IsAlike}
+use Rattle.compile_session.specs.Files.{AnswersWork, CountsWork, SettlesWork, compiles_once, status_of, words_compile_once}
+use Rattle.compile_session.specs.Work.{files_of, names_of}
+use Rattle.compile_session.specs.declared.answer.FileAnswer.{FileAnswer}
+use Rattle.compile_session.specs.declared.status.Status.{Status}
+use Rattle.compile_tally.specs.Tally.{Rises}
+use Rattle.session_outside.specs.Loops.{ReadsAllWithin, opened_within}
 use Rattle.session_outside.specs.Shelf.{TurnsToFront, opened}
 use Rattle.session_outside.specs.Sink.{Gains, GainsFront}
-use Rattle.session_outside.specs.Loops.{ReadsAllWithin, opened_within}
-use Rattle.session_words.specs.Asked.{Asked, Files, Trial, Churn}
-use Rattle.session_words.specs.Words.{asked_of}
-use Rattle.session_specs.specs.Answer.{IsAnswer, IsAnswerTo, IsOfFiles, IsTrial, IsChurn, most_bytes}
+use Rattle.session_specs.specs.Answer.{IsAnswer, IsAnswerTo, IsChurn, IsOfFiles, IsTrial, most_bytes}
 use Rattle.session_specs.specs.Compiled.{CompilesAsked, ShowsCompiled, words_compile_none}
-use Rattle.compile_tally.specs.Tally.{Rises}
-use Rattle.compile_session.specs.declared.answer.FileAnswer.{FileAnswer}
-use Rattle.compile_session.specs.Built.{built, built_of, is_built_work, files_of, names_of}
-use Rattle.compile_session.specs.Alike.{AskAlike, IsAlike}
-use Rattle.compile_session.specs.Files.{AnswersWork, SettlesWork, CountsWork, status_of}
-use Rattle.compile_session.specs.declared.status.Status.{Status}
-use Rattle.compile_session.proofs.CompiledLemmas.{one_number}
-
--- what the words ask for is built
-pub built_is : (words : List (List ℕ)) (a : Asked) → asked_of words ≡ Some a → is_built_work a ≡ true → built_of words ≡ Some a
-built_is words a asked is = ap built asked ∙ by (is_built_work a) is
-  where
-    by : (b : Bool) → b ≡ true → (if b then Some a else None) ≡ Some a
-    by true e = refl
-    by false e = absurd (cc)
+use Rattle.session_words.specs.Asked.{Asked, Churn, Files, Trial}
+use Rattle.session_words.specs.Words.{asked_of}
 
 -- what is answered, where the shelf tells what it holds, by what the calls saw of the names and of what was read
 pub settled_seen : (a : Asked) (shelf : Option (List ℕ → List ℕ)) (held : List ℕ → List ℕ) (names : List (List ℕ)) (reads seen : List (Option (Vec ℕ Global))) (answer : FileAnswer) → names ≡ files_of a → seen ≡ reads → shelf ≡ Some held
@@ -103,32 +95,32 @@ opened_front (n ∷ ns) (Some b ∷ rs) =
     (h.0, ap (λ (l : List (List ℕ)). n ∷ l) h.1)
 
 -- the names of the files that are read
-names_are : (words : List (List ℕ)) (a : Asked) (names : List (List ℕ)) → (asked_of words ≡ Some a) × (is_built_work a ≡ true) → names ≡ files_of a → names ≡ names_of (built_of words)
-names_are words a names is same = same ∙ sym (ap names_of (built_is words a is.0 is.1))
+names_are : (words : List (List ℕ)) (a : Asked) (names : List (List ℕ)) → asked_of words ≡ Some a → names ≡ files_of a → names ≡ names_of (asked_of words)
+names_are words a names is same = same ∙ sym (ap names_of is)
 
 -- the shelf was turned to a front of them
-pub turned_front : (words : List (List ℕ)) (a : Asked) (names : List (List ℕ)) (reads : List (Option (Vec ℕ Global))) (before now : List (List ℕ)) → (asked_of words ≡ Some a) × (is_built_work a ≡ true) → names ≡ files_of a
-    → now ≡ before ++ opened names reads → TurnsToFront before now (names_of (built_of words))
+pub turned_front : (words : List (List ℕ)) (a : Asked) (names : List (List ℕ)) (reads : List (Option (Vec ℕ Global))) (before now : List (List ℕ)) → asked_of words ≡ Some a → names ≡ files_of a
+    → now ≡ before ++ opened names reads → TurnsToFront before now (names_of (asked_of words))
 turned_front words a names reads before now is same turned =
     let h = opened_front names reads in
     subst (λ (ns : List (List ℕ)). TurnsToFront before now ns) (names_are words a names is same) (opened names reads, h.0, h.1, turned)
 
 -- where the shelf tells what it holds, it was turned to those that are to be opened
-pub opened_all : (words : List (List ℕ)) (a : Asked) (held : List ℕ → List ℕ) (names : List (List ℕ)) (before now : List (List ℕ)) → (asked_of words ≡ Some a) × (is_built_work a ≡ true) → names ≡ files_of a
-    → now ≡ before ++ opened_within most_bytes held 0 names → now ≡ before ++ opened_within most_bytes held 0 (names_of (built_of words))
+pub opened_all : (words : List (List ℕ)) (a : Asked) (held : List ℕ → List ℕ) (names : List (List ℕ)) (before now : List (List ℕ)) → asked_of words ≡ Some a → names ≡ files_of a
+    → now ≡ before ++ opened_within most_bytes held 0 names → now ≡ before ++ opened_within most_bytes held 0 (names_of (asked_of words))
 opened_all words a held names before now is same turned =
     subst (λ (ns : List (List ℕ)). now ≡ before ++ opened_within most_bytes held 0 ns) (names_are words a names is same) turned
 
 -- all of these are some from the first on
-pub opened_whole : (words : List (List ℕ)) (a : Asked) (held : List ℕ → List ℕ) (names : List (List ℕ)) (before now : List (List ℕ)) → (asked_of words ≡ Some a) × (is_built_work a ≡ true) → names ≡ files_of a
-    → now ≡ before ++ opened_within most_bytes held 0 names → TurnsToFront before now (opened_within most_bytes held 0 (names_of (built_of words)))
+pub opened_whole : (words : List (List ℕ)) (a : Asked) (held : List ℕ → List ℕ) (names : List (List ℕ)) (before now : List (List ℕ)) → asked_of words ≡ Some a → names ≡ files_of a
+    → now ≡ before ++ opened_within most_bytes held 0 names → TurnsToFront before now (opened_within most_bytes held 0 (names_of (asked_of words)))
 opened_whole words a held names before now is same turned =
-    let all = opened_within most_bytes held 0 (names_of (built_of words)) in
+    let all = opened_within most_bytes held 0 (names_of (asked_of words)) in
     (all, [], sym (append-nil all), opened_all words a held names before now is same turned)
 
 -- some of these were turned to, where the shelf refused one
-pub opened_some : (words : List (List ℕ)) (a : Asked) (held : List ℕ → List ℕ) (names : List (List ℕ)) (before now : List (List ℕ)) → (asked_of words ≡ Some a) × (is_built_work a ≡ true) → names ≡ files_of a
-    → TurnsToFront before now (opened_within most_bytes held 0 names) → TurnsToFront before now (opened_within most_bytes held 0 (names_of (built_of words)))
+pub opened_some : (words : List (List ℕ)) (a : Asked) (held : List ℕ → List ℕ) (names : List (List ℕ)) (before now : List (List ℕ)) → asked_of words ≡ Some a → names ≡ files_of a
+    → TurnsToFront before now (opened_within most_bytes held 0 names) → TurnsToFront before now (opened_within most_bytes held 0 (names_of (asked_of words)))
 opened_some words a held names before now is same turned =
     subst (λ (ns : List (List ℕ)). TurnsToFront before now (opened_within most_bytes held 0 ns)) (names_are words a names is same) turned
 
@@ -136,11 +128,24 @@ opened_some words a held names before now is same turned =
 
 -- n functions are compiled, where the shelf tells what it holds, by what the calls saw of the names and of what was read
 pub counted_seen : (a : Asked) (shelf : Option (List ℕ → List ℕ)) (held : List ℕ → List ℕ) (names : List (List ℕ)) (reads seen : List (Option (Vec ℕ Global))) (count : ℕ) → names ≡ files_of a → seen ≡ reads → shelf ≡ Some held
-    → ReadsAllWithin shelf names most_bytes reads → CountsWork a seen count → CompilesAsked a held count
-counted_seen a shelf held names reads seen count named is tells read counts =
-    counts.is held
+    → ReadsAllWithin shelf names most_bytes reads → CountsWork a seen count → compiles_once a ≡ true → CompilesAsked a held count
+counted_seen a shelf held names reads seen count named is tells read counts once =
+    counts.is once held
     (subst (λ (l : List (Option (Vec ℕ Global))). ReadsAllWithin (Some held) (files_of a) most_bytes l) (sym is)
     (subst (λ (s : Option (List ℕ → List ℕ)). ReadsAllWithin s (files_of a) most_bytes reads) tells (subst (λ (l : List (List ℕ)). ReadsAllWithin shelf l most_bytes reads) named read)))
+
+once_by : (a : Asked) (held : List ℕ → List ℕ) (count : ℕ) → CompilesAsked a held count → compiles_once a ≡ true
+once_by (Files job) held count h = refl
+once_by (Trial number size workers) held count h = refl
+once_by (Churn number size workers) held count h = absurd h
+
+-- words that show a number of functions compiled compile each once
+pub once_shown : (words : List (List ℕ)) (a : Asked) (held : List ℕ → List ℕ) (count : ℕ) → asked_of words ≡ Some a → ShowsCompiled words held count → compiles_once a ≡ true
+once_shown words a held count asked shows = once_by a held count (subst (λ (x : Asked). CompilesAsked x held count) (some_same shows.asked a (sym shows.form ∙ asked)) shows.compiled)
+
+-- so do words for which it is known
+pub once_asked : (words : List (List ℕ)) (a : Asked) → asked_of words ≡ Some a → words_compile_once (asked_of words) ≡ true → compiles_once a ≡ true
+once_asked words a asked once = subst (λ (o : Option Asked). words_compile_once o ≡ true) asked once
 
 -- as many as the answer to the words shows
 pub shows_compiled : (words : List (List ℕ)) (a : Asked) (held : List ℕ → List ℕ) (count : ℕ) → asked_of words ≡ Some a → CompilesAsked a held count → ShowsCompiled words held count

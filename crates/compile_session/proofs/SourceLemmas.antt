@@ -1,36 +1,36 @@
 -- A file of source text is one thing, and one text is written for it.
-use Rattle.std.proofs.Common.{◌≡◌, ℕ, ◌+◌, ◌<◌, ◌≤◌, inl, inr, Bool, true, List, [], ◌++◌, length, Option, Some, None, map, ap, sym, ◌∙◌, subst, arith, Contains}
+use Rattle.std.proofs.Common.{Bool, Contains, List, None, Option, Some, [], ap, arith, inl, inr, length, map, subst, sym, true, ℕ, ◌++◌, ◌+◌, ◌<◌, ◌∙◌, ◌≡◌, ◌≤◌}
 use Rattle.std.proofs.lemmas.List.Elements.{All-contains}
-use Rattle.script_grammar.specs.Fault.{Refusal as Fault, Unexpected, TooDeep}
-use Rattle.script_grammar.specs.Tree.{Stmts}
-use Rattle.stencil_data.specs.Named.{NamedFunction, NamedMerged}
 use Rattle.bytecode_buf.specs.Command.{Command}
-use Rattle.parse_track.specs.declared.region.Early.{Early}
-use Rattle.parse_track.specs.Notes.{early_error, closed_names}
-use Rattle.script_scanner.specs.Lexemes.{lexemes}
-use Rattle.session_words.specs.declared.options.Command.{Command as Word}
-use Rattle.session_words.specs.declared.options.Command.TheVariants as word
-use Rattle.session_words.specs.Asked.{Wanted, Job}
-use Rattle.compile_specs.specs.Eager.{IsEager, Site, compiled_at}
-use Rattle.compile_specs.specs.Shown.{IsShown, shown}
-use Rattle.compile_specs.specs.Shown as show
-use Rattle.compile_specs.proofs.Counts.{one_count}
-use Rattle.compile_specs.proofs.Sites.{one_functions}
-use Rattle.script_image.specs.ScriptLines.{code_text, scope_text, listed_merged}
-use Rattle.session_image_specs.specs.Images.{IsImage}
-use Rattle.stencil_xdr_laws.proofs.OneImage.{one_script_one_image}
-use Rattle.session_specs.specs.Answer.{IsWritten, IsOfSource, IsOf, FromSource, file_line, to_show, most_bytes}
-use Rattle.compile_specs.specs.Counted.{HasFunctions}
-use Rattle.session_specs.specs.Refusals as line
-use Rattle.session_specs.specs.Refusals.{refusal_line}
-use Rattle.session_specs.specs.Sources.{Source, IsScript, IsRefused, IsSource, IsRead, IsValid, HasAll, FaultAt, ErrorAt, LacksFunction, IsLeastOf, missing}
-use Rattle.compile_session.specs.declared.answer.FileAnswer.{FileAnswer}
-use Rattle.compile_session.specs.Built.{is_source}
+use Rattle.compile_first_pass.proofs.FileLemmas.{text_of}
+use Rattle.compile_session.proofs.FaultLemmas.{one_kind, one_offset, text_no_fault}
 use Rattle.compile_session.specs.Answers.{IsAnswerFor, Settles}
 use Rattle.compile_session.specs.Faulty.{IsFaulty}
+use Rattle.compile_session.specs.Work.{is_source}
+use Rattle.compile_session.specs.declared.answer.FileAnswer.{FileAnswer}
+use Rattle.compile_specs.proofs.Counts.{one_count}
+use Rattle.compile_specs.proofs.Sites.{one_functions}
+use Rattle.compile_specs.specs.Counted.{HasFunctions}
+use Rattle.compile_specs.specs.Eager.{IsEager, Site, compiled_at}
+use Rattle.compile_specs.specs.Shown.{IsShown, shown}
 use Rattle.parse_script.proofs.TextLemmas.{one_text}
-use Rattle.compile_first_pass.proofs.FileLemmas.{text_of}
-use Rattle.compile_session.proofs.FaultLemmas.{text_no_fault, one_offset, one_kind}
+use Rattle.parse_track.specs.Notes.{closed_names, early_error}
+use Rattle.parse_track.specs.declared.region.Early.{Early}
+use Rattle.script_grammar.specs.Fault.{Refusal as Fault, TooDeep, Unexpected}
+use Rattle.script_grammar.specs.Tree.{Stmts}
+use Rattle.script_image.specs.ScriptLines.{code_text, listed_merged, scope_text}
+use Rattle.script_scanner.specs.Lexemes.{lexemes}
+use Rattle.session_image_specs.specs.Images.{IsImage}
+use Rattle.session_specs.specs.Answer.{FromSource, IsOf, IsOfSource, IsWritten, file_line, most_bytes, to_show}
+use Rattle.session_specs.specs.Refusals.{refusal_line}
+use Rattle.session_specs.specs.Sources.{ErrorAt, FaultAt, HasAll, IsLeastOf, IsRead, IsRefused, IsScript, IsSource, IsValid, LacksFunction, Source, missing}
+use Rattle.session_words.specs.Asked.{Job, Wanted}
+use Rattle.session_words.specs.declared.options.Command.{Command as Word}
+use Rattle.stencil_data.specs.Named.{NamedFunction, NamedMerged}
+use Rattle.stencil_xdr_laws.proofs.OneImage.{one_script_one_image}
+use Rattle.session_words.specs.declared.options.Command.TheVariants as word
+use Rattle.compile_specs.specs.Shown as show
+use Rattle.session_specs.specs.Refusals as line
 
 -- ---- one tree
 

@@ -1,12 +1,12 @@
--- What the words of a command can ask for: how many files, and how many workers.
-use Rattle.std.proofs.Common.{◌≡◌, ℕ, ◌≤◌, Bool, true, false, List, [], ◌∷◌, length, Option, Some, None, refl, subst, arith}
-use Rattle.std.specs.Prelude.{nat_le, ◌&&◌, option_map, option_and_then, if◌then◌else◌, codes, bytes_eq}
+-- What the words of a command can ask for: how many files, and how many workers for them or for a generated text.
+use Rattle.std.proofs.Common.{Bool, List, None, Option, Some, [], arith, false, length, refl, subst, true, ℕ, ◌∷◌, ◌≡◌, ◌≤◌}
 use Rattle.std.proofs.lemmas.Bool.{leb-true}
+use Rattle.std.specs.Prelude.{bytes_eq, codes, if◌then◌else◌, nat_le, option_and_then, option_map, ◌&&◌}
+use Rattle.session_words.specs.Asked.{Asked, Churn, Files, Job, Trial}
+use Rattle.session_words.specs.Numbers.{is_number, number_in, value}
+use Rattle.session_words.specs.Words.{Generated, Given, Taken, all_file_names, are_names, asked_of, files_form, form_of, generated_by, generated_of, is_option, job_of, nothing_given, number_from, once, or_else, order_of, size_from, take_options, text_form, want_of, with_names, with_option, with_order, with_want, with_workers, workers_behind, workers_of}
 use Rattle.session_words.specs.declared.options.Command.{Command}
 use Rattle.session_words.specs.declared.options.Command.TheVariants as command
-use Rattle.session_words.specs.Asked.{Job, Asked, Files, Trial, Churn}
-use Rattle.session_words.specs.Numbers.{number_in, is_number, value}
-use Rattle.session_words.specs.Words.{Given, nothing_given, Taken, once, workers_of, want_of, order_of, with_want, with_workers, with_order, with_option, is_option, take_options, all_file_names, or_else, job_of, with_names, files_form, Generated, generated_of, text_form, form_of, asked_of}
 
 -- at most 64 files, and from one to 16 workers
 pub record Bounded (j : Job) : Type 0 where
@@ -131,3 +131,65 @@ bounded_form word rest j e =
 pub asked_bounded : (words : List (List ℕ)) (j : Job) → asked_of words ≡ Some (Files j) → Bounded j
 asked_bounded [] j e = absurd (cc)
 asked_bounded (word ∷ rest) j e = bounded_form word rest j e
+
+-- ---- generated texts
+
+-- the workers for a generated text are few
+abbrev FewFor : Asked → Type 0
+FewFor (Files j) = Unit {0}
+FewFor (Trial number size workers) = FewWorkers (Some workers)
+FewFor (Churn number size workers) = FewWorkers (Some workers)
+
+few_behind : (rest : List (List ℕ)) (n : ℕ) → workers_behind rest ≡ Some n → FewWorkers (Some n)
+few_behind [] n e = subst (λ (m : ℕ). FewWorkers (Some m)) (some_same 4 n e) (record { low = omega arith; high = omega arith })
+few_behind (option ∷ []) n e = absurd (cc)
+few_behind (option ∷ word ∷ []) n e = of_if (FewWorkers (Some n)) (bytes_eq option (codes "--workers")) (workers_of word) None n (few_of word n) (λ h. absurd (cc)) e
+few_behind (option ∷ word ∷ further ∷ rest) n e = absurd (cc)
+
+few_generated : (words : List (List ℕ)) (g : Generated) → generated_of words ≡ Some g → FewWorkers (Some g.workers)
+few_generated [] g e = absurd (cc)
+few_generated (number ∷ []) g e = absurd (cc)
+few_generated (number ∷ size ∷ rest) g e = by (number_from number) (size_from size) (workers_behind rest) refl e
+  where
+    by : (n s w : Option ℕ) → workers_behind rest ≡ w → generated_by n s w ≡ Some g → FewWorkers (Some g.workers)
+    by None s w k h = absurd (cc)
+    by (Some n) None w k h = absurd (cc)
+    by (Some n) (Some s) None k h = absurd (cc)
+    by (Some n) (Some s) (Some w) k h = subst (λ (x : Generated). FewWorkers (Some x.workers)) (some_same (record { number = n; size = s; workers = w }) g h) (few_behind rest w k)
+
+few_text : (form : ℕ → ℕ → ℕ → Asked) (words : List (List ℕ)) (a : Asked) → ((g : Generated) → FewWorkers (Some g.workers) → FewFor (form g.number g.size g.workers)) → text_form form words ≡ Some a → FewFor a
+few_text form words a few e = of_map (λ (g : Generated). form g.number g.size g.workers) FewFor (generated_of words) a (λ g is. few g (few_generated words g is)) e
+
+few_names : (c : Command) (most : ℕ) (t : Taken) (a : Asked) → with_names c most t ≡ Some a → FewFor a
+few_names c most t a e =
+    of_if (FewFor a) (are_names most t.names) (Some (job_of c t.given t.names)) None a (λ h. subst FewFor (some_same (job_of c t.given t.names) a h) tt) (λ h. absurd (cc)) e
+
+few_files : (c : Command) (most : ℕ) (words : List (List ℕ)) (a : Asked) → files_form c most words ≡ Some a → FewFor a
+few_files c most words a e = of_then (with_names c most) (FewFor a) (take_options nothing_given words) a (λ t is. few_names c most t a) e
+
+few_form : (word : List ℕ) (rest : List (List ℕ)) (a : Asked) → form_of word rest ≡ Some a → FewFor a
+few_form word rest a e =
+    let If = of_if {A = Asked} (FewFor a) in
+    If (bytes_eq word (codes "code")) _ _ a (few_files command.Code 64 rest a)
+    (If (bytes_eq word (codes "scopes")) _ _ a (few_files command.Scopes 64 rest a)
+    (If (bytes_eq word (codes "check")) _ _ a (few_files command.Check 64 rest a)
+    (If (bytes_eq word (codes "save")) _ _ a (few_files command.Save 1 rest a)
+    (If (bytes_eq word (codes "load")) _ _ a (few_names command.Load 1 (record { given = nothing_given; names = rest }) a)
+    (If (bytes_eq word (codes "verify")) _ _ a (few_names command.Verify 1 (record { given = nothing_given; names = rest }) a)
+    (If (bytes_eq word (codes "trial")) _ _ a (few_text Trial rest a (λ g few. few))
+    (If (bytes_eq word (codes "churn")) _ _ a (few_text Churn rest a (λ g few. few)) (λ h. absurd (cc)))))))))
+    e
+
+-- the workers for a text whose functions are compiled again and again
+pub churn_asked : (words : List (List ℕ)) (number size workers : ℕ) → asked_of words ≡ Some (Churn number size workers) → (1 ≤ workers) × (workers ≤ 16)
+churn_asked [] number size workers e = absurd (cc)
+churn_asked (word ∷ rest) number size workers e =
+    let few : FewWorkers (Some workers) = few_form word rest (Churn number size workers) e in
+    (few.low, few.high)
+
+-- the workers for a trial
+pub trial_asked : (words : List (List ℕ)) (number size workers : ℕ) → asked_of words ≡ Some (Trial number size workers) → (1 ≤ workers) × (workers ≤ 16)
+trial_asked [] number size workers e = absurd (cc)
+trial_asked (word ∷ rest) number size workers e =
+    let few : FewWorkers (Some workers) = few_form word rest (Trial number size workers) e in
+    (few.low, few.high)

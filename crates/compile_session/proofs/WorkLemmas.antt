@@ -1,24 +1,23 @@
 -- What words ask for: files, or a generated text.
-use Rattle.std.proofs.Common.{◌≡◌, ℕ, ◌≤◌, true, List, length, Option, Some, Vec, sym, subst, arith}
+use Rattle.std.proofs.Common.{List, Option, Some, Vec, arith, length, subst, sym, ℕ, ◌≡◌, ◌≤◌}
+use Rattle.std.proofs.lemmas.List.{length-map}
 use Rattle.std.specs.String.{string_bytes}
 use Rattle.std.specs.declared.alloc.Global.{Global}
-use Rattle.std.proofs.lemmas.List.{length-map}
+use Rattle.compile_session.proofs.WordLaws.{asked_bounded, churn_asked, trial_asked}
+use Rattle.compile_session.specs.Files.{AnswersAll, AnswersWork, IsBounded, SettlesWork}
+use Rattle.compile_session.specs.declared.answer.FileAnswer.{FileAnswer}
+use Rattle.session_trial_laws.proofs.Commands.{churn_is_few, trial_is_few}
+use Rattle.session_words.specs.Asked.{Asked, Churn, Files, Trial, asked, job}
+use Rattle.session_words.specs.Words.{asked_of}
 use Rattle.session_words.specs.declared.options.FileJob.{FileJob}
 use Rattle.session_words.specs.declared.options.Options.{Options}
 use Rattle.session_words.specs.declared.options.Options.TheVariants as options
-use Rattle.session_words.specs.Asked.{Asked, Files, Trial, Churn, asked, job}
-use Rattle.session_words.specs.Words.{asked_of}
-use Rattle.session_trial_laws.proofs.Commands.{trial_is_few, churn_is_few}
-use Rattle.compile_session.specs.declared.answer.FileAnswer.{FileAnswer}
-use Rattle.compile_session.specs.Built.{is_built, is_built_work}
-use Rattle.compile_session.specs.Files.{AnswersAll, AnswersWork, IsBounded, SettlesWork}
-use Rattle.compile_session.proofs.WordLaws.{asked_bounded}
 
 -- what words ask for is bounded
 pub work_bounded : (words : List (List ℕ)) (a : Asked) → asked_of words ≡ Some a → IsBounded a
 work_bounded words (Files j) e = let b = asked_bounded words j e in (b.files, b.one, b.workers)
-work_bounded words (Trial number size workers) e = trial_is_few words number size workers e
-work_bounded words (Churn number size workers) e = churn_is_few words number size workers e
+work_bounded words (Trial number size workers) e = let b = trial_asked words number size workers e in (trial_is_few words number size workers e, b.0, b.1)
+work_bounded words (Churn number size workers) e = let b = churn_asked words number size workers e in (churn_is_few words number size workers e, b.0, b.1)
 
 -- ---- files
 
@@ -28,9 +27,6 @@ files_bounded w j is bounded =
     let few = b.0 in
     let long = length-map j.files.items string_bytes in
     (omega (arith, few, long), b.1, b.2)
-
-pub files_built : (w : Options) (j : FileJob) → w ≡ options.Files j → is_built_work (asked w) ≡ true → is_built j.command ≡ true
-files_built w j is built = subst (λ (x : Options). is_built_work (asked x) ≡ true) is built
 
 pub files_answer : (w : Options) (j : FileJob) (reads : List (Option (Vec ℕ Global))) (answer : FileAnswer) → w ≡ options.Files j → AnswersAll (job j) reads answer → AnswersWork (asked w) reads answer
 files_answer w j reads answer is all =
@@ -43,8 +39,12 @@ pub trial_work : (w : Options) (number size workers : ℕ) (reads : List (Option
     → ((k : ℕ) (held : List ℕ → List ℕ) → SettlesWork (Trial number size k) held answer.text.items answer.refused) → AnswersWork (asked w) reads answer
 trial_work w number size workers reads answer is settles = subst (λ (x : Options). AnswersWork (asked x) reads answer) (sym is) (λ held whole. settles workers held)
 
-pub trial_bounded : (w : Options) (number size workers : ℕ) → w ≡ options.Trial number size workers → IsBounded (asked w) → size ≤ 100000
+pub trial_bounded : (w : Options) (number size workers : ℕ) → w ≡ options.Trial number size workers → IsBounded (asked w) → (size ≤ 100000) × (1 ≤ workers) × (workers ≤ 16)
 trial_bounded w number size workers is bounded = subst (λ (x : Options). IsBounded (asked x)) is bounded
 
-pub churn_unbuilt : (w : Options) (number size workers : ℕ) → w ≡ options.Churn number size workers → is_built_work (asked w) ≡ true → ⊥
-churn_unbuilt w number size workers is built = let e = subst (λ (x : Options). is_built_work (asked x) ≡ true) is built in absurd (cc)
+pub churn_work : (w : Options) (number size workers : ℕ) (reads : List (Option (Vec ℕ Global))) (answer : FileAnswer) → w ≡ options.Churn number size workers
+    → ((by : ℕ) (held : List ℕ → List ℕ) → SettlesWork (Churn number size by) held answer.text.items answer.refused) → AnswersWork (asked w) reads answer
+churn_work w number size workers reads answer is settles = subst (λ (x : Options). AnswersWork (asked x) reads answer) (sym is) (λ held whole. settles workers held)
+
+pub churn_bounded : (w : Options) (number size workers : ℕ) → w ≡ options.Churn number size workers → IsBounded (asked w) → (size ≤ 100000) × (1 ≤ workers) × (workers ≤ 16)
+churn_bounded w number size workers is bounded = subst (λ (x : Options). IsBounded (asked x)) is bounded

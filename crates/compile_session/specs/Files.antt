@@ -1,12 +1,12 @@
 -- How a command ends, and what it answers for all its files.
-use Rattle.std.specs.Prelude.{◌≡◌, ℕ, ◌^◌, ◌≤◌, Bool, true, false, List, length, Vec, Option}
+use Rattle.std.specs.Prelude.{◌≡◌, ℕ, ◌^◌, ◌≤◌, Bool, true, false, List, length, Vec, Option, Some, None}
 use Rattle.std.specs.declared.alloc.Global.{Global}
 use Rattle.session_outside.specs.Loops.{AreWholeBehind}
 use Rattle.session_words.specs.Asked.{Job, Asked, Files, Trial, Churn}
 use Rattle.session_specs.specs.Answer.{IsAnswerTo, IsOfFiles, most_bytes}
 use Rattle.session_specs.specs.Compiled.{CompilesAsked, compiles_none}
 use Rattle.compile_session.specs.declared.answer.FileAnswer.{FileAnswer}
-use Rattle.compile_session.specs.Built.{files_of}
+use Rattle.compile_session.specs.Work.{files_of}
 use Rattle.compile_session.specs.declared.status.Status.{Status}
 use Rattle.compile_session.specs.declared.status.Status.TheVariants as status
 
@@ -50,19 +50,34 @@ pub record SettlesWork (asked : Asked) (held : List ℕ → List ℕ) (text : Li
 abbrev pub AnswersWork : Asked → List (Option (Vec ℕ Global)) → FileAnswer → Type 0
 AnswersWork asked reads answer = (held : List ℕ → List ℕ) → AreWholeBehind most_bytes held 0 (files_of asked) reads → SettlesWork asked held answer.text.items answer.refused
 
--- n functions were compiled for what is asked, by what was read of its files: as many as whatever files were read so show
--- compiled, and none where none are whatever the files hold. They are at most 2^38.
+-- whether each function that is shown is compiled once for what is asked: `churn` compiles functions again and again
+abbrev pub compiles_once : Asked → Bool
+compiles_once (Files j) = true
+compiles_once (Trial number size workers) = true
+compiles_once (Churn number size workers) = false
+
+-- whether each function that is shown is compiled once for these words, which may ask for nothing
+abbrev pub words_compile_once : Option Asked → Bool
+words_compile_once None = true
+words_compile_once (Some a) = compiles_once a
+
+-- n functions were compiled for what is asked, by what was read of its files: where each is compiled once, as many as whatever
+-- files were read so show compiled, and none where none are whatever the files hold. They are at most 2^40.
 pub record CountsWork (asked : Asked) (reads : List (Option (Vec ℕ Global))) (count : ℕ) : Type 0 where
-  pub is : (held : List ℕ → List ℕ) → AreWholeBehind most_bytes held 0 (files_of asked) reads → CompilesAsked asked held count
-  pub few : count ≤ 2 ^ 38
+  pub is : compiles_once asked ≡ true → (held : List ℕ → List ℕ) → AreWholeBehind most_bytes held 0 (files_of asked) reads → CompilesAsked asked held count
+  pub few : count ≤ 2 ^ 40
   pub none : compiles_none asked ≡ true → count ≡ 0
 
 -- the same of a generated text, whatever else is asked
 abbrev pub CountsTrial : (number size : ℕ) → ℕ → Type 0
 CountsTrial number size count = (workers : ℕ) (reads : List (Option (Vec ℕ Global))) → CountsWork (Trial number size workers) reads count
 
+-- of a text whose functions are compiled again and again no more is said than that the count is small
+abbrev pub CountsChurn : ℕ → Type 0
+CountsChurn count = count ≤ 2 ^ 40
+
 -- what words may ask for is no more than this
 abbrev pub IsBounded : Asked → Type 0
 IsBounded (Files j) = (length j.files ≤ 64) × (1 ≤ j.workers) × (j.workers ≤ 16)
-IsBounded (Trial number size workers) = size ≤ 100000
-IsBounded (Churn number size workers) = size ≤ 100000
+IsBounded (Trial number size workers) = (size ≤ 100000) × (1 ≤ workers) × (workers ≤ 16)
+IsBounded (Churn number size workers) = (size ≤ 100000) × (1 ≤ workers) × (workers ≤ 16)

@@ -1,9 +1,9 @@
 pub mod Alike
 pub mod Answers
-pub mod Built
 pub mod Faulty
 pub mod Files
 pub mod Listed
 pub mod Orders
 pub mod Statuses
 pub mod Workers
+pub mod Work

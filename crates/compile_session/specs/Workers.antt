@@ -1,5 +1,5 @@
 -- The files of a command, each answered by itself: by which worker, and after which others, is of no matter.
-use Rattle.std.specs.Prelude.{◌≡◌, ℕ, ◌^◌, ◌≤◌, ◌<◌, true, List, length, Option, Some, Vec, slice_get}
+use Rattle.std.specs.Prelude.{◌≡◌, ℕ, ◌^◌, ◌≤◌, ◌<◌, List, length, Option, Some, Vec, slice_get}
 use Rattle.std.specs.declared.alloc.Global.{Global}
 use Rattle.session_outside.specs.Loops.{HaveAtMost}
 use Rattle.session_words.specs.declared.options.FileJob.{FileJob}
@@ -7,11 +7,9 @@ use Rattle.session_words.specs.Asked.{Job}
 use Rattle.session_specs.specs.Answer.{most_bytes}
 use Rattle.compile_session.specs.declared.answer.FileAnswer.{FileAnswer}
 use Rattle.compile_session.specs.Answers.{CountsRead, SettlesRead}
-use Rattle.compile_session.specs.Built.{is_built}
 
--- the command is built, and n of its files were read, none of more bytes than there may be
+-- n files of the command were read, none of more bytes than there may be
 pub record CanBeAnswered (job : FileJob) (reads : List (Option (Vec ℕ Global))) (count : ℕ) : Type 0 where
-  pub built : is_built job.command ≡ true
   pub within : HaveAtMost most_bytes reads
   pub named : count ≤ length job.files.items
   pub read : count ≤ length reads

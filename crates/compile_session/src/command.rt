@@ -10,8 +10,8 @@ ghost use Rattle.session_specs.specs.Answer.{IsAnswer, most_bytes};
 ghost use Rattle.session_specs.specs.Compiled.{ShowsCompiled, words_compile_none};
 ghost use Rattle.compile_tally.specs.Tally.{Rises};
 ghost use Rattle.compile_session.specs.Alike.{AskAlike};
-ghost use Rattle.compile_session.specs.Built.{built_of, names_of};
-ghost use Rattle.compile_session.specs.Files.{IsBefore, IsWhole, status_of};
+ghost use Rattle.compile_session.specs.Work.{names_of};
+ghost use Rattle.compile_session.specs.Files.{IsBefore, IsWhole, status_of, words_compile_once};
 
 use crate::file::MOST_BYTES;
 use crate::status::Status;
@@ -52,33 +52,34 @@ pub fn run<R: Threads + Wait + Sync, L: Shelf, K: Sink, G: Gate, T: Tally>(
     ensures nothing { IsBefore result → K.taken sink.new ≡ K.taken sink.old }
 
     // When each status comes.
-    ensures bad_words { result ≡ Status.BadWords → built_of (map string_bytes words.now) ≡ None }
-    ensures bad_words_only { built_of (map string_bytes words.now) ≡ None → (result ≡ Status.BadWords) ⊎ (result ≡ Status.NoMemory) }
+    ensures bad_words { result ≡ Status.BadWords → asked_of (map string_bytes words.now) ≡ None }
+    ensures bad_words_only { asked_of (map string_bytes words.now) ≡ None → (result ≡ Status.BadWords) ⊎ (result ≡ Status.NoMemory) }
     ensures read_fault { result ≡ Status.ReadFault → L.faults shelf.old < L.faults shelf.new }
     ensures read_fault_only { L.faults shelf.old < L.faults shelf.new → result ≡ Status.ReadFault }
     ensures write_fault { result ≡ Status.WriteFault → K.faults sink.old < K.faults sink.new }
     ensures write_fault_only { K.faults sink.old < K.faults sink.new → result ≡ Status.WriteFault }
-    ensures complete { built_of (map string_bytes words.now) ≢ None → L.faults shelf.new ≡ L.faults shelf.old →
+    ensures complete { asked_of (map string_bytes words.now) ≢ None → L.faults shelf.new ≡ L.faults shelf.old →
         K.faults sink.new ≡ K.faults sink.old → IsWhole result ⊎ (result ≡ Status.NoMemory) }
 
     // The names that the shelf was turned to: whatever the status is, some from the first on, none after the first with which the
     // files are too long; where all was done, all of these. And what stays.
-    ensures names { TurnsToFront (L.turned shelf.old) (L.turned shelf.new) (names_of (built_of (map string_bytes words.now))) }
+    ensures names { TurnsToFront (L.turned shelf.old) (L.turned shelf.new) (names_of (asked_of (map string_bytes words.now))) }
     ensures opened { (held : List ℕ → List ℕ) → L.held shelf.old ≡ Some held →
-        TurnsToFront (L.turned shelf.old) (L.turned shelf.new) (opened_within most_bytes held 0 (names_of (built_of (map string_bytes words.now)))) }
+        TurnsToFront (L.turned shelf.old) (L.turned shelf.new) (opened_within most_bytes held 0 (names_of (asked_of (map string_bytes words.now)))) }
     ensures all_names { (held : List ℕ → List ℕ) → L.held shelf.old ≡ Some held → IsWhole result →
-        L.turned shelf.new ≡ L.turned shelf.old ++ opened_within most_bytes held 0 (names_of (built_of (map string_bytes words.now))) }
+        L.turned shelf.new ≡ L.turned shelf.old ++ opened_within most_bytes held 0 (names_of (asked_of (map string_bytes words.now))) }
     ensures unread { result ≡ Status.BadWords → L.turned shelf.new ≡ L.turned shelf.old }
     ensures same { L.held shelf.new ≡ L.held shelf.old }
 
     // What is counted on the tally, whatever the status is: no more functions than the answer shows compiled, out of the room; where
-    // all was done, just n. None where none is for these words, whatever the files hold.
+    // all was done, just these, but of `churn`, which compiles functions again and again, no more is said than that the count rises
+    // out of the room. None where none is for these words, whatever the files hold.
     ensures sum { T.count tally.new + T.room tally.new ≡ T.count tally.old + T.room tally.old }
     ensures rising { T.count tally.old ≤ T.count tally.new }
     ensures lazy { (held : List ℕ → List ℕ) → L.held shelf.old ≡ Some held → (compiled : ℕ) →
         ShowsCompiled (map string_bytes words.now) held compiled → T.count tally.new ≤ T.count tally.old + compiled }
     ensures counted { (held : List ℕ → List ℕ) → L.held shelf.old ≡ Some held → IsWhole result →
-        (compiled : ℕ) × ShowsCompiled (map string_bytes words.now) held compiled × (T.count tally.new ≡ T.count tally.old + compiled) }
+        words_compile_once (asked_of (map string_bytes words.now)) ≡ true → (compiled : ℕ) × ShowsCompiled (map string_bytes words.now) held compiled × (T.count tally.new ≡ T.count tally.old + compiled) }
     ensures counted_only { (held : List ℕ → List ℕ) → L.held shelf.old ≡ Some held → IsWhole result → (compiled : ℕ) →
         ShowsCompiled (map string_bytes words.now) held compiled → T.count tally.new ≡ T.count tally.old + compiled }
     ensures idle { words_compile_none (asked_of (map string_bytes words.now)) ≡ true → T.count tally.new ≡ T.count tally.old }

@@ -1,10 +1,9 @@
 //! What is printed for one file.
 
-ghost use Rattle.std.specs.Prelude.{◌≡◌, ◌<◌, ◌^◌, true, IfOk};
+ghost use Rattle.std.specs.Prelude.{◌≡◌, ◌<◌, ◌^◌, IfOk};
 ghost use Rattle.session_outside.specs.Loops.{HasAtMost};
 ghost use Rattle.session_specs.specs.Answer.{most_bytes};
 ghost use Rattle.session_words.specs.Asked as asked;
-ghost use Rattle.compile_session.specs.Built.{is_built};
 ghost use Rattle.compile_session.specs.Answers.{CountsRead, SettlesRead};
 
 use crate::answer::{FileAnswer, refused};
@@ -24,7 +23,6 @@ pub(crate) fn answer_of(
     name: &str,
     bytes: &Option<Vec<u8>>,
 ) -> Result<FileAnswer, AllocError>
-    requires built { is_built job.now.command ≡ true }
     requires within { HasAtMost most_bytes bytes.now }
     ensures settles { IfOk result (SettlesRead (asked.job job.now) name.now bytes.now) }
     ensures few { IfOk result (λ answer. answer.compiled < 2 ^ 32) }

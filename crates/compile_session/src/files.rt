@@ -1,10 +1,9 @@
 //! What is printed for all files of a command.
 
-ghost use Rattle.std.specs.Prelude.{◌≡◌, ◌≤◌, true, length, IfOk};
+ghost use Rattle.std.specs.Prelude.{◌≡◌, ◌≤◌, length, IfOk};
 ghost use Rattle.session_outside.specs.Loops.{HaveAtMost};
 ghost use Rattle.session_specs.specs.Answer.{most_bytes};
 ghost use Rattle.session_words.specs.Asked as asked;
-ghost use Rattle.compile_session.specs.Built.{is_built};
 ghost use Rattle.compile_session.specs.Files.{AnswersAll, CountsWork};
 
 use crate::answer::FileAnswer;
@@ -24,7 +23,6 @@ pub(crate) fn answers_of<R: Threads + Wait + Sync, G: Gate>(
     reads: &[Option<Vec<u8>>],
     gate: &G,
 ) -> Result<FileAnswer, AllocError>
-    requires built { is_built job.now.command ≡ true }
     requires within { HaveAtMost most_bytes reads.now }
     requires files { length job.now.files.items ≤ 64 }
     requires workers { (1 ≤ job.now.workers) × (job.now.workers ≤ 16) }

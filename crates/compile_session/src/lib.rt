@@ -5,22 +5,24 @@
 //! file without trees, by the handler that it is given here. Commands that show scripts stand on `compile_initial`, which
 //! makes of it what the script is before any of its functions is compiled, on `compile_shown`, which compiles those functions that
 //! are wanted and those around them, each from its own text, on `compile_tally`, on which these are counted, on `script_image`, which
-//! lists what is shown, and on `stencil_xdr_write`, which writes its image; those over images on `session_images`, and that over
-//! generated texts on `session_trial`. Its answer is that of the definitions of `session_specs`. Only the program stands on it.
+//! lists what is shown, and on `stencil_xdr_write`, which writes its image; those over images on `session_images`, that over
+//! generated texts on `session_trial`, and that which compiles functions again and again on `session_churn`. Its answer is that of the definitions of `session_specs`. Only the program stands on it.
 //!
 //! `work` says what words ask for. `source`, `listing` and `printing` are the steps of the way of one file of source text, `image`
-//! is that of an image, `file_order`, `workers` and `files` those of all files of a command, and `trial` that of a generated
-//! text, each with the definition that it meets in specs/.
+//! is that of an image, `file_order`, `workers` and `files` those of all files of a command, and `generated`, `trial`
+//! and `churn` those of generated texts, each with the definition that it meets in specs/.
 //!
 //! The main contract is that of `run`: where all was done, the sink has taken the bytes of the definition's answer to the words
 //! and the files, and no others, whatever the number of workers and their schedule; each status comes exactly with its cause.
 #![tactic(auto)]
 
 mod answer;
+mod churn;
 mod command;
 mod file;
 mod file_order;
 mod files;
+mod generated;
 mod image;
 mod lines;
 mod listing;

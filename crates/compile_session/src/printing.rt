@@ -5,7 +5,7 @@ ghost use Rattle.bytecode_buf.specs.InRange.{TextsSmall};
 ghost use Rattle.session_specs.specs.Answer.{most_bytes};
 ghost use Rattle.session_specs.specs.Compiled.{CompilesOf, shows_scripts};
 ghost use Rattle.session_words.specs.Asked as asked;
-ghost use Rattle.compile_session.specs.Built.{is_source};
+ghost use Rattle.compile_session.specs.Work.{is_source};
 ghost use Rattle.compile_session.specs.Answers.{IsAnswerFor, IsScriptOf};
 ghost use Rattle.compile_session.specs.Listed.{IsWrittenFor};
 

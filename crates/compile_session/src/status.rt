@@ -9,7 +9,7 @@ pub enum Status {
     Done = 0,
     /// Some file is refused, and all was written.
     Refused = 1,
-    /// The words ask for nothing that is built; nothing was read or written.
+    /// The words have none of the forms; nothing was read or written.
     BadWords = 2,
     /// The shelf failed; nothing was written.
     ReadFault = 3,

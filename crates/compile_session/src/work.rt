@@ -1,55 +1,31 @@
 //! What the words of a command ask for, and what is printed for it.
 
-ghost use Rattle.std.specs.Prelude.{◌≡◌, true, map, IfOk};
+ghost use Rattle.std.specs.Prelude.{◌≡◌, map, IfOk};
 ghost use Rattle.std.specs.String.{string_bytes};
 ghost use Rattle.session_outside.specs.Loops.{HaveAtMost};
 ghost use Rattle.session_specs.specs.Answer.{most_bytes};
 ghost use Rattle.session_words.specs.Asked.{asked};
-ghost use Rattle.compile_session.specs.Built as definition;
-ghost use Rattle.compile_session.specs.Built.{IsWorkOf, is_built_work};
+ghost use Rattle.compile_session.specs.Work as definition;
+ghost use Rattle.compile_session.specs.Work.{IsWorkOf};
 ghost use Rattle.compile_session.specs.Files.{AnswersWork, CountsWork, IsBounded};
 
 use crate::answer::FileAnswer;
+use crate::churn::churn_answer;
 use crate::files::answers_of;
 use crate::status::Status;
 use crate::trial::trial_answer;
 use helper_tasks::Gate;
-use session_words::{Command, Options, WordsFault, read_words};
+use session_words::{Options, WordsFault, read_words};
 use std::alloc::{AllocError, Global};
 use std::sync::Wait;
 use std::thread::Threads;
 
-fn is_built(command: Command) -> bool
-    ensures { result ≡ definition.is_built command }
-{
-    match command {
-        Command::Code | Command::Scopes | Command::Check | Command::Save => true,
-        Command::Load | Command::Verify => true,
-    }
-}
-
-fn is_built_work(work: &Options) -> bool
-    ensures { result ≡ is_built_work (asked work.now) }
-{
-    match work {
-        Options::Files(job) => is_built(job.command),
-        Options::Trial { .. } => true,
-        Options::Churn { .. } => false,
-    }
-}
-
-/// What the words ask for, where it is built.
+/// What the words ask for.
 pub(crate) fn work_of(alloc: Global, words: &[String]) -> Result<Options, Status>
     ensures { IsWorkOf (map string_bytes words.now) result }
 {
     match read_words(alloc, words) {
-        Ok(work) => {
-            if is_built_work(&work) {
-                Ok(work)
-            } else {
-                Err(Status::BadWords)
-            }
-        }
+        Ok(work) => Ok(work),
         Err(WordsFault::BadWords) => Err(Status::BadWords),
         Err(WordsFault::NoMemory) => Err(Status::NoMemory),
     }
@@ -73,7 +49,6 @@ pub(crate) fn answer_to<R: Threads + Wait + Sync, G: Gate>(
     reads: &[Option<Vec<u8>>],
     gate: &G,
 ) -> Result<FileAnswer, AllocError>
-    requires built { is_built_work (asked work.now) ≡ true }
     requires within { HaveAtMost most_bytes reads.now }
     requires bounded { IsBounded (asked work.now) }
     ensures settles { IfOk result (AnswersWork (asked work.now) reads.now) }
@@ -92,6 +67,13 @@ pub(crate) fn answer_to<R: Threads + Wait + Sync, G: Gate>(
             let answer = trial_answer(alloc, *number, *size)?;
             Ok(answer)
         }
-        Options::Churn { .. } => unreachable!(),
+        Options::Churn {
+            number,
+            size,
+            workers,
+        } => {
+            let answer = churn_answer(rt, alloc, *number, *size, *workers, gate)?;
+            Ok(answer)
+        }
     }
 }

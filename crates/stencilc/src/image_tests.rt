@@ -80,3 +80,17 @@ fn compiles_a_generated_text(rt: HostRuntime) -> Result<(), Fail> {
     assert!(rt; same);
     Ok(())
 }
+
+#[test]
+fn compiles_a_generated_text_again_and_again(rt: HostRuntime) -> Result<(), Fail> {
+    let alloc = rt.alloc();
+    let line: &[u8] = b"churn 1 2: 2 functions, 16 instructions\n";
+    for workers in ["1", "2", "16"] {
+        let files = file(alloc, "a.js", b"")?;
+        let words = ["churn", "1", "2", "--workers", workers];
+        let (status, same) = prints(&rt, alloc, &words, files, line)?;
+        assert!(rt; status == Status::Done);
+        assert!(rt; same);
+    }
+    Ok(())
+}

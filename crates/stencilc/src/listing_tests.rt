@@ -305,7 +305,7 @@ fn opens_no_file_behind_a_long_one(rt: HostRuntime) -> Result<(), Fail> {
 fn knows_no_other_command(rt: HostRuntime) -> Result<(), Fail> {
     let alloc = rt.alloc();
     let files = file(alloc, "a.js", SUM)?;
-    let (status, nothing) = prints(&rt, alloc, &["churn", "1", "2"], files, b"")?;
+    let (status, nothing) = prints(&rt, alloc, &["compile", "a.js"], files, b"")?;
     assert!(rt; status == Status::BadWords);
     assert!(rt; nothing);
     Ok(())

@@ -1,12 +1,12 @@
-use Rattle.std.proofs.Common.{◌≤◌, ◌++◌, map, ap, ◌∙◌, refl, sym, arith, subst, List, length}
-use Rattle.std.specs.String.{string_bytes}
+use Rattle.std.proofs.Common.{List, ap, arith, length, map, refl, subst, sym, ◌++◌, ◌∙◌, ◌≤◌}
 use Rattle.std.proofs.lemmas.Option.{slice_get_read}
-use Rattle.session_words.specs.Asked as asked
-use Rattle.compile_session.specs.declared.answer.FileAnswer.{FileAnswer}
+use Rattle.std.specs.String.{string_bytes}
+use Rattle.compile_session.proofs.CountingLemmas.{counted_end, counted_more, counting_start}
+use Rattle.compile_session.proofs.FilesLemmas.{answered_end, answered_more, answering_start, few_at, or_first, or_second}
+use Rattle.compile_session.proofs.files.answers_of.Goals.{else-refused, then-refused}
 use Rattle.compile_session.specs.Workers.{SettleFiles}
-use Rattle.compile_session.proofs.CountingLemmas.{counting_start, counted_more, counted_end}
-use Rattle.compile_session.proofs.FilesLemmas.{answering_start, answered_more, answered_end, few_at, or_first, or_second}
-use Rattle.compile_session.proofs.files.answers_of.Goals.{then-refused, else-refused}
+use Rattle.compile_session.specs.declared.answer.FileAnswer.{FileAnswer}
+use Rattle.session_words.specs.Asked as asked
 use Rattle.compile_session.proofs.files.answers_of.Goals as goal
 
 pub file_answers-requires-clause-can : goal.file_answers-requires-clause-can
@@ -14,7 +14,7 @@ file_answers-requires-clause-can g c = λ κs within.
     let least = c.min-count.ensures in
     let files = c.len.ensures in
     let long = c.args.job.now.files.ok.0 in
-    record { built = c.requires.built; within = c.requires.within; named = omega (arith, least, files, long); read = omega (arith, least) }
+    record { within = c.requires.within; named = omega (arith, least, files, long); read = omega (arith, least) }
 
 pub loop-answer-init : goal.loop-answer-init
 loop-answer-init g c = (answering_start (asked.job c.args.job.now) (map string_bytes c.args.job.now.files.items) c.args.reads.now c.new-text.result.items c.new-text.ensures.items, counting_start (asked.job c.args.job.now) (map string_bytes c.args.job.now.files.items) c.args.reads.now)

@@ -1,7 +1,7 @@
-use Rattle.std.proofs.Common.{codes}
 use Rattle.std.specs.Fmt.{decimal}
+use Rattle.std.specs.Prelude.{codes}
 use Rattle.compile_session.proofs.TrialLemmas.{appended_four}
-use Rattle.compile_session.proofs.trial.append_counts.Goals as goal
+use Rattle.compile_session.proofs.generated.append_counts.Goals as goal
 
 pub returns : goal.returns
 returns c =

@@ -1,10 +1,10 @@
 use Rattle.std.proofs.Common.{subst}
-use Rattle.session_words.specs.Asked as asked
-use Rattle.compile_session.specs.declared.source.SourceText.{SourceText}
-use Rattle.compile_session.specs.Answers.{IsSourceText}
 use Rattle.compile_session.proofs.FileLemmas.{script_is}
 use Rattle.compile_session.proofs.TrialLemmas.{not_refused}
-use Rattle.compile_session.proofs.trial.script_in.Goals as goal
+use Rattle.compile_session.specs.Answers.{IsSourceText}
+use Rattle.compile_session.specs.declared.source.SourceText.{SourceText}
+use Rattle.session_words.specs.Asked as asked
+use Rattle.compile_session.proofs.generated.script_in.Goals as goal
 
 pub unreachable-requires : goal.unreachable-requires
 unreachable-requires c =

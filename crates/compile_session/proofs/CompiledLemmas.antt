@@ -1,35 +1,35 @@
 -- How many functions are shown compiled: as many as are counted while the functions of a script are compiled, and that is one number.
-use Rattle.std.proofs.Common.{◌≡◌, ℕ, suc, ◌+◌, inl, inr, Bool, true, false, ◌&&◌, ◌||◌, cond, List, [], ◌∷◌, ◌++◌, length, map, filter, Some, None, Option, refl, sym, ◌∙◌, ap, ap₂, subst, arith, append_assoc, le-leb}
-use Rattle.std.specs.Prelude.{if◌then◌else◌}
-use Rattle.std.specs.List.{list_any}
+use Rattle.std.proofs.Common.{Bool, List, None, Option, Some, [], ap, append_assoc, ap₂, arith, cond, false, filter, inl, inr, le-leb, length, map, refl, subst, suc, sym, true, ℕ, ◌&&◌, ◌++◌, ◌+◌, ◌||◌, ◌∙◌, ◌∷◌, ◌≡◌}
 use Rattle.std.proofs.lemmas.List.{length-map}
 use Rattle.std.proofs.lemmas.List.Folds.{list_any-append}
-use Rattle.script_grammar.specs.Tree.{Stmts}
-use Rattle.stencil_data.specs.declared.functions.Extent.{Extent}
-use Rattle.stencil_data.specs.Named.{NamedFunction, NamedInitial, NamedMerged}
+use Rattle.std.specs.List.{list_any}
+use Rattle.std.specs.Prelude.{if◌then◌else◌}
 use Rattle.bytecode_buf.specs.Command.{Command}
-use Rattle.parse_track.specs.Notes.{closed_names}
-use Rattle.emit_limit_laws.proofs.SiteCounts.{functions_counted}
-use Rattle.compile_specs.specs.Counted.{HasFunctions}
-use Rattle.compile_specs.specs.Eager.{Site, IsEager, compiled_at}
-use Rattle.compile_specs.specs.Shown.{IsShown, shown, entry, is_shown, is_within, wants, number_of, extents_of, starts_of}
-use Rattle.compile_specs.specs.Shown as show
-use Rattle.compile_specs.proofs.Counts.{one_count}
-use Rattle.compile_first_pass.specs.declared.pass.SyntaxScript.{SyntaxScript}
 use Rattle.compile_first_pass.specs.Passes.{IsSyntaxOf}
-use Rattle.compile_initial.specs.declared.InitialStencil.{InitialStencil}
+use Rattle.compile_first_pass.specs.declared.pass.SyntaxScript.{SyntaxScript}
 use Rattle.compile_initial.specs.Initial.{IsInitialOf}
+use Rattle.compile_initial.specs.declared.InitialStencil.{InitialStencil}
+use Rattle.compile_session.proofs.SourceLemmas.{one_shown, same_valid, sources_equal}
+use Rattle.compile_shown.proofs.Flags.{same_extents}
 use Rattle.compile_shown.specs.Counting.{shown_count}
 use Rattle.compile_shown.specs.Shown.{shown_in}
-use Rattle.compile_shown.proofs.Steps.{same_extents}
-use Rattle.session_trial.specs.Generated.{generated}
-use Rattle.session_words.specs.declared.options.Command.{Command as Word}
-use Rattle.session_words.specs.Asked.{Wanted, Job, Asked, Files, Trial, Churn}
-use Rattle.session_words.specs.Asked as asked
+use Rattle.compile_specs.proofs.Counts.{one_count}
+use Rattle.compile_specs.specs.Counted.{HasFunctions}
+use Rattle.compile_specs.specs.Eager.{IsEager, Site, compiled_at}
+use Rattle.compile_specs.specs.Shown.{IsShown, entry, extents_of, is_shown, is_within, number_of, shown, starts_of, wants}
+use Rattle.emit_limit_laws.proofs.SiteCounts.{functions_counted}
+use Rattle.parse_track.specs.Notes.{closed_names}
+use Rattle.script_grammar.specs.Tree.{Stmts}
 use Rattle.session_specs.specs.Answer.{to_show}
-use Rattle.session_specs.specs.Sources.{Source, IsScript, IsRefused}
-use Rattle.session_specs.specs.Compiled.{compiled_among, Compiles, shows_scripts, CompilesSource, CompilesOf, CompilesFile, CompilesFiles, CompilesAsked, ShowsCompiled, wants_none, compiles_none}
-use Rattle.compile_session.proofs.SourceLemmas.{one_shown, sources_equal, same_valid}
+use Rattle.session_specs.specs.Compiled.{Compiles, CompilesAsked, CompilesFile, CompilesFiles, CompilesOf, CompilesSource, ShowsCompiled, compiled_among, compiles_none, shows_scripts, wants_none}
+use Rattle.session_specs.specs.Sources.{IsRefused, IsScript, Source}
+use Rattle.session_trial.specs.Generated.{generated}
+use Rattle.session_words.specs.Asked.{Asked, Churn, Files, Trial, Wanted, job}
+use Rattle.session_words.specs.declared.options.Command.{Command as Word}
+use Rattle.stencil_data.specs.Named.{NamedFunction, NamedInitial, NamedMerged}
+use Rattle.stencil_data.specs.declared.functions.Extent.{Extent}
+use Rattle.session_words.specs.Asked as asked
+use Rattle.compile_specs.specs.Shown as show
 
 -- ---- those that are shown
 
@@ -48,7 +48,7 @@ shown_counted : (want : show.Wanted) (items : Stmts) (end : ℕ) (merged : Named
 shown_counted want items end merged is = ap (λ (m : NamedMerged (List Command)). compiled_among m.entries) is.3 ∙ entries_counted want (extents_of is.1) (starts_of is.1) is.1
 
 -- what was counted while the functions of a script were compiled
-shown_compiles : (want : Wanted) (bytes : List ℕ) (made : InitialStencil) (is : IsInitialOf bytes made) (count : ℕ) → count ≡ shown_in (to_show want) made → Compiles want is.items (length bytes) count
+pub shown_compiles : (want : Wanted) (bytes : List ℕ) (made : InitialStencil) (is : IsInitialOf bytes made) (count : ℕ) → count ≡ shown_in (to_show want) made → Compiles want is.items (length bytes) count
 shown_compiles want bytes made is count counted =
     let top : NamedFunction (List Command) = is.named.top in
     let fs : List (NamedFunction (List Command)) = map (λ (s : Site). (compiled_at s).part) is.all in (

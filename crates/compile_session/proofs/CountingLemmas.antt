@@ -5,6 +5,7 @@ use Rattle.std.proofs.lemmas.Option.{slice_get-get_or, slice_get_within}
 use Rattle.std.specs.Prelude.{slice_get}
 use Rattle.std.specs.String.{string_bytes}
 use Rattle.std.specs.declared.alloc.Global.{Global}
+use native.Mathlib.Nat.{mul-le-mul}
 use Rattle.compile_session.proofs.FilesLemmas.{drop_all, drop_more, read_at, same_length, total, total_more}
 use Rattle.compile_session.specs.Answers.{CountsRead}
 use Rattle.compile_session.specs.Files.{CountsWork}
@@ -22,7 +23,7 @@ pub record IsCounting (j : Job) (names : List (List ℕ)) (reads : List (Option 
   pub later : (held : List ℕ → List ℕ) → AreWholeBehind most_bytes held 0 names reads → (more : ℕ)
       → CompilesFiles j.command j.want held (total held 0 (take index names)) (drop index names) more → CompilesFiles j.command j.want held 0 names (count + more)
   pub within : index ≤ length names
-  pub few : count ≤ index * 2 ^ 32
+  pub few : count ≤ index * 2 ^ 24
   pub none : compiles_none (Files j) ≡ true → count ≡ 0
 
 -- the same number
@@ -41,7 +42,7 @@ counting_start j names reads = record {
 
 -- one more file is counted
 counting_more : (j : Job) (names : List (List ℕ)) (reads : List (Option (Vec ℕ Global))) (index count new one : ℕ) (d : List ℕ) (e : Option (Vec ℕ Global))
-    → index < length names → index < length reads → CountsRead j (get_or reads index e) one → one < 2 ^ 32 → new ≡ count + one → IsCounting j names reads index count → IsCounting j names reads (suc index) new
+    → index < length names → index < length reads → CountsRead j (get_or reads index e) one → one < 2 ^ 24 → new ≡ count + one → IsCounting j names reads index count → IsCounting j names reads (suc index) new
 counting_more j names reads index count new one d e h k c low grown at = record {
   later = λ held whole more rest.
       let b : ℕ = total held 0 (take index names) in
@@ -72,7 +73,7 @@ counting_end j names reads index count beyond at held whole =
 -- the answer for one of them
 counts_at : (j : FileJob) (reads : List (Option (Vec ℕ Global))) (count index : ℕ) (answers : List FileAnswer) (answer : FileAnswer)
     → SettleFiles (job j) reads count answers → count ≤ length j.files.items → count ≤ length reads → slice_get answers index ≡ Some answer
-    → (index < length (map string_bytes j.files.items)) × (index < length reads) × CountsRead (job j) (get_or reads index None) answer.compiled × (answer.compiled < 2 ^ 32)
+    → (index < length (map string_bytes j.files.items)) × (index < length reads) × CountsRead (job j) (get_or reads index None) answer.compiled × (answer.compiled < 2 ^ 24)
 counts_at j reads count index answers answer all named are_read is =
     let names : List (List ℕ) = map string_bytes j.files.items in
     let long : length names ≡ length j.files.items = length-map j.files.items string_bytes in
@@ -105,3 +106,7 @@ counted_end j reads count index compiled is past most at =
       few = let f = at.few in let w = at.within in omega (arith, f, w, long, most);
       none = at.none;
     }
+
+-- a product of numbers that are not above others
+pub times_most : (w n c m : ℕ) → w ≤ n → c ≤ m → w * c ≤ n * m
+times_most w n c m h k = mul-le-mul h k

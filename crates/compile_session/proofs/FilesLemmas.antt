@@ -1,18 +1,18 @@
 -- Many files: their answer is put together from those of each, and there is no other.
-use Rattle.std.proofs.Common.{◌≡◌, ℕ, zero, suc, ◌+◌, ◌^◌, ◌<◌, ◌≤◌, Bool, true, false, List, [], ◌∷◌, ◌++◌, length, min, Option, Vec, map, take, drop, get_or, refl, ap, sym, ◌∙◌, subst, append_assoc, append-nil, arith, Some, None}
-use Rattle.std.specs.Prelude.{◌||◌, slice_get}
+use Rattle.std.proofs.Common.{Bool, List, None, Option, Some, Vec, [], ap, append-nil, append_assoc, arith, drop, false, get_or, length, map, min, refl, subst, suc, sym, take, true, zero, ℕ, ◌++◌, ◌+◌, ◌<◌, ◌^◌, ◌∙◌, ◌∷◌, ◌≡◌, ◌≤◌}
+use Rattle.std.proofs.lemmas.List.{length-map}
+use Rattle.std.proofs.lemmas.Option.{slice_get-get_or, slice_get_within}
+use Rattle.std.specs.Prelude.{slice_get, ◌||◌}
 use Rattle.std.specs.String.{string_bytes}
 use Rattle.std.specs.declared.alloc.Global.{Global}
-use Rattle.std.proofs.lemmas.List.{length-map}
-use Rattle.std.proofs.lemmas.Option.{slice_get_within, slice_get-get_or}
-use Rattle.session_outside.specs.Loops.{HasAtMost, HaveAtMost, IsWholeBehind, AreWholeBehind}
-use Rattle.session_words.specs.declared.options.FileJob.{FileJob}
-use Rattle.session_words.specs.Asked.{Job, job}
-use Rattle.session_specs.specs.Answer.{most_bytes}
-use Rattle.compile_session.specs.declared.answer.FileAnswer.{FileAnswer}
 use Rattle.compile_session.specs.Answers.{Settles, SettlesRead}
 use Rattle.compile_session.specs.Files.{SettlesAll}
 use Rattle.compile_session.specs.Workers.{SettleFiles}
+use Rattle.compile_session.specs.declared.answer.FileAnswer.{FileAnswer}
+use Rattle.session_outside.specs.Loops.{AreWholeBehind, HasAtMost, HaveAtMost, IsWholeBehind}
+use Rattle.session_specs.specs.Answer.{most_bytes}
+use Rattle.session_words.specs.Asked.{Job, job}
+use Rattle.session_words.specs.declared.options.FileJob.{FileJob}
 
 or_assoc : (a b c : Bool) → ((a || b) || c) ≡ (a || (b || c))
 or_assoc true b c = refl
@@ -130,7 +130,7 @@ within_at most reads index read all h is = subst (λ (r : Option (Vec ℕ Global
     by (r ∷ rs) (suc i) a k = by rs i a.1 (omega (arith, k))
 
 -- one of the answers: the functions that were compiled for it can be counted in 32 bits
-pub few_at : (j : FileJob) (reads : List (Option (Vec ℕ Global))) (count index : ℕ) (answers : List FileAnswer) (answer : FileAnswer) → SettleFiles (job j) reads count answers → slice_get answers index ≡ Some answer → (index < count) × (answer.compiled < 2 ^ 32)
+pub few_at : (j : FileJob) (reads : List (Option (Vec ℕ Global))) (count index : ℕ) (answers : List FileAnswer) (answer : FileAnswer) → SettleFiles (job j) reads count answers → slice_get answers index ≡ Some answer → (index < count) × (answer.compiled < 2 ^ 24)
 few_at j reads count index answers answer all is =
     let inside = slice_get_within answers index answer is in
     let long = all.long in

@@ -1,5 +1,6 @@
 pub mod ChurnLemmas
 pub mod CompiledLemmas
+mod Crossing
 pub mod CountLemmas
 pub mod CountingLemmas
 pub mod FaultLemmas
@@ -9,8 +10,10 @@ pub mod ImageLemmas
 pub mod ListingLemmas
 pub mod OrderLemmas
 pub mod RunLemmas
+pub mod ShowingLemmas
 pub mod ShownLemmas
 pub mod SourceLemmas
+pub mod StartLemmas
 pub mod TrialLemmas
 pub mod WordLaws
 pub mod WorkLemmas

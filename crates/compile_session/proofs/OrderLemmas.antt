@@ -1,9 +1,8 @@
--- The order in which files are begun: an order that is put into another sequence is one still, and a sort by falling size is what it should be.
-use Rattle.std.proofs.Common.{◌≡◌, ℕ, zero, suc, ◌+◌, eqb, cond, List, [], ◌∷◌, ◌++◌, length, refl, sym, ap, ◌∙◌, arith}
-use Rattle.std.specs.Prelude.{sum_by, IsPermutation}
-use Rattle.std.specs.List.{range_with_len}
+-- The order in which files are begun: an order that is put into another sequence is one still.
+use Rattle.std.proofs.Common.{List, [], ap, cond, eqb, length, refl, sym, ℕ, ◌+◌, ◌∙◌, ◌∷◌, ◌≡◌}
+use Rattle.std.proofs.lemmas.List.Sorted.{length_permutation, sum_by-IsPermutation}
 use Rattle.std.proofs.lemmas.List.Sums.{sum_by-cons}
-use Rattle.std.proofs.lemmas.List.Sorted.{sum_by-IsPermutation, length_permutation}
+use Rattle.std.specs.Prelude.{IsPermutation, sum_by}
 use Rattle.helper_tasks.specs.Count.{times}
 use Rattle.helper_tasks.specs.Jobs.{IsOrderOf}
 
@@ -19,10 +18,3 @@ order_shuffled n before after moved order = (
 
 pub order_same : (n : ℕ) (before after : List ℕ) → after ≡ before → IsOrderOf n before → IsOrderOf n after
 order_same n before after same order = (ap length same ∙ order.0, λ x. ap (times x) same ∙ order.1 x)
-
--- one more number
-pub rising_more : (from count next : ℕ) → from + count ≡ next → range_with_len from (count + 1) ≡ range_with_len from count ++ next ∷ []
-rising_more from zero next is = ap (λ (n : ℕ). n ∷ []) (let e : from ≡ next = omega (arith, is) in e)
-rising_more from (suc n) next is =
-    let e : suc n + 1 ≡ suc (n + 1) = omega arith in
-    ap (range_with_len from) e ∙ ap (λ (xs : List ℕ). from ∷ xs) (rising_more (from + 1) n next (omega (arith, is)))

@@ -1,9 +1,11 @@
 -- The command: what the sink has taken is a front of the answer.
 use Rattle.std.proofs.Common.{Bool, List, None, Option, Some, Vec, [], ap, append-nil, arith, false, refl, subst, sym, true, ℕ, ◌++◌, ◌+◌, ◌∙◌, ◌∷◌, ◌≡◌, ◌≤◌}
+use Rattle.std.specs.Prelude.{◌*◌}
 use Rattle.std.specs.declared.alloc.Global.{Global}
 use Rattle.compile_session.proofs.CompiledLemmas.{one_number}
 use Rattle.compile_session.specs.Alike.{AskAlike, IsAlike}
-use Rattle.compile_session.specs.Files.{AnswersWork, CountsWork, SettlesWork, compiles_once, status_of, words_compile_once}
+use Rattle.compile_session.specs.Compiled.{IsCompiledBy, MayCompile, workers_of}
+use Rattle.compile_session.specs.Files.{AnswersWork, CountsWork, SettlesWork, compiles_once, status_of}
 use Rattle.compile_session.specs.Work.{files_of, names_of}
 use Rattle.compile_session.specs.declared.answer.FileAnswer.{FileAnswer}
 use Rattle.compile_session.specs.declared.status.Status.{Status}
@@ -13,7 +15,7 @@ use Rattle.session_outside.specs.Shelf.{TurnsToFront, opened}
 use Rattle.session_outside.specs.Sink.{Gains, GainsFront}
 use Rattle.session_specs.specs.Answer.{IsAnswer, IsAnswerTo, IsChurn, IsOfFiles, IsTrial, most_bytes}
 use Rattle.session_specs.specs.Compiled.{CompilesAsked, ShowsCompiled, words_compile_none}
-use Rattle.session_words.specs.Asked.{Asked, Churn, Files, Trial}
+use Rattle.session_words.specs.Asked.{Asked, Churn, Files, Trial, job}
 use Rattle.session_words.specs.Words.{asked_of}
 
 -- what is answered, where the shelf tells what it holds, by what the calls saw of the names and of what was read
@@ -143,13 +145,17 @@ once_by (Churn number size workers) held count h = absurd h
 pub once_shown : (words : List (List ℕ)) (a : Asked) (held : List ℕ → List ℕ) (count : ℕ) → asked_of words ≡ Some a → ShowsCompiled words held count → compiles_once a ≡ true
 once_shown words a held count asked shows = once_by a held count (subst (λ (x : Asked). CompilesAsked x held count) (some_same shows.asked a (sym shows.form ∙ asked)) shows.compiled)
 
--- so do words for which it is known
-pub once_asked : (words : List (List ℕ)) (a : Asked) → asked_of words ≡ Some a → words_compile_once (asked_of words) ≡ true → compiles_once a ≡ true
-once_asked words a asked once = subst (λ (o : Option Asked). words_compile_once o ≡ true) asked once
-
 -- as many as the answer to the words shows
 pub shows_compiled : (words : List (List ℕ)) (a : Asked) (held : List ℕ → List ℕ) (count : ℕ) → asked_of words ≡ Some a → CompilesAsked a held count → ShowsCompiled words held count
 shows_compiled words a held count asked c = record { asked = a; form = asked; compiled = c }
+
+-- the same of words that also ask for so many workers
+pub may_show : (words : List (List ℕ)) (held : List ℕ → List ℕ) (workers compiled : ℕ) → MayCompile words held workers compiled → ShowsCompiled words held compiled
+may_show words held workers compiled may = record { asked = may.asked; form = may.form; compiled = may.compiled }
+
+-- it is one number of workers
+same_workers : (words : List (List ℕ)) (a : Asked) (held : List ℕ → List ℕ) (workers compiled : ℕ) → asked_of words ≡ Some a → MayCompile words held workers compiled → workers ≡ workers_of a
+same_workers words a held workers compiled asked may = may.by ∙ ap workers_of (some_same may.asked a (sym may.form ∙ asked))
 
 module _ (before room now left count : ℕ) (rises : Rises before room now left count) where
   pub risen_sum : now + left ≡ before + room
@@ -158,16 +164,20 @@ module _ (before room now left count : ℕ) (rises : Rises before room now left 
   pub risen : before ≤ now
   risen = let c = rises.count in omega (arith, c)
 
-  module _ (words : List (List ℕ)) (held : List ℕ → List ℕ) (shows : ShowsCompiled words held count) (compiled : ℕ) (other : ShowsCompiled words held compiled) where
-    pub risen_only : now ≡ before + compiled
-    risen_only = let c = rises.count in let one = one_number words held count compiled shows other in omega (arith, c, one)
+  module _ (words : List (List ℕ)) (a : Asked) (shown : ℕ) (asked : asked_of words ≡ Some a) (by_workers : IsCompiledBy (workers_of a) shown count) where
+    module _ (held : List ℕ → List ℕ) (shows : ShowsCompiled words held shown) where
+      pub risen_most : (workers compiled : ℕ) → MayCompile words held workers compiled → now ≤ before + workers * compiled
+      risen_most workers compiled may =
+          let c = rises.count in
+          let one = one_number words held shown compiled shows (may_show words held workers compiled may) in
+          let by = same_workers words a held workers compiled asked may in
+          let most : count ≤ workers * compiled = subst (λ (n : ℕ). count ≤ workers * n) one (subst (λ (n : ℕ). count ≤ n * shown) (sym by) by_workers.most) in
+          omega (arith, c, most)
 
-    pub risen_most : now ≤ before + compiled
-    risen_most = let e = risen_only in omega (arith, e)
-
-  -- where none is compiled for these words
-  pub risen_none : (words : List (List ℕ)) (a : Asked) (reads : List (Option (Vec ℕ Global))) → asked_of words ≡ Some a → CountsWork a reads count → words_compile_none (asked_of words) ≡ true → now ≡ before
-  risen_none words a reads asked counts none =
-      let c = rises.count in
-      let zero = counts.none (subst (λ (o : Option Asked). words_compile_none o ≡ true) asked none) in
-      omega (arith, c, zero)
+    -- where none is compiled for these words
+    pub risen_none : (reads : List (Option (Vec ℕ Global))) → CountsWork a reads shown → words_compile_none (asked_of words) ≡ true → now ≡ before
+    risen_none reads counts none =
+        let c = rises.count in
+        let zero = counts.none (subst (λ (o : Option Asked). words_compile_none o ≡ true) asked none) in
+        let most : count ≤ workers_of a * 0 = subst (λ (n : ℕ). count ≤ workers_of a * n) zero by_workers.most in
+        omega (arith, c, most)

@@ -28,9 +28,9 @@ use Rattle.session_words.specs.Asked.{Job, Wanted}
 use Rattle.session_words.specs.declared.options.Command.{Command as Word}
 use Rattle.stencil_data.specs.Named.{NamedFunction, NamedMerged}
 use Rattle.stencil_xdr_laws.proofs.OneImage.{one_script_one_image}
-use Rattle.session_words.specs.declared.options.Command.TheVariants as word
-use Rattle.compile_specs.specs.Shown as show
 use Rattle.session_specs.specs.Refusals as line
+use Rattle.compile_specs.specs.Shown as show
+use Rattle.session_words.specs.declared.options.Command.TheVariants as word
 
 -- ---- one tree
 

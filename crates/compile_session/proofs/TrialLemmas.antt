@@ -1,23 +1,34 @@
 -- A trial: the line that is printed is the answer, and there is one.
-use Rattle.std.proofs.Common.{◌≡◌, ℕ, false, List, ◌++◌, length, ap, refl, sym, ◌∙◌, subst, codes, append_assoc}
+use Rattle.std.proofs.Common.{List, ap, append_assoc, arith, codes, false, length, refl, subst, sym, ℕ, ◌++◌, ◌<◌, ◌^◌, ◌∙◌, ◌≡◌}
 use Rattle.std.specs.Fmt.{decimal}
+use Rattle.bytecode_buf.specs.Command.{Command, Listed}
+use Rattle.compile_first_pass.specs.Passes.{IsSyntaxOf}
+use Rattle.compile_first_pass.specs.declared.pass.SyntaxScript.{SyntaxScript}
+use Rattle.compile_session.proofs.CompiledLemmas.{script_compiles}
+use Rattle.compile_session.proofs.ShownLemmas.{records_few, shown_few, shows_same}
+use Rattle.compile_session.proofs.SourceLemmas.{one_shown, same_valid, sources_equal}
+use Rattle.compile_session.specs.Files.{SettlesWork}
+use Rattle.compile_session.specs.Starts.{IsScriptStart}
+use Rattle.compile_session.specs.declared.start.ScriptStart.{ScriptStart}
+use Rattle.compile_shown.proofs.Flags.{flags_count}
+use Rattle.compile_shown.specs.Counting.{trues}
+use Rattle.compile_shown.specs.Shown.{ShowsWanted, shown_in}
+use Rattle.compile_specs.specs.Shown.{IsShown}
+use Rattle.compile_wanted.specs.Shows.{Shows}
 use Rattle.script_grammar.specs.Tree.{Stmts}
+use Rattle.script_image.proofs.Stands.{commands_as_listed}
+use Rattle.script_image.specs.Listed.{ShowsListed}
+use Rattle.script_image.specs.ScriptLines.{instruction_count, listed_merged}
+use Rattle.session_specs.specs.Answer.{counts_text, numbers_text, to_show}
+use Rattle.session_specs.specs.Compiled.{Compiles}
+use Rattle.session_specs.specs.Refusals.{Refusal}
+use Rattle.session_specs.specs.Sources.{HasAll, IsRefused, IsScript, IsSource, Source}
+use Rattle.session_trial.specs.Generated.{generated}
 use Rattle.stencil_data.specs.MergedView.{MergedView}
 use Rattle.stencil_data.specs.Named.{NamedMerged}
 use Rattle.stencil_data.specs.StandsFor.{MergedStandsFor}
-use Rattle.bytecode_buf.specs.Command.{Command, Listed}
-use Rattle.script_image.specs.Listed.{ShowsListed}
-use Rattle.script_image.specs.ScriptLines.{instruction_count, listed_merged}
-use Rattle.script_image.proofs.Stands.{commands_as_listed}
-use Rattle.session_trial.specs.Generated.{generated}
-use Rattle.compile_specs.specs.Shown.{IsShown}
-use Rattle.compile_wanted.specs.Shows.{Shows}
 use Rattle.session_words.specs.Asked as asked
-use Rattle.session_specs.specs.Answer.{counts_text, numbers_text, to_show}
-use Rattle.session_specs.specs.Refusals.{Refusal}
-use Rattle.session_specs.specs.Sources.{HasAll, IsSource, IsScript, IsRefused, Source}
-use Rattle.compile_session.specs.Files.{SettlesWork}
-use Rattle.compile_session.proofs.SourceLemmas.{same_valid, one_shown, sources_equal}
+use Rattle.compile_specs.specs.Shown as wanting
 
 -- a script is not refused
 pub not_refused : (file : List ℕ) (items : Stmts) (count : ℕ) (why : Refusal) → HasAll file asked.All items count → IsSource asked.All file (IsRefused why) → ⊥
@@ -64,3 +75,22 @@ trial_settles number size workers held text bytes items functions count shown is
         printed
         ∙ ap (λ (b : List ℕ). trial_text number size (length b) functions count) is
         ∙ ap (λ (n : ℕ). trial_text number size (length (generated number size)) functions n) (counted (listed_merged s.named) (commands_as_listed shown s.named s.stands))
+
+-- ---- a script all of whose functions are compiled
+
+pub shows_whole : (bytes : List ℕ) (script : SyntaxScript) (given : ScriptStart) (shown : MergedView) (s : IsSyntaxOf bytes script) → IsScriptStart asked.All bytes given → ShowsWanted wanting.All bytes given.initial shown → Shows wanting.All s.items (length bytes) shown
+shows_whole bytes script given shown s started shows =
+    shows_same bytes started.is.items s.items (length given.initial.parts.records) (length script.functions.items) wanting.All shown started.is.valid s.valid (shows started.is)
+
+whole_count : (bytes : List ℕ) (given : ScriptStart) (count : ℕ) → IsScriptStart asked.All bytes given → count ≡ trues given.shown.items → count ≡ shown_in wanting.All given.initial
+whole_count bytes given count started is = is ∙ flags_count wanting.All given.initial.parts.records given.shown.items started.flags
+
+pub compiles_whole : (bytes : List ℕ) (script : SyntaxScript) (given : ScriptStart) (count : ℕ) (s : IsSyntaxOf bytes script) → IsScriptStart asked.All bytes given → count ≡ trues given.shown.items → Compiles asked.All s.items (length bytes) count
+compiles_whole bytes script given count s started is = script_compiles asked.All bytes script given.initial count started.is (whole_count bytes given count started is) s
+
+pub few_whole : (bytes : List ℕ) (given : ScriptStart) (count : ℕ) → IsScriptStart asked.All bytes given → count ≡ trues given.shown.items → count < 2 ^ 32
+few_whole bytes given count started is =
+    let same = whole_count bytes given count started is in
+    let few = shown_few wanting.All given.initial in
+    let records = records_few bytes given.initial started.is in
+    omega (arith, same, few, records)

@@ -1,16 +1,16 @@
 -- What is known of one file of a command, and of what a worker answers for it.
-use Rattle.std.proofs.Common.{◌≡◌, ℕ, suc, zero, ◌^◌, ◌<◌, List, [], ◌∷◌, length, Option, Some, Vec, String, map, ap, ◌∙◌, subst, arith, slice_index_or}
+use Rattle.std.proofs.Common.{List, Option, Some, String, Vec, [], ap, arith, length, map, slice_index_or, subst, suc, zero, ℕ, ◌<◌, ◌^◌, ◌∙◌, ◌∷◌, ◌≡◌}
+use Rattle.std.proofs.lemmas.Option.{slice_get_within}
 use Rattle.std.specs.Prelude.{slice_get}
 use Rattle.std.specs.String.{string_bytes}
 use Rattle.std.specs.declared.alloc.Global.{Global}
-use Rattle.std.proofs.lemmas.Option.{slice_get_within}
+use Rattle.compile_session.specs.Answers.{CountsRead, SettlesRead}
+use Rattle.compile_session.specs.Workers.{SettleFiles, SettlesFile}
+use Rattle.compile_session.specs.declared.answer.FileAnswer.{FileAnswer}
 use Rattle.helper_tasks.specs.Jobs.{GivesEach}
 use Rattle.session_outside.specs.Loops.{HasAtMost, HaveAtMost}
-use Rattle.session_words.specs.declared.options.FileJob.{FileJob}
 use Rattle.session_words.specs.Asked.{job}
-use Rattle.compile_session.specs.declared.answer.FileAnswer.{FileAnswer}
-use Rattle.compile_session.specs.Answers.{CountsRead, SettlesRead}
-use Rattle.compile_session.specs.Workers.{SettlesFile, SettleFiles}
+use Rattle.session_words.specs.declared.options.FileJob.{FileJob}
 
 -- what was read of a file has no more bytes than there may be
 pub read_within : (most : ℕ) (reads : List (Option (Vec ℕ Global))) (number : ℕ) (d : Option (Vec ℕ Global)) → HaveAtMost most reads → number < length reads → HasAtMost most (slice_index_or reads number d)
@@ -33,7 +33,7 @@ named_at (x ∷ xs) (suc n) e name h = named_at xs n e name h
 
 -- an answer for a file by its name and what was read of it is that for the file of this number
 pub settles_named : (j : FileJob) (reads : List (Option (Vec ℕ Global))) (number : ℕ) (e : String Global) (d : Option (Vec ℕ Global)) (answer : FileAnswer)
-    → SettlesRead (job j) (string_bytes (slice_index_or j.files.items number e)) (slice_index_or reads number d) answer → CountsRead (job j) (slice_index_or reads number d) answer.compiled → answer.compiled < 2 ^ 32
+    → SettlesRead (job j) (string_bytes (slice_index_or j.files.items number e)) (slice_index_or reads number d) answer → CountsRead (job j) (slice_index_or reads number d) answer.compiled → answer.compiled < 2 ^ 24
     → SettlesFile (job j) reads number answer
 settles_named j reads number e d answer settles counts few = record {
   settles = λ name read named is.
@@ -45,7 +45,7 @@ settles_named j reads number e d answer settles counts few = record {
 
 -- the same of a name as it was taken out of the list
 pub settles_taken : (j : FileJob) (reads : List (Option (Vec ℕ Global))) (number : ℕ) (item : String Global) (text : List ℕ) (d : Option (Vec ℕ Global)) (answer : FileAnswer)
-    → item ≡ slice_index_or j.files.items number item → text ≡ string_bytes item → SettlesRead (job j) text (slice_index_or reads number d) answer → CountsRead (job j) (slice_index_or reads number d) answer.compiled → answer.compiled < 2 ^ 32
+    → item ≡ slice_index_or j.files.items number item → text ≡ string_bytes item → SettlesRead (job j) text (slice_index_or reads number d) answer → CountsRead (job j) (slice_index_or reads number d) answer.compiled → answer.compiled < 2 ^ 24
     → SettlesFile (job j) reads number answer
 settles_taken j reads number item text d answer is_item is_text settles counts few =
     settles_named j reads number item d answer (subst (λ (n : List ℕ). SettlesRead (job j) n (slice_index_or reads number d) answer) (is_text ∙ ap string_bytes is_item) settles) counts few

@@ -1,5 +1,5 @@
 -- How a command ends, and what it answers for all its files.
-use Rattle.std.specs.Prelude.{◌≡◌, ℕ, ◌^◌, ◌≤◌, Bool, true, false, List, length, Vec, Option, Some, None}
+use Rattle.std.specs.Prelude.{◌≡◌, ℕ, ◌^◌, ◌≤◌, Bool, true, false, List, length, Vec, Option}
 use Rattle.std.specs.declared.alloc.Global.{Global}
 use Rattle.session_outside.specs.Loops.{AreWholeBehind}
 use Rattle.session_words.specs.Asked.{Job, Asked, Files, Trial, Churn}
@@ -55,11 +55,6 @@ abbrev pub compiles_once : Asked → Bool
 compiles_once (Files j) = true
 compiles_once (Trial number size workers) = true
 compiles_once (Churn number size workers) = false
-
--- whether each function that is shown is compiled once for these words, which may ask for nothing
-abbrev pub words_compile_once : Option Asked → Bool
-words_compile_once None = true
-words_compile_once (Some a) = compiles_once a
 
 -- n functions were compiled for what is asked, by what was read of its files: where each is compiled once, as many as whatever
 -- files were read so show compiled, and none where none are whatever the files hold. They are at most 2^40.

@@ -1,9 +1,12 @@
 pub mod Alike
 pub mod Answers
+pub mod Compiled
 pub mod Faulty
 pub mod Files
 pub mod Listed
 pub mod Orders
+pub mod Showing
+pub mod Starts
 pub mod Statuses
-pub mod Workers
 pub mod Work
+pub mod Workers

@@ -1,12 +1,8 @@
 -- In which order the files of a command are begun: this project's own choice.
 use Rattle.std.specs.Prelude.{◌≡◌, ℕ, List, reverse}
-use Rattle.std.specs.List.{range_with_len}
 use Rattle.session_words.specs.declared.options.Order.{Order}
 use Rattle.session_words.specs.declared.options.Order.TheVariants as order
-
--- the numbers below n, rising
-abbrev pub rising : ℕ → List ℕ
-rising count = range_with_len 0 count
+use Rattle.session_requests.specs.Numbers.{rising}
 
 -- the numbers of the first files stand in the order that the command asks for; where it asks for the larger ones first nothing is said here
 abbrev pub IsBegunIn : Order → ℕ → List ℕ → Type 0

@@ -13,7 +13,15 @@ use std::alloc::{AllocError, Global};
 pub struct FileAnswer {
     pub text: Vec<u8>,
     pub refused: bool,
-    /// How many functions were compiled for it.
+    /// How many functions it shows compiled.
+    pub compiled: u64,
+}
+
+/// What is printed for a command, and what was compiled for that.
+#[derive(Drop)]
+pub(crate) struct CommandAnswer {
+    pub answer: FileAnswer,
+    /// How many functions workers compiled, each as often as it was compiled.
     pub compiled: u64,
 }
 

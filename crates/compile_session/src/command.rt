@@ -1,17 +1,18 @@
 //! One command, from its words to the bytes that the sink takes.
 
-ghost use Rattle.std.specs.Prelude.{◌≡◌, ◌≢◌, ℕ, ◌+◌, ◌-◌, ◌^◌, ◌<◌, ◌≤◌, ◌++◌, ◌⊎◌, Bool, true, List, Some, None, map};
+ghost use Rattle.std.specs.Prelude.{◌≡◌, ◌≢◌, ℕ, ◌+◌, ◌-◌, ◌*◌, ◌^◌, ◌<◌, ◌≤◌, ◌++◌, ◌⊎◌, Bool, true, List, Some, None, map};
 ghost use Rattle.std.specs.String.{string_bytes};
 ghost use Rattle.session_outside.specs.Shelf.{TurnsToFront};
 ghost use Rattle.session_outside.specs.Sink.{Gains, GainsFront};
 ghost use Rattle.session_outside.specs.Loops.{opened_within};
 ghost use Rattle.session_words.specs.Words.{asked_of};
 ghost use Rattle.session_specs.specs.Answer.{IsAnswer, most_bytes};
-ghost use Rattle.session_specs.specs.Compiled.{ShowsCompiled, words_compile_none};
+ghost use Rattle.session_specs.specs.Compiled.{words_compile_none};
 ghost use Rattle.compile_tally.specs.Tally.{Rises};
 ghost use Rattle.compile_session.specs.Alike.{AskAlike};
+ghost use Rattle.compile_session.specs.Compiled.{MayCompile};
 ghost use Rattle.compile_session.specs.Work.{names_of};
-ghost use Rattle.compile_session.specs.Files.{IsBefore, IsWhole, status_of, words_compile_once};
+ghost use Rattle.compile_session.specs.Files.{IsBefore, IsWhole, status_of};
 
 use crate::file::MOST_BYTES;
 use crate::status::Status;
@@ -24,7 +25,7 @@ use std::sync::Wait;
 use std::thread::Threads;
 
 /// Runs the command of these words: reads its files from the shelf, and gives the sink what is printed for them. The functions that
-/// were compiled for that are counted on the tally, each once.
+/// were compiled for that are counted on the tally, each as often as a worker compiled it.
 pub fn run<R: Threads + Wait + Sync, L: Shelf, K: Sink, G: Gate, T: Tally>(
     rt: &R,
     alloc: Global,
@@ -71,17 +72,13 @@ pub fn run<R: Threads + Wait + Sync, L: Shelf, K: Sink, G: Gate, T: Tally>(
     ensures unread { result ≡ Status.BadWords → L.turned shelf.new ≡ L.turned shelf.old }
     ensures same { L.held shelf.new ≡ L.held shelf.old }
 
-    // What is counted on the tally, whatever the status is: no more functions than the answer shows compiled, out of the room; where
-    // all was done, just these, but of `churn`, which compiles functions again and again, no more is said than that the count rises
-    // out of the room. None where none is for these words, whatever the files hold.
+    // What is counted on the tally, whatever the status is: out of the room, and for each worker no more functions than the answer
+    // shows compiled; but of `churn`, which compiles functions again and again, no more is said than that the count rises out of the
+    // room. None where none is for these words, whatever the files hold.
     ensures sum { T.count tally.new + T.room tally.new ≡ T.count tally.old + T.room tally.old }
     ensures rising { T.count tally.old ≤ T.count tally.new }
-    ensures lazy { (held : List ℕ → List ℕ) → L.held shelf.old ≡ Some held → (compiled : ℕ) →
-        ShowsCompiled (map string_bytes words.now) held compiled → T.count tally.new ≤ T.count tally.old + compiled }
-    ensures counted { (held : List ℕ → List ℕ) → L.held shelf.old ≡ Some held → IsWhole result →
-        words_compile_once (asked_of (map string_bytes words.now)) ≡ true → (compiled : ℕ) × ShowsCompiled (map string_bytes words.now) held compiled × (T.count tally.new ≡ T.count tally.old + compiled) }
-    ensures counted_only { (held : List ℕ → List ℕ) → L.held shelf.old ≡ Some held → IsWhole result → (compiled : ℕ) →
-        ShowsCompiled (map string_bytes words.now) held compiled → T.count tally.new ≡ T.count tally.old + compiled }
+    ensures lazy { (held : List ℕ → List ℕ) → L.held shelf.old ≡ Some held → (workers compiled : ℕ) →
+        MayCompile (map string_bytes words.now) held workers compiled → T.count tally.new ≤ T.count tally.old + workers * compiled }
     ensures idle { words_compile_none (asked_of (map string_bytes words.now)) ≡ true → T.count tally.new ≡ T.count tally.old }
 {
     let work = match work_of(alloc, words) {
@@ -94,11 +91,12 @@ pub fn run<R: Threads + Wait + Sync, L: Shelf, K: Sink, G: Gate, T: Tally>(
         Err(ShelfRefusal::Failed) => return Status::ReadFault,
         Err(ShelfRefusal::NoMemory) => return Status::NoMemory,
     };
-    let answer = match answer_to(rt, alloc, &work, &reads, gate) {
-        Ok(answer) => answer,
+    let given = match answer_to(rt, alloc, &work, &reads, gate) {
+        Ok(given) => given,
         Err(_) => return Status::NoMemory,
     };
-    count_compiled(tally, answer.compiled);
+    count_compiled(tally, given.compiled);
+    let answer = given.answer;
     match write_bytes(sink, &answer.text) {
         Ok(()) => status_of(answer.refused),
         Err(SinkRefusal::Failed) => Status::WriteFault,

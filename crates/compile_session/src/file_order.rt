@@ -1,25 +1,13 @@
 //! In which order the files of a command are handed to workers.
 
-ghost use Rattle.std.specs.Prelude.{◌≡◌, IfOk};
+ghost use Rattle.std.specs.Prelude.{IfOk};
 ghost use Rattle.helper_tasks.specs.Jobs.{IsOrderOf};
-ghost use Rattle.compile_session.specs.Orders as definition;
 ghost use Rattle.compile_session.specs.Orders.{IsBegunIn};
 
+use session_requests::rising;
 use session_words::Order;
 use std::alloc::{AllocError, Global};
 use std::cmp::Reverse;
-
-/// The numbers below `count`, rising.
-fn rising(alloc: Global, count: u32) -> Result<Vec<u32>, AllocError>
-    ensures order { IfOk result (λ numbers. IsOrderOf count numbers.items) }
-    ensures rising { IfOk result (λ numbers. numbers.items ≡ definition.rising count) }
-{
-    let mut numbers = Vec::new(alloc);
-    for number in 0..count {
-        numbers.push(number)?;
-    }
-    Ok(numbers)
-}
 
 /// How many bytes were read of the file of this number.
 fn size_of(reads: &[Option<Vec<u8>>], number: u32) -> usize {

@@ -7,9 +7,10 @@ ghost use Rattle.session_specs.specs.Answer.{most_bytes};
 ghost use Rattle.session_words.specs.Asked.{asked};
 ghost use Rattle.compile_session.specs.Work as definition;
 ghost use Rattle.compile_session.specs.Work.{IsWorkOf};
+ghost use Rattle.compile_session.specs.Compiled.{IsCompiledBy, workers_of};
 ghost use Rattle.compile_session.specs.Files.{AnswersWork, CountsWork, IsBounded};
 
-use crate::answer::FileAnswer;
+use crate::answer::CommandAnswer;
 use crate::churn::churn_answer;
 use crate::files::answers_of;
 use crate::status::Status;
@@ -48,11 +49,12 @@ pub(crate) fn answer_to<R: Threads + Wait + Sync, G: Gate>(
     work: &Options,
     reads: &[Option<Vec<u8>>],
     gate: &G,
-) -> Result<FileAnswer, AllocError>
+) -> Result<CommandAnswer, AllocError>
     requires within { HaveAtMost most_bytes reads.now }
     requires bounded { IsBounded (asked work.now) }
-    ensures settles { IfOk result (AnswersWork (asked work.now) reads.now) }
-    ensures counts { IfOk result (λ answer. CountsWork (asked work.now) reads.now answer.compiled) }
+    ensures settles { IfOk result (λ given. AnswersWork (asked work.now) reads.now given.answer) }
+    ensures counts { IfOk result (λ given. CountsWork (asked work.now) reads.now given.answer.compiled) }
+    ensures compiled { IfOk result (λ given. IsCompiledBy (workers_of (asked work.now)) given.answer.compiled given.compiled) }
 {
     match work {
         Options::Files(job) => {
@@ -62,9 +64,9 @@ pub(crate) fn answer_to<R: Threads + Wait + Sync, G: Gate>(
         Options::Trial {
             number,
             size,
-            workers: _,
+            workers,
         } => {
-            let answer = trial_answer(alloc, *number, *size)?;
+            let answer = trial_answer(rt, alloc, *number, *size, *workers, gate)?;
             Ok(answer)
         }
         Options::Churn {
@@ -73,7 +75,8 @@ pub(crate) fn answer_to<R: Threads + Wait + Sync, G: Gate>(
             workers,
         } => {
             let answer = churn_answer(rt, alloc, *number, *size, *workers, gate)?;
-            Ok(answer)
+            let compiled = answer.compiled;
+            Ok(CommandAnswer { answer, compiled })
         }
     }
 }

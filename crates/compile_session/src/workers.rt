@@ -1,8 +1,9 @@
 //! The files of a command, each answered by one of several workers.
 
-ghost use Rattle.std.specs.Prelude.{◌≡◌, ℕ, ◌≤◌, ◌<◌, ◌^◌, length, IfOk};
+ghost use Rattle.std.specs.Prelude.{◌≡◌, ℕ, ◌≤◌, ◌<◌, ◌^◌, false, length, IfOk};
 ghost use Rattle.session_outside.specs.Loops.{HaveAtMost};
 ghost use Rattle.session_specs.specs.Answer.{most_bytes};
+ghost use Rattle.session_specs.specs.Compiled.{shows_scripts};
 ghost use Rattle.session_words.specs.Asked as asked;
 ghost use Rattle.compile_session.specs.Workers.{CanBeAnswered, SettlesFile, SettleFiles};
 
@@ -25,12 +26,14 @@ struct FileTasks<'a> {
 
 /// What a worker has to itself: the numbers of the files that it answered.
 #[derive(Drop)]
-struct Worker {
-    answered: Vec<u32>,
+pub(crate) struct Worker {
+    pub answered: Vec<u32>,
 }
 
 impl<'a> Job for FileTasks<'a> {
     ghost use Rattle.session_words.specs.Asked as asked;
+    ghost use Rattle.std.specs.Prelude.{◌≡◌, false};
+    ghost use Rattle.session_specs.specs.Compiled.{shows_scripts};
     ghost use Rattle.compile_session.specs.Workers.{CanBeAnswered, SettlesFile};
 
     type Out = FileAnswer;
@@ -41,7 +44,7 @@ impl<'a> Job for FileTasks<'a> {
 
     ghost gives = { λ tasks number answer. SettlesFile (asked.job tasks.job.now) tasks.reads.now number answer };
 
-    ghost fits = { λ tasks worker. CanBeAnswered tasks.job.now tasks.reads.now tasks.count };
+    ghost fits = { λ tasks worker. CanBeAnswered tasks.job.now tasks.reads.now tasks.count × (shows_scripts tasks.job.now.command ≡ false) };
 
     ghost ran = { λ worker. worker.answered.items };
 
@@ -57,6 +60,7 @@ impl<'a> FileTasks<'a> {
     fn answer(&self, alloc: Global, number: u32) -> Result<FileAnswer, AllocError>
         requires can { CanBeAnswered self.now.job.now self.now.reads.now self.now.count }
         requires number { number < self.now.count }
+        requires plain { shows_scripts self.now.job.now.command ≡ false }
         ensures { IfOk result (SettlesFile (asked.job self.now.job.now) self.now.reads.now number) }
     {
         let name = &self.job.files[number as usize];
@@ -67,7 +71,7 @@ impl<'a> FileTasks<'a> {
 }
 
 /// n workers, none of which has answered a file.
-fn idle_workers(alloc: Global, count: u32) -> Result<Vec<Worker>, AllocError>
+pub(crate) fn idle_workers(alloc: Global, count: u32) -> Result<Vec<Worker>, AllocError>
     ensures { IfOk result (λ workers. length workers.items ≡ count) }
 {
     let mut workers = Vec::new(alloc);
@@ -89,6 +93,7 @@ pub(crate) fn file_answers<R: Threads + Wait + Sync, G: Gate>(
     gate: &G,
 ) -> Result<Vec<FileAnswer>, AllocError>
     requires can { CanBeAnswered job.now reads.now count }
+    requires plain { shows_scripts job.now.command ≡ false }
     requires workers { (1 ≤ job.now.workers) × (job.now.workers ≤ 16) }
     ensures { IfOk result (λ answers. SettleFiles (asked.job job.now) reads.now count answers.items) }
 {

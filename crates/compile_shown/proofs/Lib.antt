@@ -1,6 +1,7 @@
-mod Hands
+mod Lacking
 mod Nested
 mod Unshown
 pub mod Counts
+pub mod Flags
 pub mod Steps
-mod ExtentsInside
+pub mod Upward

@@ -1,83 +1,98 @@
 //! The functions of a script, one after another, of each of which it is known whether it is shown.
 
-ghost use Rattle.std.specs.Prelude.{◌≡◌, ◌≢◌, ◌≤◌, ◌+◌, ◌<◌, ◌∷◌, Bool, true, length, reverse, OnOk, Some, None};
-ghost use Rattle.compile_tally.specs.Tally.{Rises};
-ghost use Rattle.compile_shown.specs.Counting.{RisesAtMost, counted, trues};
-ghost use Rattle.compile_shown.specs.UpTo.{AreNext, IsNext, Passes, PassesAll};
+ghost use Rattle.std.specs.Prelude.{◌≡◌, ◌≤◌, ◌+◌, ◌<◌, ℕ, Bool, true, length, OnOk};
+ghost use Rattle.stencil_board.specs.Passes.{BelongsTo, IsBoard, IsUpward, Suffices, lacking};
+ghost use Rattle.compile_shown.specs.Shown.{flagged};
+ghost use Rattle.compile_shown.specs.UpTo.{AreNext, HasPassed, Passes, PassesAll};
 
-use crate::at_hand::take;
-use crate::script::{Script, Source};
 use compile_tally::Ticks;
-use std::alloc::AllocError;
-use stencil_data::Chain;
+use lazy_compile::Delazified;
+use std::alloc::{AllocError, Global};
+use stencil_board::{Board, Pass, Sources};
+use stencil_merge::Merger;
 
-/// The chain that is at hand.
-fn chain_of(hand: Option<Chain>) -> Chain
-    requires { hand ≢ None }
-    ensures { hand ≡ Some result }
-{
-    match hand {
-        Some(chain) => chain,
-        None => unreachable!(),
-    }
-}
-
-/// Compiles the next function, which is shown, so its chain is at hand.
-fn compile_at_hand(
-    source: &Source<'_>,
-    script: &mut Script,
+/// Asks for the function at this place, which is shown, and takes it in.
+fn add_function<N: Sources, T: Ticks>(
+    alloc: Global,
+    board: &Board<'_, N>,
+    pass: &mut Pass<N>,
     place: usize,
-    hand: Option<Chain>,
+    merger: &mut Merger,
+    tally: &mut T,
 ) -> Result<(), AllocError>
-    requires place { place < length source.now.initial.now.parts.records }
-    requires state { IsNext source.now.bytes.now source.now.initial.now place true (hand ∷ reverse script.old.hands.items) script.old.merger }
-    ensures { OnOk result (Passes source.now.bytes.now source.now.initial.now place true (hand ∷ reverse script.old.hands.items)
-        (reverse script.new.hands.items) script.old.merger script.new.merger) }
+    requires board { IsBoard N.files board.now }
+    requires belongs { BelongsTo pass.old board.now }
+    requires place { place < length board.now.initial.parts.records }
+    requires state { HasPassed board.now.bytes board.now.initial place merger.old }
+    requires room { (shown : ℕ → Bool) × Suffices board.now.initial shown (place + 1) pass.old (T.room tally.old) }
+    ensures state { OnOk result (Passes board.now.bytes board.now.initial place true merger.old merger.new) }
+    ensures belongs { BelongsTo pass.new board.now }
+    ensures sum { T.count tally.new + T.room tally.new ≡ T.count tally.old + T.room tally.old }
+    ensures rising { T.count tally.old ≤ T.count tally.new }
+    ensures counted { (shown : ℕ → Bool) → IsUpward board.now.initial shown → shown (place + 1) ≡ true
+        → OnOk result (T.count tally.new + lacking shown pass.new ≤ T.count tally.old + lacking shown pass.old) }
+    ensures most { (shown : ℕ → Bool) → IsUpward board.now.initial shown → shown (place + 1) ≡ true
+        → T.count tally.new ≤ T.count tally.old + lacking shown pass.old }
 {
-    let chain = chain_of(hand);
-    script.compile_next(source, place, &chain)
+    let number = place as u32 + 1;
+    let made = board.request(alloc, pass, number, tally)?;
+    let alone: &Delazified = &made;
+    merger.add(alloc, number, &alone.stencil, &alone.texts)
 }
 
-/// Passes the next function. One that is shown is counted and compiled.
-fn pass<T: Ticks>(
-    source: &Source<'_>,
-    script: &mut Script,
+/// Passes the function at this place; one that is shown is taken in.
+fn pass_function<N: Sources, T: Ticks>(
+    alloc: Global,
+    board: &Board<'_, N>,
+    pass: &mut Pass<N>,
     place: usize,
     is_shown: bool,
+    merger: &mut Merger,
     tally: &mut T,
 ) -> Result<(), AllocError>
-    requires place { place < length source.now.initial.now.parts.records }
-    requires state { IsNext source.now.bytes.now source.now.initial.now place is_shown (reverse script.old.hands.items) script.old.merger }
-    requires room { counted is_shown ≤ T.room tally.old }
-    ensures state { OnOk result (Passes source.now.bytes.now source.now.initial.now place is_shown (reverse script.old.hands.items)
-        (reverse script.new.hands.items) script.old.merger script.new.merger) }
-    ensures tally { Rises (T.count tally.old) (T.room tally.old) (T.count tally.new) (T.room tally.new) (counted is_shown) }
+    requires board { IsBoard N.files board.now }
+    requires belongs { BelongsTo pass.old board.now }
+    requires place { place < length board.now.initial.parts.records }
+    requires state { HasPassed board.now.bytes board.now.initial place merger.old }
+    requires room { is_shown ≡ true → (shown : ℕ → Bool) × Suffices board.now.initial shown (place + 1) pass.old (T.room tally.old) }
+    ensures state { OnOk result (Passes board.now.bytes board.now.initial place is_shown merger.old merger.new) }
+    ensures belongs { BelongsTo pass.new board.now }
+    ensures sum { T.count tally.new + T.room tally.new ≡ T.count tally.old + T.room tally.old }
+    ensures rising { T.count tally.old ≤ T.count tally.new }
+    ensures counted { (shown : ℕ → Bool) → IsUpward board.now.initial shown → shown (place + 1) ≡ is_shown
+        → OnOk result (T.count tally.new + lacking shown pass.new ≤ T.count tally.old + lacking shown pass.old) }
+    ensures most { (shown : ℕ → Bool) → IsUpward board.now.initial shown → shown (place + 1) ≡ is_shown
+        → T.count tally.new ≤ T.count tally.old + lacking shown pass.old }
 {
-    let hand = take(&mut script.hands);
     if is_shown {
-        tally.tick();
-        compile_at_hand(source, script, place, hand)
+        add_function(alloc, board, pass, place, merger, tally)
     } else {
-        script.pass_over(source, place)
+        Ok(())
     }
 }
 
-/// Passes all functions, of each of which the flag says whether it is shown.
-pub(crate) fn compile_flagged<T: Ticks>(
-    source: &Source<'_>,
-    flags: &[bool],
-    script: &mut Script,
+/// Takes in all functions that are shown.
+pub(crate) fn add_flagged<N: Sources, T: Ticks>(
+    alloc: Global,
+    board: &Board<'_, N>,
+    pass: &mut Pass<N>,
+    shown: &[bool],
+    merger: &mut Merger,
     tally: &mut T,
 ) -> Result<(), AllocError>
-    requires state { AreNext source.now.bytes.now source.now.initial.now flags.now (reverse script.old.hands.items) script.old.merger }
-    requires room { trues flags.now ≤ T.room tally.old }
-    ensures state { OnOk result (PassesAll source.now.bytes.now source.now.initial.now flags.now (reverse script.old.hands.items)
-        (reverse script.new.hands.items) script.old.merger script.new.merger) }
-    ensures counted { OnOk result (Rises (T.count tally.old) (T.room tally.old) (T.count tally.new) (T.room tally.new) (trues flags.now)) }
-    ensures most { RisesAtMost (T.count tally.old) (T.room tally.old) (T.count tally.new) (T.room tally.new) (trues flags.now) }
+    requires board { IsBoard N.files board.now }
+    requires belongs { BelongsTo pass.old board.now }
+    requires state { AreNext board.now.bytes board.now.initial shown.now merger.old }
+    requires room { lacking (flagged shown.now) pass.old ≤ T.room tally.old }
+    ensures state { OnOk result (PassesAll board.now.bytes board.now.initial shown.now merger.old merger.new) }
+    ensures belongs { BelongsTo pass.new board.now }
+    ensures sum { T.count tally.new + T.room tally.new ≡ T.count tally.old + T.room tally.old }
+    ensures rising { T.count tally.old ≤ T.count tally.new }
+    ensures counted { OnOk result (T.count tally.new + lacking (flagged shown.now) pass.new ≤ T.count tally.old + lacking (flagged shown.now) pass.old) }
+    ensures most { T.count tally.new ≤ T.count tally.old + lacking (flagged shown.now) pass.old }
 {
-    for place in 0..flags.len() {
-        pass(source, script, place, flags[place], tally)?;
+    for place in 0..shown.len() {
+        pass_function(alloc, board, pass, place, shown[place], merger, tally)?;
     }
     Ok(())
 }

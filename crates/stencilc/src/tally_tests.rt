@@ -1,4 +1,4 @@
-//! What commands count on the tally: each function that is shown compiled, once.
+//! What commands count on the tally: each function that is shown compiled, at least once, and at most once for each worker.
 
 use super::ROOM;
 use super::listing_tests::words_of;
@@ -58,20 +58,59 @@ fn compiles<R: Threads + Wait + Sync>(
 #[test]
 fn counts_functions_that_are_shown_compiled(rt: HostRuntime) -> Result<(), Fail> {
     let alloc = rt.alloc();
-    assert!(rt; compiles(&rt, alloc, &["code", "a.js"], 3)?);
-    assert!(rt; compiles(&rt, alloc, &["code", "--want", "3", "a.js"], 3)?);
-    assert!(rt; compiles(&rt, alloc, &["code", "--want", "1", "a.js"], 1)?);
-    assert!(rt; compiles(&rt, alloc, &["scopes", "--want", "2", "a.js"], 2)?);
-    assert!(rt; compiles(&rt, alloc, &["save", "--want", "3", "a.js"], 3)?);
+    assert!(rt; compiles(&rt, alloc, &["code", "--workers", "1", "a.js"], 3)?);
+    assert!(rt;
+        compiles(
+            &rt,
+            alloc,
+            &["code", "--workers", "1", "--want", "3", "a.js"],
+            3
+        )?
+    );
+    assert!(rt;
+        compiles(
+            &rt,
+            alloc,
+            &["code", "--workers", "1", "--want", "1", "a.js"],
+            1
+        )?
+    );
+    assert!(rt;
+        compiles(
+            &rt,
+            alloc,
+            &["scopes", "--workers", "1", "--want", "2", "a.js"],
+            2
+        )?
+    );
+    assert!(rt;
+        compiles(
+            &rt,
+            alloc,
+            &["save", "--workers", "1", "--want", "3", "a.js"],
+            3
+        )?
+    );
     Ok(())
 }
 
 #[test]
 fn counts_none_where_none_is_shown(rt: HostRuntime) -> Result<(), Fail> {
     let alloc = rt.alloc();
-    assert!(rt; compiles(&rt, alloc, &["code", "--want", "none", "a.js"], 0)?);
+    assert!(rt;
+        compiles(
+            &rt,
+            alloc,
+            &["code", "--workers", "1", "--want", "none", "a.js"],
+            0
+        )?
+    );
     assert!(rt; compiles(&rt, alloc, &["check", "--want", "3", "a.js"], 0)?);
-    let (status, count) = counts(&rt, alloc, &["code", "--want", "4", "a.js"])?;
+    let (status, count) = counts(
+        &rt,
+        alloc,
+        &["code", "--workers", "1", "--want", "4", "a.js"],
+    )?;
     assert!(rt; status == Status::Refused);
     assert_eq!(rt; count, 0);
     Ok(())
@@ -80,9 +119,20 @@ fn counts_none_where_none_is_shown(rt: HostRuntime) -> Result<(), Fail> {
 #[test]
 fn counts_the_files_together(rt: HostRuntime) -> Result<(), Fail> {
     let alloc = rt.alloc();
-    assert!(rt; compiles(&rt, alloc, &["code", "a.js", "b.js"], 5)?);
-    assert!(rt; compiles(&rt, alloc, &["code", "--want", "2", "a.js", "b.js"], 3)?);
-    let (status, count) = counts(&rt, alloc, &["code", "--want", "3", "a.js", "b.js"])?;
+    assert!(rt; compiles(&rt, alloc, &["code", "--workers", "1", "a.js", "b.js"], 5)?);
+    assert!(rt;
+        compiles(
+            &rt,
+            alloc,
+            &["code", "--workers", "1", "--want", "2", "a.js", "b.js"],
+            3
+        )?
+    );
+    let (status, count) = counts(
+        &rt,
+        alloc,
+        &["code", "--workers", "1", "--want", "3", "a.js", "b.js"],
+    )?;
     assert!(rt; status == Status::Refused);
     assert_eq!(rt; count, 3);
     Ok(())
@@ -91,6 +141,61 @@ fn counts_the_files_together(rt: HostRuntime) -> Result<(), Fail> {
 #[test]
 fn counts_all_functions_of_a_trial(rt: HostRuntime) -> Result<(), Fail> {
     let alloc = rt.alloc();
-    assert!(rt; compiles(&rt, alloc, &["trial", "1", "2"], 2)?);
+    assert!(rt; compiles(&rt, alloc, &["trial", "1", "2", "--workers", "1"], 2)?);
+    Ok(())
+}
+
+/// Whether this command is done, and counts so many functions at least and at most.
+fn compiles_between<R: Threads + Wait + Sync>(
+    rt: &R,
+    alloc: Global,
+    words: &[&str],
+    least: u64,
+    most: u64,
+) -> Result<bool, AllocError> {
+    let (status, count) = counts(rt, alloc, words)?;
+    Ok(status == Status::Done && least <= count && count <= most)
+}
+
+#[test]
+fn counts_for_each_worker_at_most_once(rt: HostRuntime) -> Result<(), Fail> {
+    let alloc = rt.alloc();
+    let four = ["code", "--workers", "4", "a.js", "b.js"];
+    assert!(rt; compiles_between(&rt, alloc, &four, 5, 20)?);
+    let sixteen = ["code", "--workers", "16", "--want", "3", "a.js"];
+    assert!(rt; compiles_between(&rt, alloc, &sixteen, 3, 48)?);
+    let trial = ["trial", "1", "2", "--workers", "4"];
+    assert!(rt; compiles_between(&rt, alloc, &trial, 2, 8)?);
+    Ok(())
+}
+
+#[test]
+fn counts_each_once_by_one_worker(rt: HostRuntime) -> Result<(), Fail> {
+    let alloc = rt.alloc();
+    assert!(rt; compiles(&rt, alloc, &["code", "--workers", "1", "a.js", "b.js"], 5)?);
+    assert!(rt;
+        compiles(
+            &rt,
+            alloc,
+            &[
+                "code",
+                "--workers",
+                "1",
+                "--order",
+                "reverse",
+                "a.js",
+                "b.js"
+            ],
+            5
+        )?
+    );
+    assert!(rt;
+        compiles(
+            &rt,
+            alloc,
+            &["code", "--workers", "4", "--want", "none", "a.js"],
+            0
+        )?
+    );
     Ok(())
 }

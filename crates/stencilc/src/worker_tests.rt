@@ -99,3 +99,63 @@ fn two_workers_meet(rt: HostRuntime) -> Result<(), Fail> {
     assert!(rt; gate.met());
     Ok(())
 }
+
+/// A script of n functions, none of which is in another.
+fn functions(alloc: Global, count: usize) -> Result<Vec<u8>, AllocError> {
+    let mut text = Vec::new(alloc);
+    for _ in 0..count {
+        text.extend_from_slice(b"function f(x) { return x; }\n")?;
+    }
+    Ok(text)
+}
+
+/// Whether n workers meet over one file of 64 functions, after its first pass, and the command is done.
+fn meet_at_one_file<R: Threads + Wait + Sync>(
+    rt: &R,
+    alloc: Global,
+    option: &str,
+    workers: u32,
+) -> Result<bool, AllocError> {
+    let gate = MeetGate::new(1, workers, 100_000_000);
+    let text = functions(alloc, 64)?;
+    let (status, _) = printed(rt, alloc, &["--workers", option], 1, &text, &gate)?;
+    Ok(status == Status::Done && gate.met())
+}
+
+#[test]
+fn workers_meet_at_the_functions_of_one_file(rt: HostRuntime) -> Result<(), Fail> {
+    let alloc = rt.alloc();
+    assert!(rt; meet_at_one_file(&rt, alloc, "2", 2)?);
+    assert!(rt; meet_at_one_file(&rt, alloc, "4", 4)?);
+    Ok(())
+}
+
+#[test]
+fn two_workers_meet_in_each_part(rt: HostRuntime) -> Result<(), Fail> {
+    let alloc = rt.alloc();
+    for part in 0..3 {
+        let gate = MeetGate::new(64 * part, 2, 100_000_000);
+        let options = ["--workers", "2"];
+        let (status, _) = printed(&rt, alloc, &options, 64, b"function f(){}", &gate)?;
+        assert!(rt; status == Status::Done);
+        assert!(rt; gate.met());
+    }
+    Ok(())
+}
+
+#[test]
+fn prints_one_file_the_same_with_any_workers_and_order(rt: HostRuntime) -> Result<(), Fail> {
+    let alloc = rt.alloc();
+    let text =
+        b"function f(x) { return function () { return () => x; }; } function g() { return (y) => y; }";
+    let (_, wanted) = printed(&rt, alloc, &["--workers", "1"], 1, text, &OpenGate)?;
+    for workers in ["1", "2", "4", "16"] {
+        for order in ["first", "large", "reverse"] {
+            let options = ["--workers", workers, "--order", order];
+            let (status, bytes) = printed(&rt, alloc, &options, 1, text, &OpenGate)?;
+            assert!(rt; status == Status::Done);
+            assert!(rt; bytes.as_slice() == wanted.as_slice());
+        }
+    }
+    Ok(())
+}

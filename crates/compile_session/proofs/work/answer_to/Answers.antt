@@ -8,14 +8,17 @@ answers_of-requires-clause-files g c κs within = (files_bounded c.args.work.now
 pub answers_of-requires-clause-workers : goal.answers_of-requires-clause-workers
 answers_of-requires-clause-workers g c κs within = let b = files_bounded c.args.work.now c.in-Files.job c.in-Files.is c.requires.bounded in (b.1, b.2)
 
-pub trial_answer-requires : goal.trial_answer-requires
-trial_answer-requires g c = (trial_bounded c.args.work.now _ _ _ c.in-Trial.is c.requires.bounded).0
+pub trial_answer-requires-clause-size : goal.trial_answer-requires-clause-size
+trial_answer-requires-clause-size g c κs within = (trial_bounded c.args.work.now _ _ _ c.in-Trial.is c.requires.bounded).0
+
+pub trial_answer-requires-clause-workers : goal.trial_answer-requires-clause-workers
+trial_answer-requires-clause-workers g c κs within = let b = trial_bounded c.args.work.now _ _ _ c.in-Trial.is c.requires.bounded in (b.1, b.2)
 
 pub returns-in_ok-answer-in-Trial-clause-settles : goal.returns-in_ok-answer-in-Trial-clause-settles
-returns-in_ok-answer-in-Trial-clause-settles g c = trial_work c.args.work.now _ _ _ c.args.reads.now c.in_ok-answer-in-Trial.answer c.in-Trial.is c.in_ok-answer-in-Trial.ensures.settles
+returns-in_ok-answer-in-Trial-clause-settles g c = trial_work c.args.work.now _ _ _ c.args.reads.now c.in_ok-answer-in-Trial.answer.answer c.in-Trial.is c.in_ok-answer-in-Trial.ensures.settles
 
 pub returns-in_ok-answer-in-Trial-clause-counts : goal.returns-in_ok-answer-in-Trial-clause-counts
-returns-in_ok-answer-in-Trial-clause-counts g c = trial_counted c.args.work.now _ _ _ c.args.reads.now c.in_ok-answer-in-Trial.answer.compiled c.in-Trial.is c.in_ok-answer-in-Trial.ensures.counts
+returns-in_ok-answer-in-Trial-clause-counts g c = trial_counted c.args.work.now _ _ _ c.args.reads.now c.in_ok-answer-in-Trial.answer.answer.compiled c.in-Trial.is c.in_ok-answer-in-Trial.ensures.counts
 
 pub churn_answer-requires-clause-size : goal.churn_answer-requires-clause-size
 churn_answer-requires-clause-size g c κs within = (churn_bounded c.args.work.now _ _ _ c.in-Churn.is c.requires.bounded).0

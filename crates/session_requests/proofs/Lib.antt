@@ -1,0 +1,5 @@
+pub mod Crossing
+pub mod Fitting
+pub mod Lacking
+pub mod Seats
+mod TaskNumbers

@@ -1,0 +1,4 @@
+pub mod Hands
+pub mod Numbers
+pub mod Views
+pub mod Works

@@ -1,5 +1,7 @@
 //! Commands by several workers.
 
+ghost use Rattle.std.specs.Prelude.{◌≤◌};
+
 use super::ROOM;
 use compile_session::{FirmShelf, FirmSink, Gate, MeetGate, OpenGate, Sheet, Status, run};
 use std::alloc::{AllocError, Global};
@@ -115,7 +117,9 @@ fn meet_at_one_file<R: Threads + Wait + Sync>(
     alloc: Global,
     option: &str,
     workers: u32,
-) -> Result<bool, AllocError> {
+) -> Result<bool, AllocError>
+    requires { workers ≤ 16 }
+{
     let gate = MeetGate::new(1, workers, 100_000_000);
     let text = functions(alloc, 64)?;
     let (status, _) = printed(rt, alloc, &["--workers", option], 1, &text, &gate)?;

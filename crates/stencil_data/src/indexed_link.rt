@@ -1,4 +1,5 @@
-// A link with an index of its names, so that a name is found in it without a look at each.
+// A link with an index of its names, so that a name is found in it without a look at each. The index is an ordered tree and
+// no hash table: no names can be chosen that make a look-up slower than the logarithm of their number.
 ghost use Rattle.std.specs.Prelude.{◌≡◌, IfOk, option_copied};
 ghost use Rattle.stencil_data.specs.FirstPlaces.{LeadsToFirst};
 ghost use Rattle.stencil_data.specs.Resolve as defined;
@@ -6,7 +7,7 @@ ghost use Rattle.stencil_data.specs.Resolve as defined;
 use crate::chains::{Link, LinkName};
 use crate::texts::Text;
 use std::alloc::{AllocError, Global};
-use std::collections::HashMap;
+use std::collections::BTreeMap;
 use std::marker::Model;
 
 // A link of at most this many names has no index: its names are compared one by one.
@@ -16,7 +17,7 @@ const FEW_NAMES: usize = 8;
 #[derive(Debug, Drop)]
 pub struct IndexedLink {
     link: Link,
-    places: Option<HashMap<Text, usize>>,
+    places: Option<BTreeMap<Text, usize>>,
 }
 
 impl Model for IndexedLink {
@@ -75,10 +76,10 @@ fn first_of_few<'a>(name: &Text, names: &'a [LinkName]) -> Option<&'a LinkName>
 
 // The place of the first binding of each name. The names are put in from the last one on, so that of
 // equal names the first stays.
-fn first_places(alloc: Global, names: &[LinkName]) -> Result<HashMap<Text, usize>, AllocError>
+fn first_places(alloc: Global, names: &[LinkName]) -> Result<BTreeMap<Text, usize>, AllocError>
     ensures { IfOk result (LeadsToFirst names.now) }
 {
-    let mut places = HashMap::new(alloc);
+    let mut places = BTreeMap::new(alloc);
     let mut place = names.len();
     while place > 0 {
         place -= 1;

@@ -35,9 +35,9 @@ impl Guesses {
         }
     }
 
-    // Doubles the cells where they are not more than the texts. After an error they are as before.
+    // Doubles the cells where they are not more than twice the texts. After an error they are as before.
     pub(crate) fn make_room(&mut self, texts: usize) -> Result<(), AllocError> {
-        if texts < self.places.len() {
+        if texts.saturating_mul(2) < self.places.len() {
             return Ok(());
         }
         let cells = self.places.len().saturating_mul(2).max(FEWEST);

@@ -9,7 +9,7 @@ use Rattle.unit_text.specs.Points.{code_of}
 use Rattle.unit_text.specs.Units.{code_units, text_units}
 use Rattle.script_scanner.specs.declared.parts.Ending.TheVariants.{Quote, Template}
 use Rattle.script_scanner.specs.declared.numbers.Numeral.{Numeral}
-use Rattle.script_scanner.specs.declared.pieces.Found.{Found}
+use Rattle.script_scanner.specs.declared.pieces.FoundToken.{FoundToken}
 use Rattle.script_scanner.specs.declared.pieces.Content.TheVariants as content
 use Rattle.script_scanner.specs.Marks.{mark_at}
 use Rattle.script_scanner.specs.Names.{is_name_start}
@@ -77,7 +77,7 @@ unfolding token_at
 token_is_mark in_template c codes e f g h i = choice_2 (is_name_start c) _ _ e ∙ choice_2 (is_digit c 10) _ _ f ∙ choice_2 ((c == 0x22) || (c == 0x27)) _ _ g ∙ choice_2 (c == 0x60) _ _ h ∙ choice_2 ((c == 0x7D) && in_template) _ _ i
 
 -- the token of points, by their first
-pub finds_at : (in_template : Bool) (points others : List Point) (first : Point) (o : List ℕ → Option Piece) (found : Option Found) (units : List ℕ) → points ≡ first ∷ others
+pub finds_at : (in_template : Bool) (points others : List Point) (first : Point) (o : List ℕ → Option Piece) (found : Option FoundToken) (units : List ℕ) → points ≡ first ∷ others
     → token_at in_template (first.code ∷ map code_of others) ≡ o (first.code ∷ map code_of others) → FindsPiece (o (map code_of points)) found units → FindsPiece (token_at in_template (map code_of points)) found units
 finds_at in_template points others first o found units split is finds =
     let all : token_at in_template (map code_of points) ≡ o (map code_of points) =

@@ -9,7 +9,7 @@ use Rattle.unit_text.specs.declared.Point.{Point}
 use Rattle.unit_text.specs.Points.{code_of}
 use Rattle.script_scanner.specs.declared.blanks.Blank.{Blank}
 use Rattle.script_scanner.specs.declared.braces.Brace.{Brace}
-use Rattle.script_scanner.specs.declared.pieces.Found.{Found}
+use Rattle.script_scanner.specs.declared.pieces.FoundToken.{FoundToken}
 use Rattle.script_scanner.specs.declared.pieces.Content.{Content}
 use Rattle.script_scanner.specs.declared.pieces.Content.TheVariants as content
 use Rattle.script_scanner.specs.declared.scanning.Scanner.{Scanner}
@@ -164,7 +164,7 @@ moves_blank to rest tokens braces after now texts blank is some breaks = record 
       ∙ rest_some blank.length (others braces now (drop blank.length rest)) some;
 }
 
-moves_piece : (to : ℕ) (rest : List Point) (found : Found) (before now : Scanner) (texts texts_now : List (List ℕ)) (taken : ℕ) (o : Option Piece)
+moves_piece : (to : ℕ) (rest : List Point) (found : FoundToken) (before now : Scanner) (texts texts_now : List (List ℕ)) (taken : ℕ) (o : Option Piece)
     → TakesToken to rest found before now texts texts_now → taken ≡ found.length → 0 < found.length → blank_at (map code_of rest) ≡ None
     → token_at (in_substitution before.braces.items) (map code_of rest) ≡ o → FindsPiece o (Some found) before.units.items
     → Moves to rest before.tokens.items now.tokens.items before.braces.items now.braces.items before.after_line now.after_line texts texts_now taken
@@ -200,7 +200,7 @@ moves_piece to rest found before now texts texts_now taken (Some piece) t took s
     }
 
 -- a token
-pub moves_token : (to : ℕ) (rest : List Point) (found : Found) (before now : Scanner) (texts texts_now : List (List ℕ)) (taken : ℕ)
+pub moves_token : (to : ℕ) (rest : List Point) (found : FoundToken) (before now : Scanner) (texts texts_now : List (List ℕ)) (taken : ℕ)
     → TakesToken to rest found before now texts texts_now → taken ≡ found.length → 0 < found.length → blank_at (map code_of rest) ≡ None
     → FindsPiece (token_at (in_substitution before.braces.items) (map code_of rest)) (Some found) before.units.items
     → Moves to rest before.tokens.items now.tokens.items before.braces.items now.braces.items before.after_line now.after_line texts texts_now taken
@@ -233,10 +233,10 @@ moves_end to rest tokens now braces braces_now after after_now texts units taken
     (moves_none to rest tokens now braces braces_now after after_now texts units (token_at (in_substitution braces) (map code_of rest)) ends bare refl finds)
 
 -- what was found under the braces as the code sees them
-pub finds_under : (in_template : Bool) (braces seen : List Brace) (codes units : List ℕ) (o p : Option Found) → in_template ≡ in_substitution seen → seen ≡ braces → o ≡ p
+pub finds_under : (in_template : Bool) (braces seen : List Brace) (codes units : List ℕ) (o p : Option FoundToken) → in_template ≡ in_substitution seen → seen ≡ braces → o ≡ p
     → FindsPiece (token_at in_template codes) o units → FindsPiece (token_at (in_substitution braces) codes) p units
 finds_under in_template braces seen codes units o p told same is finds =
-    subst (λ (b : Bool). FindsPiece (token_at b codes) p units) (told ∙ ap in_substitution same) (subst (λ (f : Option Found). FindsPiece (token_at in_template codes) f units) is finds)
+    subst (λ (b : Bool). FindsPiece (token_at b codes) p units) (told ∙ ap in_substitution same) (subst (λ (f : Option FoundToken). FindsPiece (token_at in_template codes) f units) is finds)
 
 -- before a step: the tokens so far stand for the first ones, and the rest's follow
 pub record IsScanning (to : ℕ) (text : List Point) (at : ℕ) (tokens : List Token) (braces : List Brace) (after : Bool) (texts now : List (List ℕ)) : Type 0 where

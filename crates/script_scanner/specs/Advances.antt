@@ -4,7 +4,7 @@ use Rattle.parser_atoms.specs.Places.{Interns}
 use Rattle.script_grammar.specs.declared.token.Token.{Token}
 use Rattle.unit_text.specs.declared.Point.{Point}
 use Rattle.script_scanner.specs.declared.braces.Brace.{Brace}
-use Rattle.script_scanner.specs.declared.pieces.Found.{Found}
+use Rattle.script_scanner.specs.declared.pieces.FoundToken.{FoundToken}
 use Rattle.script_scanner.specs.declared.pieces.Content.{Content}
 use Rattle.script_scanner.specs.declared.pieces.Content.TheVariants as content
 use Rattle.script_scanner.specs.declared.scanning.Scanner.{Scanner}
@@ -18,7 +18,7 @@ TakesValue (content.Number n) units before after value = (value ≡ n) × (after
 TakesValue content.Nothing units before after value = (value ≡ 0) × (after ≡ before)
 
 -- The token that was found, with its number and its places, is the last one now, and the braces are those after it.
-pub record TakesToken (to : ℕ) (rest : List Point) (found : Found) (before now : Scanner) (texts texts_now : List (List ℕ)) : Type 0 where
+pub record TakesToken (to : ℕ) (rest : List Point) (found : FoundToken) (before now : Scanner) (texts texts_now : List (List ℕ)) : Type 0 where
   pub token : Token
   pub appended : now.tokens.items ≡ before.tokens.items ++ token ∷ []
   pub kind : token.kind ≡ found.kind

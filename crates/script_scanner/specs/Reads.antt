@@ -1,7 +1,7 @@
 -- What the scanner has read, with the units in its buffer.
 use Rattle.std.specs.Prelude.{◌≡◌, ℕ, List, ⊤, Option, Some, None}
 use Rattle.script_scanner.specs.declared.parts.Extent.{Extent}
-use Rattle.script_scanner.specs.declared.pieces.Found.{Found}
+use Rattle.script_scanner.specs.declared.pieces.FoundToken.{FoundToken}
 use Rattle.script_scanner.specs.declared.pieces.Content.{Content}
 use Rattle.script_scanner.specs.declared.pieces.Content.TheVariants as content
 use Rattle.script_scanner.specs.Parts.{Body}
@@ -27,7 +27,7 @@ HoldsValue Nothing (content.Number n) units = ⊥
 HoldsValue Nothing content.Nothing units = ⊤
 
 -- The token was found, or there is none.
-abbrev pub FindsPiece : Option Piece → Option Found → List ℕ → Type 0
+abbrev pub FindsPiece : Option Piece → Option FoundToken → List ℕ → Type 0
 FindsPiece None None units = ⊤
 FindsPiece None (Some found) units = ⊥
 FindsPiece (Some piece) None units = ⊥

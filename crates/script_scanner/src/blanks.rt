@@ -1,5 +1,5 @@
 //! What stands between tokens: white space, line ends and comments.
-ghost use Rattle.std.specs.Prelude.{◌≡◌, ◌≤◌, ◌<◌, ◌+◌, ℕ, length, map, not, IfSome};
+ghost use Rattle.std.specs.Prelude.{◌≡◌, ◌≢◌, ◌≤◌, ◌<◌, ◌+◌, ℕ, true, length, map, not, IfSome};
 ghost use Rattle.std.specs.List.{prefix_len, list_any};
 ghost use Rattle.unit_text.specs.Points.{code_of};
 ghost use Rattle.script_scanner.specs.Blanks.{begins, blank_at, comment_at, block_comment, is_line_end, is_white_space, line_length, length_to_star_slash, line_end_length, first_line_length};
@@ -153,12 +153,23 @@ fn comment_at(rest: &[Point]) -> Option<Blank>
     }
 }
 
+/// Whether a code point is a visible ASCII character other than `/`. None of these begins a blank, and most tokens begin with one.
+fn is_plain(code: char) -> bool
+    ensures { result ≡ true → (0x21 ≤ code) × (code ≤ 0x7E) × (code ≢ 0x2F) }
+{
+    (('!' <= code) & (code <= '.')) | (('0' <= code) & (code <= '~'))
+}
+
 /// The white space, line end or comment at the front, if there is one.
+#[tactic(auto, using(crate::proofs::BlankLemmas::plain_is_no_blank))]
 pub fn blank_at(rest: &[Point]) -> Option<Blank>
     ensures value { result ≡ blank_at (map code_of rest.now) }
     ensures within { IfSome result (λ blank. (0 < blank.length) × (blank.length ≤ length rest.now)) }
 {
     let (first, _) = rest.split_first()?;
+    if is_plain(first.code) {
+        return None;
+    }
     if is_white_space(first.code) {
         return Some(Blank {
             length: 1,

@@ -101,6 +101,10 @@ pub fn push_code(units: &mut Vec<u16>, code: u32) -> Result<(), AllocError>
     requires { code ≤ 0x10_FFFF }
     ensures { OnOk result (units.new.items ≡ units.old.items ++ code_units code) }
 {
+    if code <= 0xFFFF {
+        units.push(code as u16)?;
+        return Ok(());
+    }
     let (pair, count) = units_of_value(code);
     units.extend_from_slice(&pair[..usize::from(count)])?;
     Ok(())

@@ -31,7 +31,7 @@ pub enum Content {
 
 /// A token at the front of a text.
 #[derive(Clone, Copy, Debug, PartialEq, Eq)]
-pub struct Found {
+pub struct FoundToken {
     /// Its kind.
     pub kind: Kind,
     /// What it has beside its kind.
@@ -61,7 +61,7 @@ fn kind_of_name(word: Option<u8>) -> Kind
 }
 
 /// The name or word at the front.
-fn name_piece(rest: &[Point], units: &mut Vec<u16>) -> Result<Found, AllocError>
+fn name_piece(rest: &[Point], units: &mut Vec<u16>) -> Result<FoundToken, AllocError>
     requires { 0 < length rest.now }
     ensures value { IfOk result (λ found. FindsPiece (Some (name_piece (map code_of rest.now))) (Some found) units.new.items) }
     ensures within { IfOk result (λ found. (0 < found.length) × (found.length ≤ length rest.now)) }
@@ -69,7 +69,7 @@ fn name_piece(rest: &[Point], units: &mut Vec<u16>) -> Result<Found, AllocError>
     let length = name_length(rest);
     units.clear();
     push_points(units, front(rest, length))?;
-    Ok(Found {
+    Ok(FoundToken {
         kind: kind_of_name(word_at(units.as_slice())),
         content: Content::Units,
         length,
@@ -77,7 +77,7 @@ fn name_piece(rest: &[Point], units: &mut Vec<u16>) -> Result<Found, AllocError>
 }
 
 /// The number at the front, where digits begin.
-fn number_piece(rest: &[Point]) -> Option<Found>
+fn number_piece(rest: &[Point]) -> Option<FoundToken>
     requires { 0 < length rest.now }
     ensures value { (units : List ℕ) → FindsPiece (number_piece (numeral_at (map code_of rest.now)) (map code_of rest.now)) result units }
     ensures within { IfSome result (λ found. (0 < found.length) × (found.length ≤ length rest.now)) }
@@ -88,7 +88,7 @@ fn number_piece(rest: &[Point]) -> Option<Found>
     }
     match numeral.value {
         None => None,
-        Some(value) => Some(Found {
+        Some(value) => Some(FoundToken {
             kind: Kind::Number,
             content: Content::Number(value),
             length: numeral.length,
@@ -101,13 +101,13 @@ fn string_piece(
     quote: char,
     others: &[Point],
     units: &mut Vec<u16>,
-) -> Result<Option<Found>, AllocError>
+) -> Result<Option<FoundToken>, AllocError>
     ensures value { IfOk result (λ found. FindsPiece (string_piece (body_of (Ending.Quote quote) (map code_of others.now))) found units.new.items) }
     ensures within { IfOk result (λ o. IfSome o (λ found. (0 < found.length) × (found.length ≤ 1 + length others.now))) }
 {
     match read_body(Ending::Quote(quote), others, units)? {
         None => Ok(None),
-        Some(extent) => Ok(Some(Found {
+        Some(extent) => Ok(Some(FoundToken {
             kind: Kind::Str,
             content: Content::Units,
             length: 1 + extent.inner + extent.closing,
@@ -121,13 +121,13 @@ fn template_piece(
     head: Kind,
     others: &[Point],
     units: &mut Vec<u16>,
-) -> Result<Option<Found>, AllocError>
+) -> Result<Option<FoundToken>, AllocError>
     ensures value { IfOk result (λ found. FindsPiece (template_piece whole head (body_of Ending.Template (map code_of others.now))) found units.new.items) }
     ensures within { IfOk result (λ o. IfSome o (λ found. (0 < found.length) × (found.length ≤ 1 + length others.now))) }
 {
     match read_body(Ending::Template, others, units)? {
         None => Ok(None),
-        Some(extent) => Ok(Some(Found {
+        Some(extent) => Ok(Some(FoundToken {
             kind: if extent.closing == 1 { whole } else { head },
             content: Content::Units,
             length: 1 + extent.inner + extent.closing,
@@ -136,13 +136,13 @@ fn template_piece(
 }
 
 /// The mark at the front.
-fn mark_piece(rest: &[Point]) -> Option<Found>
+fn mark_piece(rest: &[Point]) -> Option<FoundToken>
     ensures value { (units : List ℕ) → FindsPiece (mark_piece (mark_at (map code_of rest.now))) result units }
     ensures within { IfSome result (λ found. (0 < found.length) × (found.length ≤ length rest.now)) }
 {
     match mark_at(rest) {
         None => None,
-        Some(sign) => Some(Found {
+        Some(sign) => Some(FoundToken {
             kind: Kind::Mark(sign.mark),
             content: Content::Nothing,
             length: sign.length,
@@ -155,7 +155,7 @@ pub fn token_at(
     rest: &[Point],
     in_template: bool,
     units: &mut Vec<u16>,
-) -> Result<Option<Found>, AllocError>
+) -> Result<Option<FoundToken>, AllocError>
     ensures value { IfOk result (λ found. FindsPiece (token_at in_template (map code_of rest.now)) found units.new.items) }
     ensures within { IfOk result (λ o. IfSome o (λ found. (0 < found.length) × (found.length ≤ length rest.now))) }
 {

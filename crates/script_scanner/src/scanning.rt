@@ -10,7 +10,7 @@ ghost use Rattle.script_scanner.specs.Advances.{Advances, TakesValue, TakesToken
 
 use crate::blanks::{blank_at, first_line_length};
 use crate::braces::Brace;
-use crate::pieces::{Content, Found, token_at};
+use crate::pieces::{Content, FoundToken, token_at};
 use crate::points::{behind, front};
 use parser_atoms::Atoms;
 use script_grammar::token::{Kind, Token, mark};
@@ -146,7 +146,7 @@ impl Scanner {
     fn take(
         &mut self,
         alloc: Global,
-        found: Found,
+        found: FoundToken,
         rest: &[Point],
         to: u32,
         atoms: &mut Atoms,

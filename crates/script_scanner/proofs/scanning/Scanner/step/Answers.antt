@@ -1,7 +1,7 @@
 use Rattle.std.proofs.Common.{◌<◌, ◌≤◌, length, ◌∙◌, sym, refl, subst}
 use Rattle.std.specs.Prelude.{Option, map, IfSome}
 use Rattle.unit_text.specs.Points.{code_of}
-use Rattle.script_scanner.specs.declared.pieces.Found.{Found}
+use Rattle.script_scanner.specs.declared.pieces.FoundToken.{FoundToken}
 use Rattle.script_scanner.proofs.ScanLemmas.{moves_blank, moves_token, moves_end, finds_under}
 use Rattle.script_scanner.proofs.scanning.Scanner.step.Goals as goal
 
@@ -12,7 +12,7 @@ returns-in-Some-clause-value c =
 
 pub returns-in_ok-taken-in-Some-2-clause-value : goal.returns-in_ok-taken-in-Some-2-clause-value
 returns-in_ok-taken-in-Some-2-clause-value c =
-    let fits : 0 < c.in-Some-2.found.length = (subst (λ (o : Option Found). IfSome o (λ found. (0 < found.length) × (found.length ≤ length c.args.rest.now))) c.in-Some-2.is c.in_ok-found-in-None.ensures.within).0 in
+    let fits : 0 < c.in-Some-2.found.length = (subst (λ (o : Option FoundToken). IfSome o (λ found. (0 < found.length) × (found.length ≤ length c.args.rest.now))) c.in-Some-2.is c.in_ok-found-in-None.ensures.within).0 in
     moves_token c.args.to c.args.rest.now c.in-Some-2.found _ c.take.new.self c.args.atoms.now c.take.new.atoms c.in_ok-taken-in-Some-2.taken
     c.in_ok-taken-in-Some-2.ensures.value c.in_ok-taken-in-Some-2.ensures.taken fits (sym c.blank_at.ensures.value ∙ c.in-None.is)
     (finds_under c.in_substitution.result c.args.self.now.braces.items c.as_slice.result.now (map code_of c.args.rest.now) c.token_at.new.units.items _ _

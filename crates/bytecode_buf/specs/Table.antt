@@ -6,18 +6,18 @@ use Rattle.bytecode_buf.specs.declared.opcode.Shape.{Shape}
 use Rattle.bytecode_buf.specs.declared.opcode.Shape.TheVariants as shape
 use Rattle.bytecode_buf.specs.declared.opcode.Count.{Count}
 use Rattle.bytecode_buf.specs.declared.opcode.Count.TheVariants as count
-use Rattle.bytecode_buf.specs.declared.opcode.Row.{Row}
+use Rattle.bytecode_buf.specs.declared.opcode.OpRow.{OpRow}
 use Rattle.bytecode_buf.specs.declared.opcode.TheConstants.{OPS}
 
 -- the opcode of a byte: the table in order
 abbrev pub op_at : ℕ → Option Op
 op_at byte = slice_get OPS byte
 
-abbrev pub row : Shape → Count → Count → Row
+abbrev pub row : Shape → Count → Count → OpRow
 row operand pops pushes = record { shape = operand; pops = pops; pushes = pushes }
 
 -- what stands after the byte, what is taken from the stack, what is given
-abbrev pub row_of : Op → Row
+abbrev pub row_of : Op → OpRow
 row_of op.Undefined = row shape.Nothing (count.Fixed 0) (count.Fixed 1)
 row_of op.Null = row shape.Nothing (count.Fixed 0) (count.Fixed 1)
 row_of op.False = row shape.Nothing (count.Fixed 0) (count.Fixed 1)

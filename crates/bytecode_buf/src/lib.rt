@@ -18,5 +18,5 @@ mod waits;
 
 pub use buffer::CodeBuf;
 pub use instruction::{Instr, decode_at, renumber};
-pub use opcode::{Count, OPS, Op, Row, Shape};
+pub use opcode::{Count, OPS, Op, OpRow, Shape};
 pub use waits::{Aim, Wait, jump_to, land, target, turn};

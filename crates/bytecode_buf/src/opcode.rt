@@ -175,7 +175,7 @@ pub enum Count {
 
 /// An opcode's row of the table.
 #[derive(Clone, Copy)]
-pub struct Row {
+pub struct OpRow {
     pub shape: Shape,
     pub pops: Count,
     pub pushes: Count,
@@ -311,10 +311,10 @@ fn entry(table: &[Op], byte: u8) -> Option<Op>
     table.get(usize::from(byte)).copied()
 }
 
-fn make_row(shape: Shape, pops: Count, pushes: Count) -> Row
+fn make_row(shape: Shape, pops: Count, pushes: Count) -> OpRow
     ensures { result ≡ record { shape = shape; pops = pops; pushes = pushes } }
 {
-    Row {
+    OpRow {
         shape,
         pops,
         pushes,
@@ -405,7 +405,7 @@ impl Op {
     }
 
     /// The opcode's row: its operand, and what it takes from the stack and gives.
-    pub fn row(self) -> Row
+    pub fn row(self) -> OpRow
         ensures { result ≡ row_of self }
     {
         match self {

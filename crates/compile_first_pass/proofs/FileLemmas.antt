@@ -8,7 +8,7 @@ use Rattle.script_grammar.specs.Pieces.{whole}
 use Rattle.script_grammar.specs.Tree.{Stmts}
 use Rattle.grammar_start_laws.specs.Own.{TokensRise}
 use Rattle.script_scanner.specs.Lexemes.{lexemes}
-use Rattle.parse_track.specs.declared.region.Known.{Known}
+use Rattle.parse_track.specs.declared.region.WellKnownAtoms.{WellKnownAtoms}
 use Rattle.track_atoms.specs.Known.{HasWords}
 use Rattle.parse_bodies.specs.Whole.{IsText}
 use Rattle.parse_script.specs.declared.file_tokens.FileTokens.{FileTokens}
@@ -50,7 +50,7 @@ pub names_of_text : (file : FileTokens) (items : Stmts) → IsSound file → (te
 names_of_text file items sound text = names_front text.inner (text.end ∷ []) (subst NamesAreFull text.split sound.names)
 
 -- of the known words, those that errors ask for
-pub knows_of : (texts : List (List ℕ)) (known : Known) → HasWords texts known → Knows texts known
+pub knows_of : (texts : List (List ℕ)) (known : WellKnownAtoms) → HasWords texts known → Knows texts known
 knows_of texts known h = record { eval = h.eval; arguments = h.arguments; this = h.this; proto = h.proto; strict = h.strict }
 
 -- the tree is that of a script of the file

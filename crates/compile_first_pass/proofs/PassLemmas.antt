@@ -32,7 +32,7 @@ use Rattle.early_apart_laws.specs.Notes.{bodies_notes}
 use Rattle.early_apart_laws.proofs.Apart.{notes_apart}
 use Rattle.early_apart_laws.proofs.Sooner.{first_note-append}
 use Rattle.parse_function_list.specs.declared.list.FoundBody.{FoundBody}
-use Rattle.parse_function_list.specs.declared.list.FoundFunction.{FoundFunction}
+use Rattle.parse_function_list.specs.declared.list.ListedFunction.{ListedFunction}
 use Rattle.parse_function_list.specs.declared.list.ScriptFunctions.{ScriptFunctions}
 use Rattle.parse_function_list.specs.Placed.{Placed, AllPlaced, no_placed, more_placed, ArePlaced, placed_of}
 use Rattle.parse_function_list.specs.Strict.{HasStrict}
@@ -74,7 +74,7 @@ placed_count around place at inner ps (more_placed _ _ _ f rest inside after a b
     subst (λ (n : ℕ). Counts (f ∷ rest) n) (let e = length-append inside after in omega (arith, e))
     (more_functions f rest (length inside) (length after) (placed_count _ _ _ _ inside a) (placed_count _ _ _ _ after b))
 
-pub found_count : (i : Interpretation) (found : List FoundFunction) (items : Stmts) → ArePlaced i found (inner_script items) → HasFunctions items (length found)
+pub found_count : (i : Interpretation) (found : List ListedFunction) (items : Stmts) → ArePlaced i found (inner_script items) → HasFunctions items (length found)
 found_count i found items h =
     subst (λ (n : ℕ). HasFunctions items n) (sym (ap length h.2) ∙ length-map found (placed_of i)) (placed_count 0 0 1 (inner_script items) h.0 h.1)
 
@@ -158,7 +158,7 @@ module _ (file : FileTokens) (script : SkimmedScript) (items : Stmts) (sound : I
     pub early_at : (early : Option Early) (e : Early) → early ≡ early_error items → early ≡ Some e → ErrorAt bytes e
     early_at early e found is = record { items = items; read = script_read file (length bytes) bytes items tokens h.text; first = sym found ∙ is }
 
-    pub valid : (early : Option Early) (functions : List FoundFunction) → early ≡ early_error items → early ≡ None → ArePlaced (own texts items) functions (inner_script items) → IsValid bytes items (length functions)
+    pub valid : (early : Option Early) (functions : List ListedFunction) → early ≡ early_error items → early ≡ None → ArePlaced (own texts items) functions (inner_script items) → IsValid bytes items (length functions)
     valid early functions found none placed = record {
       read = script_read file (length bytes) bytes items tokens h.text;
       faultless = sym found ∙ none;

@@ -12,7 +12,7 @@ use crate::skim::{SkimmedScript, Skims, skim};
 use early_script_errors::check_told;
 use parse_early_handler::early::{first_of_bodies, sooner};
 use parse_exprs::place::ParseFault;
-use parse_function_list::{FoundFunction, functions_of};
+use parse_function_list::{ListedFunction, functions_of};
 use parse_script::{FileTokens, read_script, tokens_of};
 use parse_track::region::ClosedAt;
 use script_grammar::token::Token;
@@ -25,7 +25,7 @@ pub struct SyntaxScript {
     /// The tokens of its file.
     pub file: FileTokens,
     /// Its functions in order of number, from 1.
-    pub functions: Vec<FoundFunction>,
+    pub functions: Vec<ListedFunction>,
     /// The names that inner functions close over.
     pub closed: Vec<ClosedAt>,
 }

@@ -32,7 +32,7 @@ use Rattle.compile_function.proofs.Atoms.{name_within, closed_within}
 use Rattle.compile_function.proofs.Shown.{same_closed}
 use Rattle.compile_numbers.specs.Sorted.{NamesView, AreSorted, names_in}
 use Rattle.compile_numbers.proofs.Sorting.{closed_inside}
-use Rattle.parse_function_list.specs.declared.list.FoundFunction.{FoundFunction}
+use Rattle.parse_function_list.specs.declared.list.ListedFunction.{ListedFunction}
 use Rattle.parse_function_list.specs.Placed.{Brief, brief_of, directly_in, placed_of}
 use Rattle.parse_function_list.specs.Placed as placed
 use Rattle.compile_site_laws.specs.Around.{IsPlacedAt}
@@ -60,19 +60,19 @@ part_starts (s ∷ all) = ap₂ (λ (n : ℕ) (ns : List ℕ). n ∷ ns) (start_
 -- ---- a function that was found is the one at the site
 
 -- it is listed as this one is
-abbrev pub IsListed : Interpretation → FoundFunction → Inner → Type 0
+abbrev pub IsListed : Interpretation → ListedFunction → Inner → Type 0
 IsListed i f inner = (placed_of i f).brief ≡ brief_of inner
 
-extent_listed : (i : Interpretation) (f : FoundFunction) (inner : Inner) → IsListed i f inner → f.extent ≡ emitted.extent_of inner.func
+extent_listed : (i : Interpretation) (f : ListedFunction) (inner : Inner) → IsListed i f inner → f.extent ≡ emitted.extent_of inner.func
 extent_listed i f inner is = ap (λ (b : Brief). b.extent) is ∙ extent_same inner.func
 
-start_listed : (i : Interpretation) (f : FoundFunction) (inner : Inner) → IsListed i f inner → f.extent.start ≡ start_of inner.func
+start_listed : (i : Interpretation) (f : ListedFunction) (inner : Inner) → IsListed i f inner → f.extent.start ≡ start_of inner.func
 start_listed i f inner is = ap (λ (e : Extent). e.start) (extent_listed i f inner is) ∙ start_same inner.func
 
-inner_listed : (i : Interpretation) (f : FoundFunction) (inner : Inner) → IsListed i f inner → f.inner.items ≡ emitted.extents_of (directly_in inner)
+inner_listed : (i : Interpretation) (f : ListedFunction) (inner : Inner) → IsListed i f inner → f.inner.items ≡ emitted.extents_of (directly_in inner)
 inner_listed i f inner is = ap (λ (b : Brief). b.inner) is ∙ extents_same (directly_in inner)
 
-pub starts_listed : (top : List (List LinkView)) (all : List Site) (i : Interpretation) (found : List FoundFunction) (some : List Site) → ShowAll (IsPlacedAt top all) (map (placed_of i) found) some → map start_at found ≡ site_starts some
+pub starts_listed : (top : List (List LinkView)) (all : List Site) (i : Interpretation) (found : List ListedFunction) (some : List Site) → ShowAll (IsPlacedAt top all) (map (placed_of i) found) some → map start_at found ≡ site_starts some
 starts_listed top all i [] [] h = refl
 starts_listed top all i [] (s ∷ some) h = absurd h
 starts_listed top all i (f ∷ found) [] h = absurd h
@@ -93,7 +93,7 @@ fields : (extent extent' : Extent) (kind kind' : FuncKind) (name name' : Option 
 fields extent extent' kind kind' name name' inner inner' closed closed' a b c d e = cc
 
 module _ (texts : List (List ℕ)) (i : Interpretation) (ats : List ClosedAt) (closed : NamesView) (items : Stmts) (k : Knows texts i ats closed items) (starts : List ℕ) where
-  module _ (f : FoundFunction) (s : Site) (is : IsListed i f s.inner) (at : IsFunctionAt items s) where
+  module _ (f : ListedFunction) (s : Site) (is : IsListed i f s.inner) (at : IsFunctionAt items s) where
     full : FullFunction s.inner
     full = k.full.inside s.inner at.of
 
@@ -121,7 +121,7 @@ module _ (texts : List (List ℕ)) (i : Interpretation) (ats : List ClosedAt) (c
           (names_bound ∙ ap (shown.closed_of (closed_names items)) (ap (λ (e : Extent). e.start) (extent_listed i f s.inner is)));
     }
 
-  pub records_stand : (top : List (List LinkView)) (all : List Site) (found : List FoundFunction) (some : List Site) → ShowAll (IsPlacedAt top all) (map (placed_of i) found) some → AllOf (IsFunctionAt items) some
+  pub records_stand : (top : List (List LinkView)) (all : List Site) (found : List ListedFunction) (some : List Site) → ShowAll (IsPlacedAt top all) (map (placed_of i) found) some → AllOf (IsFunctionAt items) some
       → RecordsStandFor texts (map (record_at starts closed) found) (map (record_of starts (closed_names items)) (map (λ (s : Site). (compiled_at s).part) some))
   records_stand top all [] [] h at = record { within = tt; are = refl }
   records_stand top all [] (s ∷ some) h at = absurd h

@@ -51,14 +51,14 @@ use Rattle.compile_function.specs.Sites.{IsFunctionAt}
 use Rattle.compile_numbers.specs.Sorted.{NamesView, AreSorted}
 use Rattle.compile_script.specs.Compiling.{CanBeCompiled, IsCompiledScript}
 use Rattle.scope_inner.specs.declared.sites.FunctionSite.{FunctionSite}
-use Rattle.parse_function_list.specs.declared.list.FoundFunction.{FoundFunction}
+use Rattle.parse_function_list.specs.declared.list.ListedFunction.{ListedFunction}
 use Rattle.parse_function_list.specs.Placed.{Placed, placed_of}
 use Rattle.compile_first_pass.specs.declared.pass.SyntaxScript.{SyntaxScript}
 use Rattle.compile_first_pass.specs.Passes.{IsSyntaxOf}
 use Rattle.compile_site_laws.specs.Around.{IsPlacedAt}
 use Rattle.compile_site_laws.proofs.Sites.{PlacedSites, placed_sites}
 use Rattle.compile_site_laws.proofs.Standing.{all_at}
-use Rattle.compile_initial.specs.declared.Around.{Around}
+use Rattle.compile_initial.specs.declared.Nesting.{Nesting}
 use Rattle.compile_initial.specs.declared.InitialStencil.{InitialStencil}
 use Rattle.compile_initial.specs.Initial.{AreAround, HasTextsOf, IsInitialOf}
 use Rattle.compile_initial.specs.Records.{HaveNumbers, start_at, record_at, around_at}
@@ -77,9 +77,9 @@ others_front [] us h = tt
 others_front (t ∷ ts) us h = (h.0, others_front ts us h.1)
 
 -- the records of functions as they were seen
-pub records_seen : (seen found : List FoundFunction) (closed : NamesView) (records : List RecordView) → seen ≡ found → (HaveNumbers (map start_at seen) → records ≡ map (record_at (map start_at seen) closed) seen)
+pub records_seen : (seen found : List ListedFunction) (closed : NamesView) (records : List RecordView) → seen ≡ found → (HaveNumbers (map start_at seen) → records ≡ map (record_at (map start_at seen) closed) seen)
     → HaveNumbers (map start_at found) → records ≡ map (record_at (map start_at found) closed) found
-records_seen seen found closed records same h = subst (λ (fs : List FoundFunction). HaveNumbers (map start_at fs) → records ≡ map (record_at (map start_at fs) closed) fs) same h
+records_seen seen found closed records same h = subst (λ (fs : List ListedFunction). HaveNumbers (map start_at fs) → records ≡ map (record_at (map start_at fs) closed) fs) same h
 
 module _ (bytes : List ℕ) (script : SyntaxScript) (is : IsSyntaxOf bytes script) where
   abbrev pub texts : List (List ℕ)
@@ -149,7 +149,7 @@ module _ (bytes : List ℕ) (script : SyntaxScript) (is : IsSyntaxOf bytes scrip
 
   -- ---- its functions
 
-  abbrev pub found : List FoundFunction
+  abbrev pub found : List ListedFunction
   found = script.functions.items
 
   abbrev pub top_chains : List (List LinkView)
@@ -216,7 +216,7 @@ module _ (bytes : List ℕ) (script : SyntaxScript) (is : IsSyntaxOf bytes scrip
           records = subst (λ (ts : List (List ℕ)). RecordsStandFor ts made.parts.records named_records) (sym texts_are) (subst (λ (rs : List RecordView). RecordsStandFor texts rs named_records) (sym kept) (records_are closed sorted));
         };
         chains = chains ∙ top.chains_are;
-        around = subst (λ (as_ : List Around). AreAround is.items (length bytes) as_ sited.all) (sym around) (all_around top_chains sited.all i 1 found sited.all after held listed);
+        around = subst (λ (as_ : List Nesting). AreAround is.items (length bytes) as_ sited.all) (sym around) (all_around top_chains sited.all i 1 found sited.all after held listed);
         few = subst (λ (ts : List (List ℕ)). length ts < 2 ^ 31) (sym texts_are) is.sound.few;
         apart = subst AreWithoutEquals (sym texts_are) is.sound.apart;
         texts = subst (HasTextsOf bytes) (sym texts_are) (record {

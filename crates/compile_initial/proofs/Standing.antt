@@ -5,7 +5,7 @@ use Rattle.script_grammar.specs.Shows.{ShowAll}
 use Rattle.stencil_data.specs.LinkView.{LinkView}
 use Rattle.scope_analysis.specs.Functions.{Inner}
 use Rattle.compile_specs.specs.Eager.{Site}
-use Rattle.parse_function_list.specs.declared.list.FoundFunction.{FoundFunction}
+use Rattle.parse_function_list.specs.declared.list.ListedFunction.{ListedFunction}
 use Rattle.parse_function_list.specs.Placed.{Placed, AllPlaced, no_placed, more_placed, directly_in, placed_of}
 use Rattle.compile_site_laws.specs.Around.{IsPlacedAt}
 use Rattle.compile_initial.specs.Initial.{AllAround}
@@ -26,7 +26,7 @@ all_after around place at fs ps (no_placed _ _ _) lt = tt
 all_after around place at fs ps (more_placed _ _ _ f rest inside after h k) lt =
     (lt, after_both (suc at) inside after (all_after at 0 (suc at) (directly_in f) inside h (omega arith)) (all_after around (suc place) (suc at + length inside) rest after k (omega (arith, lt))))
 
-pub all_around : (top : List (List LinkView)) (all : List Site) (i : Interpretation) (number : ℕ) (found : List FoundFunction) (some : List Site) → AllAfter number (map (placed_of i) found)
+pub all_around : (top : List (List LinkView)) (all : List Site) (i : Interpretation) (number : ℕ) (found : List ListedFunction) (some : List Site) → AllAfter number (map (placed_of i) found)
     → ShowAll (IsInsideAt all) (map (placed_of i) found) some → ShowAll (IsPlacedAt top all) (map (placed_of i) found) some → AllAround top all number (map around_at found) some
 all_around top all i number [] [] h inside k = tt
 all_around top all i number [] (s ∷ some) h inside k = absurd k

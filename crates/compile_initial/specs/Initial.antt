@@ -19,7 +19,7 @@ use Rattle.compile_specs.specs.Eager.{Site, AreFunctions, compiled_at}
 use Rattle.compile_specs.specs.Shown as shown
 use Rattle.session_specs.specs.Sources.{IsValid}
 use Rattle.compile_site_laws.specs.Around.{HandsDown}
-use Rattle.compile_initial.specs.declared.Around.{Around}
+use Rattle.compile_initial.specs.declared.Nesting.{Nesting}
 use Rattle.compile_initial.specs.declared.InitialStencil.{InitialStencil}
 
 -- The function stands at this place directly in the one of this number. Where the number is 0, nothing is said.
@@ -28,20 +28,20 @@ StandsInside all zero place f = Unit {0}
 StandsInside all (suc n) place f = (outer : Site) × (slice_get all n ≡ Some outer) × (slice_get (inner_function outer.inner.kind outer.inner.name outer.inner.func) place ≡ Some f)
 
 -- The function of this number stands directly in the one around it, whose number is smaller, and gets its chain from there.
-pub record IsAround (top : List (List LinkView)) (all : List Site) (number : ℕ) (a : Around) (s : Site) : Type 0 where
+pub record IsAround (top : List (List LinkView)) (all : List Site) (number : ℕ) (a : Nesting) (s : Site) : Type 0 where
   pub before : a.number < number
   pub inside : StandsInside all a.number a.place s.inner
   pub chain : HandsDown top all a.number a.place s.chain
 
 -- one for one, those of these numbers on
-abbrev pub AllAround : List (List LinkView) → List Site → (number : ℕ) → List Around → List Site → Type 0
+abbrev pub AllAround : List (List LinkView) → List Site → (number : ℕ) → List Nesting → List Site → Type 0
 AllAround top all number [] [] = Unit {0}
 AllAround top all number [] (s ∷ ss) = ⊥
 AllAround top all number (a ∷ around) [] = ⊥
 AllAround top all number (a ∷ around) (s ∷ ss) = IsAround top all number a s × AllAround top all (suc number) around ss
 
 -- all functions of a script of n bytes, in order of number, from 1
-abbrev pub AreAround : Stmts → (end : ℕ) → List Around → List Site → Type 0
+abbrev pub AreAround : Stmts → (end : ℕ) → List Nesting → List Site → Type 0
 AreAround items end around all = AllAround (top_script items end).chains all 1 around all
 
 -- Every text that a token of these bytes has, and every known word, is among the texts.

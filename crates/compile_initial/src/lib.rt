@@ -29,7 +29,7 @@ use stencil_data::{Chain, InitialParts};
 
 /// Where a function stands.
 #[derive(Clone, Copy, Debug)]
-pub struct Around {
+pub struct Nesting {
     /// The number of the function around it, from 1; 0 where it stands directly in the script.
     pub number: usize,
     /// Its place among the functions directly there, from 0.
@@ -43,7 +43,7 @@ pub struct InitialStencil {
     /// The chain of the scopes around each function directly in the script, in the order of the source.
     pub chains: Vec<Chain>,
     /// Where each function stands, in order of number, from 1.
-    pub around: Vec<Around>,
+    pub around: Vec<Nesting>,
 }
 
 /// What a script that was read without trees, of a file of n bytes, is before any of its functions is compiled. Takes time

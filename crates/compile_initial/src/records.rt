@@ -3,14 +3,14 @@
 ghost use Rattle.std.specs.Prelude.{◌≡◌, map, IfOk};
 ghost use Rattle.compile_initial.specs.Records.{AreRecordsOf, HaveNumbers, around_at, record_at, start_at};
 
-use crate::Around;
+use crate::Nesting;
 use compile_numbers::{ClosedNames, numbers_of};
-use parse_function_list::FoundFunction;
+use parse_function_list::ListedFunction;
 use std::alloc::{AllocError, Global};
 use stencil_data::LazyRecord;
 
 /// Where functions start.
-fn starts_of(alloc: Global, functions: &[FoundFunction]) -> Result<Vec<u32>, AllocError>
+fn starts_of(alloc: Global, functions: &[ListedFunction]) -> Result<Vec<u32>, AllocError>
     ensures { IfOk result (λ starts. starts.items ≡ map start_at functions.now) }
 {
     let mut starts = Vec::new(alloc);
@@ -25,7 +25,7 @@ fn record_of(
     alloc: Global,
     starts: &[u32],
     closed: &ClosedNames,
-    function: &FoundFunction,
+    function: &ListedFunction,
 ) -> Result<LazyRecord, AllocError>
     ensures { IfOk result (λ lazy. HaveNumbers starts.now → lazy ≡ record_at starts.now closed.now function.now) }
 {
@@ -41,7 +41,7 @@ fn record_of(
 /// The records of all functions of a script, in order of number, where these are its closed names.
 pub(crate) fn records_of(
     alloc: Global,
-    functions: &[FoundFunction],
+    functions: &[ListedFunction],
     closed: &ClosedNames,
 ) -> Result<Vec<LazyRecord>, AllocError>
     ensures { IfOk result (λ records. AreRecordsOf closed.now functions.now records.items) }
@@ -57,13 +57,13 @@ pub(crate) fn records_of(
 /// Where each function stands.
 pub(crate) fn around_of(
     alloc: Global,
-    functions: &[FoundFunction],
-) -> Result<Vec<Around>, AllocError>
+    functions: &[ListedFunction],
+) -> Result<Vec<Nesting>, AllocError>
     ensures { IfOk result (λ around. around.items ≡ map around_at functions.now) }
 {
     let mut around = Vec::new(alloc);
     for function in functions {
-        around.push(Around {
+        around.push(Nesting {
             number: function.around,
             place: function.place,
         })?;

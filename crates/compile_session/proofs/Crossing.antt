@@ -17,7 +17,7 @@ use Rattle.std.proofs.alloc.Global.TheSendSync as global
 use Rattle.std.below.std_heap.proofs.GlobalAllocator.TheSendSync as frees
 use Rattle.std.proofs.option.Option.TheSendSync as option
 use Rattle.stencil_data.proofs.stencils.InitialParts.TheSendSync as parts
-use Rattle.compile_initial.proofs.Around.TheSendSync as around
+use Rattle.compile_initial.proofs.Nesting.TheSendSync as around
 use Rattle.compile_initial.specs.contracts.InitialStencil as initial
 use Rattle.session_words.proofs.options.FileJob.TheSendSync as job
 use Rattle.compile_session.proofs.refusal.Refusal.TheSendSync as refusal

@@ -7,7 +7,7 @@ use Rattle.script_grammar.specs.Interpretation.{Interpretation, text_of}
 use Rattle.script_grammar.specs.Shows.{ShowAll}
 use Rattle.script_grammar.specs.Tree.{Stmts}
 use Rattle.parse_track.specs.declared.region.Early.{Early}
-use Rattle.parse_track.specs.declared.region.Known.{Known}
+use Rattle.parse_track.specs.declared.region.WellKnownAtoms.{WellKnownAtoms}
 use Rattle.parse_track.specs.ClosedNames.{Bound, closed}
 use Rattle.parse_track.specs.Counted.{function_count, counted}
 use Rattle.parse_track.specs.EarlyErrors.{first_error}
@@ -26,7 +26,7 @@ use Rattle.early_script_errors.specs.Told.{own, IsOf, IsTold, IsTrackOf}
 use Rattle.early_script_errors.proofs.Words.{knows_this, knows_names}
 
 -- a track with these known words that was told nothing
-abbrev pub empty : Known → Log
+abbrev pub empty : WellKnownAtoms → Log
 empty known = record { known = known; parts = []; present = None; noted = None }
 
 -- The track that was told, and its log at the end, with the first error that looks at no region.
@@ -55,7 +55,7 @@ module _ (track last : Log) (first : Option Early) (is : last ≡ record track {
       ∙ track-closed_names texts (record track { noted = first }) items (tells texts items h)
 
 -- A track that pieces told is one that was told their script. The bodies at hand stand in reverse, the next one last.
-pub told_track : (texts : List (List ℕ)) (known : Known) (items : Stmts) (top : Piece) (bodies hand : List Piece) (first : Option Early) (old new : Log)
+pub told_track : (texts : List (List ℕ)) (known : WellKnownAtoms) (items : Stmts) (top : Piece) (bodies hand : List Piece) (first : Option Early) (old new : Log)
     → old ≡ empty known → new.known ≡ old.known → hand ≡ reverse bodies
     → ((i : Interpretation) (ss : Stmts) → KnowsThis i old → SaysBody i top ss → ShowAll (SaysBody i) (reverse hand) (braced_all ss) → logged (tells_script ss) (log_text i old) ≡ log_text i new)
     → IsOf texts known items → IsTold texts top bodies first items → IsTrackOf texts new first items
@@ -63,10 +63,10 @@ told_track texts known items top bodies hand first old new begun kept reversed t
     let i : Interpretation = own texts items in
     let same : old.known ≡ known = ap (λ (l : Log). l.known) begun in
     record {
-      of = subst (λ (k : Known). IsOf texts k items) (sym (kept ∙ same)) of;
+      of = subst (λ (k : WellKnownAtoms). IsOf texts k items) (sym (kept ∙ same)) of;
       told =
           ap (λ (l : Log). logged (tells_script items) (log_text i l)) (sym begun)
-          ∙ tells i items (subst (λ (k : Known). text_of i k.this ≡ codes ".this") (sym same) (knows_this i known of.knows)) told.script
+          ∙ tells i items (subst (λ (k : WellKnownAtoms). text_of i k.this ≡ codes ".this") (sym same) (knows_this i known of.knows)) told.script
           (subst (λ (ps : List Piece). ShowAll (SaysBody i) ps (braced_all items)) (sym (ap reverse reversed ∙ reverse-reverse bodies)) told.braced);
       noted = told.noted;
     }

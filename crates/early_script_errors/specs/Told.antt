@@ -10,7 +10,7 @@ use Rattle.script_grammar.specs.Tree.{Stmts}
 use Rattle.grammar_start_laws.specs.Own.{TokensRise, stmts_at}
 use Rattle.grammar_start_laws.specs.Started.{started_stmts}
 use Rattle.parse_track.specs.declared.region.Early.{Early}
-use Rattle.parse_track.specs.declared.region.Known.{Known}
+use Rattle.parse_track.specs.declared.region.WellKnownAtoms.{WellKnownAtoms}
 use Rattle.parse_track.specs.Log.{Log}
 use Rattle.parse_track.specs.Notes.{first_note, notes_stmts}
 use Rattle.parse_track.specs.Tells.{tells_script}
@@ -20,7 +20,7 @@ use Rattle.parse_track_handler.specs.declared.piece.Piece.{Piece}
 use Rattle.parse_track_handler.specs.Says.{SaysBody}
 
 -- the known words, by their atoms
-pub record Knows (texts : List (List ℕ)) (known : Known) : Type 0 where
+pub record Knows (texts : List (List ℕ)) (known : WellKnownAtoms) : Type 0 where
   pub eval : slice_get texts known.eval ≡ Some (codes "eval")
   pub arguments : slice_get texts known.arguments ≡ Some (codes "arguments")
   pub this : slice_get texts known.this ≡ Some (codes ".this")
@@ -29,7 +29,7 @@ pub record Knows (texts : List (List ℕ)) (known : Known) : Type 0 where
 
 -- This is the tree of a script, whose tokens start at rising offsets and have no empty names, and the texts that its atoms
 -- index have no equals.
-pub record IsOf (texts : List (List ℕ)) (known : Known) (items : Stmts) : Type 0 where
+pub record IsOf (texts : List (List ℕ)) (known : WellKnownAtoms) (items : Stmts) : Type 0 where
   pub tokens : List Lexeme
   pub end : Lexeme
   pub script : IsScript tokens end items

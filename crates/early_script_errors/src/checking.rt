@@ -10,7 +10,7 @@ ghost use Rattle.track_renaming_laws.specs.Renaming.{renamed_bound};
 ghost use Rattle.track_renaming_laws.specs.Texts.{text_at};
 ghost use Rattle.early_script_errors.specs.Told.{IsOf, IsTold, IsTrackOf};
 
-use parse_track::region::{ClosedAt, Early, Known};
+use parse_track::region::{ClosedAt, Early, WellKnownAtoms};
 use parse_track::track::Track;
 use parse_track_handler::Piece;
 use parse_track_handler::walk::tell_script;
@@ -32,7 +32,7 @@ pub struct Checked {
 /// a rule that looks at no region.
 pub fn check_told(
     alloc: Global,
-    known: Known,
+    known: WellKnownAtoms,
     top: &Piece,
     mut bodies: Vec<Piece>,
     first: Option<Early>,

@@ -11,7 +11,7 @@ use Rattle.scope_analysis.specs.DeclaredNames.{Text}
 use Rattle.scope_analysis.specs.Functions.{Inner, inner_expr, inner_exprs, inner_maybe, inner_args, inner_parts, inner_items, inner_operands, inner_tails, inner_tail, inner_key, inner_prop, inner_props, inner_binds, inner_init, inner_each, inner_stmt, inner_stmts, inner_else, inner_clauses, inner_params, inner_body, inner_function, inner_script}
 use Rattle.parse_track.specs.declared.region.Declare.TheVariants as how
 use Rattle.parse_track.specs.declared.region.Jump.TheVariants as word
-use Rattle.parse_track.specs.EarlyErrors.{Around, nothing_around, within, wrong_jump, wrong_jumps}
+use Rattle.parse_track.specs.EarlyErrors.{JumpContext, nothing_around, within, wrong_jump, wrong_jumps}
 use Rattle.parse_track.specs.Notes.{target_error, delete_error, const_errors, later_protos, args_error, params_error, limit, body_errors, has_rest, notes_expr, notes_exprs, notes_maybe, notes_args, notes_parts, notes_items, notes_operands, notes_tails, notes_tail, notes_key, notes_prop, notes_props, notes_function, notes_params, notes_body, notes_binds, notes_init, notes_each, notes_clauses, notes_stmt, notes_stmts, notes_maybe_stmt, early_error}
 use Rattle.parse_track.specs.Told as told
 use Rattle.parse_track.specs.Told.{Told, nothing, leaf}
@@ -24,7 +24,7 @@ use Rattle.emit_depth_laws.proofs.Passing.{IsClean, clean_inside, clean_behind, 
 pub record IsSound (f : Function) : Type 0 where
   pub proper : ProperFunction whole f
   pub notes : notes_function f ≡ []
-  pub around : Around Text
+  pub around : JumpContext Text
   pub behind : Told Text
   pub clean : IsClean around (tells_function f behind)
 
@@ -36,15 +36,15 @@ both : (xs ys : List Inner) → AllSound xs → AllSound ys → AllSound (xs ++ 
 both [] ys x y = y
 both (i ∷ xs) ys x y = (x.0, both xs ys x.1 y)
 
-sound : (f : Function) (a : Around Text) (t : Told Text) → ProperFunction whole f → notes_function f ≡ [] → IsClean a (tells_function f t) → IsSound f
+sound : (f : Function) (a : JumpContext Text) (t : Told Text) → ProperFunction whole f → notes_function f ≡ [] → IsClean a (tells_function f t) → IsSound f
 sound f a t p n h = record { proper = p; notes = n; around = a; behind = t; clean = h }
 
-named_sound : (f : Function) (name : Option Named) (a : Around Text) (t : Told Text) → ProperFunction whole f → notes_function f ≡ [] → IsClean a (in_named name (tells_function f) t) → IsSound f
+named_sound : (f : Function) (name : Option Named) (a : JumpContext Text) (t : Told Text) → ProperFunction whole f → notes_function f ≡ [] → IsClean a (in_named name (tells_function f) t) → IsSound f
 named_sound f None a t p n h = sound f a t p n h
 named_sound f (Some name) a t p n h = sound f a nothing p n (clean_inside a (told.Lambda (spelled name)) 0 (tells_function f nothing) t h)
 
 mutual
-  expr_inner : (e : Expr) (a : Around Text) (t : Told Text) (around : List ℕ) → Proper whole e → notes_expr e ≡ [] → IsClean a (tells_expr e t) → AllSound (inner_expr e around)
+  expr_inner : (e : Expr) (a : JumpContext Text) (t : Told Text) (around : List ℕ) → Proper whole e → notes_expr e ≡ [] → IsClean a (tells_expr e t) → AllSound (inner_expr e around)
   expr_inner (This at) a t around p n h = tt
   expr_inner (Name name) a t around p n h = tt
   expr_inner (Null at) a t around p n h = tt
@@ -81,56 +81,56 @@ mutual
       (expr_inner value a t around p.4 (nil_right (notes_expr target) (notes_expr value) more) (expr_passes a target (tells_expr value t) h))
   expr_inner (Comma items) a t around p n h = exprs_inner items a t around p.1 n h
 
-  exprs_inner : (es : Exprs) (a : Around Text) (t : Told Text) (around : List ℕ) → ProperExprs whole es → notes_exprs es ≡ [] → IsClean a (tells_exprs es t) → AllSound (inner_exprs es around)
+  exprs_inner : (es : Exprs) (a : JumpContext Text) (t : Told Text) (around : List ℕ) → ProperExprs whole es → notes_exprs es ≡ [] → IsClean a (tells_exprs es t) → AllSound (inner_exprs es around)
   exprs_inner no_exprs a t around p n h = tt
   exprs_inner (more_exprs e rest) a t around p n h =
       both (inner_expr e around) (inner_exprs rest around) (expr_inner e a (tells_exprs rest t) around p.1 (nil_left (notes_expr e) (notes_exprs rest) n) h)
       (exprs_inner rest a t around p.2 (nil_right (notes_expr e) (notes_exprs rest) n) (expr_passes a e (tells_exprs rest t) h))
 
-  maybe_inner : (e : MaybeExpr) (a : Around Text) (t : Told Text) (around : List ℕ) → ProperMaybe whole e → notes_maybe e ≡ [] → IsClean a (tells_maybe e t) → AllSound (inner_maybe e around)
+  maybe_inner : (e : MaybeExpr) (a : JumpContext Text) (t : Told Text) (around : List ℕ) → ProperMaybe whole e → notes_maybe e ≡ [] → IsClean a (tells_maybe e t) → AllSound (inner_maybe e around)
   maybe_inner no_expr a t around p n h = tt
   maybe_inner (some_expr e) a t around p n h = expr_inner e a t around p.1 n h
 
-  args_inner : (args : MaybeArgs) (a : Around Text) (t : Told Text) (around : List ℕ) → ProperArgs whole args → notes_args args ≡ [] → IsClean a (tells_args args t) → AllSound (inner_args args around)
+  args_inner : (args : MaybeArgs) (a : JumpContext Text) (t : Told Text) (around : List ℕ) → ProperArgs whole args → notes_args args ≡ [] → IsClean a (tells_args args t) → AllSound (inner_args args around)
   args_inner no_args a t around p n h = tt
   args_inner (some_args items comma) a t around p n h = exprs_inner items a t around p.1 (nil_right (args_error limit items) (notes_exprs items) n) h
 
-  parts_inner : (ps : Parts) (a : Around Text) (t : Told Text) (around : List ℕ) → ProperParts whole ps → notes_parts ps ≡ [] → IsClean a (tells_parts ps t) → AllSound (inner_parts ps around)
+  parts_inner : (ps : Parts) (a : JumpContext Text) (t : Told Text) (around : List ℕ) → ProperParts whole ps → notes_parts ps ≡ [] → IsClean a (tells_parts ps t) → AllSound (inner_parts ps around)
   parts_inner no_parts a t around p n h = tt
   parts_inner (more_parts value behind rest) a t around p n h =
       both (inner_expr value around) (inner_parts rest around) (expr_inner value a (tells_parts rest t) around p.0 (nil_left (notes_expr value) (notes_parts rest) n) h)
       (parts_inner rest a t around p.1 (nil_right (notes_expr value) (notes_parts rest) n) (expr_passes a value (tells_parts rest t) h))
 
-  items_inner : (items : Items) (a : Around Text) (t : Told Text) (around : List ℕ) → ProperItems whole items → notes_items items ≡ [] → IsClean a (tells_array items t) → AllSound (inner_items items around)
+  items_inner : (items : Items) (a : JumpContext Text) (t : Told Text) (around : List ℕ) → ProperItems whole items → notes_items items ≡ [] → IsClean a (tells_array items t) → AllSound (inner_items items around)
   items_inner no_items a t around p n h = tt
   items_inner (more_items item rest) a t around p n h =
       both (inner_maybe item around) (inner_items rest around) (maybe_inner item a (tells_array rest t) around p.0 (nil_left (notes_maybe item) (notes_items rest) n) h)
       (items_inner rest a t around p.1 (nil_right (notes_maybe item) (notes_items rest) n) (maybe_passes a item (tells_array rest t) h))
 
-  operands_inner : (level : ℕ) (rest : Operands) (a : Around Text) (t : Told Text) (around : List ℕ) → ProperOperands whole level rest → notes_operands rest ≡ [] → IsClean a (tells_operands rest t) → AllSound (inner_operands rest around)
+  operands_inner : (level : ℕ) (rest : Operands) (a : JumpContext Text) (t : Told Text) (around : List ℕ) → ProperOperands whole level rest → notes_operands rest ≡ [] → IsClean a (tells_operands rest t) → AllSound (inner_operands rest around)
   operands_inner level no_operands a t around p n h = tt
   operands_inner level (more_operands sign is_word value rest) a t around p n h =
       both (inner_expr value around) (inner_operands rest around) (expr_inner value a (tells_operands rest t) around p.2 (nil_left (notes_expr value) (notes_operands rest) n) h)
       (operands_inner level rest a t around p.3 (nil_right (notes_expr value) (notes_operands rest) n) (expr_passes a value (tells_operands rest t) h))
 
-  tails_inner : (tails : Tails) (a : Around Text) (t : Told Text) (around : List ℕ) → ProperTails whole tails → notes_tails tails ≡ [] → IsClean a (tells_tails tails t) → AllSound (inner_tails tails around)
+  tails_inner : (tails : Tails) (a : JumpContext Text) (t : Told Text) (around : List ℕ) → ProperTails whole tails → notes_tails tails ≡ [] → IsClean a (tells_tails tails t) → AllSound (inner_tails tails around)
   tails_inner no_tails a t around p n h = tt
   tails_inner (more_tails u rest) a t around p n h =
       both (inner_tail u around) (inner_tails rest around) (tail_inner u a (tells_tails rest t) around p.0 (nil_left (notes_tail u) (notes_tails rest) n) h)
       (tails_inner rest a t around p.1 (nil_right (notes_tail u) (notes_tails rest) n) (tail_passes a u (tells_tails rest t) h))
 
-  tail_inner : (u : Tail) (a : Around Text) (t : Told Text) (around : List ℕ) → ProperTail whole u → notes_tail u ≡ [] → IsClean a (tells_tail u t) → AllSound (inner_tail u around)
+  tail_inner : (u : Tail) (a : JumpContext Text) (t : Told Text) (around : List ℕ) → ProperTail whole u → notes_tail u ≡ [] → IsClean a (tells_tail u t) → AllSound (inner_tail u around)
   tail_inner (Dot name) a t around p n h = tt
   tail_inner (Index key) a t around p n h = expr_inner key a t around p n h
   tail_inner (Call items comma) a t around p n h = exprs_inner items a t around p.1 (nil_right (args_error limit items) (notes_exprs items) n) h
 
-  key_inner : (key : Key) (a : Around Text) (t : Told Text) (around : List ℕ) → ProperKey whole key → notes_key key ≡ [] → IsClean a (tells_key key t) → AllSound (inner_key key around)
+  key_inner : (key : Key) (a : JumpContext Text) (t : Told Text) (around : List ℕ) → ProperKey whole key → notes_key key ≡ [] → IsClean a (tells_key key t) → AllSound (inner_key key around)
   key_inner (WordKey name) a t around p n h = tt
   key_inner (StrKey name) a t around p n h = tt
   key_inner (NumberKey at number) a t around p n h = tt
   key_inner (ComputedKey e) a t around p n h = expr_inner e a t around p.1 n h
 
-  prop_inner : (q : Prop) (a : Around Text) (t : Told Text) (around : List ℕ) → ProperProp whole q → notes_prop q ≡ [] → IsClean a (tells_prop q t) → AllSound (inner_prop q around)
+  prop_inner : (q : Prop) (a : JumpContext Text) (t : Told Text) (around : List ℕ) → ProperProp whole q → notes_prop q ≡ [] → IsClean a (tells_prop q t) → AllSound (inner_prop q around)
   prop_inner (Short name) a t around p n h = tt
   prop_inner (Pair key value) a t around p n h =
       both (inner_key key around) (inner_expr value around) (key_inner key a (tells_expr value t) around p.0 (nil_left (notes_key key) (notes_expr value) n) h)
@@ -139,7 +139,7 @@ mutual
   prop_inner (Get key f) a t around p n h = both (inner_key key around) _ (key_inner key a (tells_function f t) around p.0 (nil_left (notes_key key) (notes_function f) n) h) (sound f a t p.2 (nil_right (notes_key key) (notes_function f) n) (key_passes a key (tells_function f t) h), tt)
   prop_inner (Set key f) a t around p n h = both (inner_key key around) _ (key_inner key a (tells_function f t) around p.0 (nil_left (notes_key key) (notes_function f) n) h) (sound f a t p.2 (nil_right (notes_key key) (notes_function f) n) (key_passes a key (tells_function f t) h), tt)
 
-  props_inner : (ps : Props) (a : Around Text) (t : Told Text) (around : List ℕ) → ProperProps whole ps → notes_props ps ≡ [] → IsClean a (tells_props ps t) → AllSound (inner_props ps around)
+  props_inner : (ps : Props) (a : JumpContext Text) (t : Told Text) (around : List ℕ) → ProperProps whole ps → notes_props ps ≡ [] → IsClean a (tells_props ps t) → AllSound (inner_props ps around)
   props_inner no_props a t around p n h = tt
   props_inner (more_props q rest) a t around p n h =
       both (inner_prop q around) (inner_props rest around) (prop_inner q a (tells_props rest t) around p.0 (nil_left (notes_prop q) (notes_props rest) n) h)
@@ -147,27 +147,27 @@ mutual
 
 -- ---- parts of statements
 
-option_inner : (e : MaybeExpr) (a : Around Text) (t : Told Text) (around : List ℕ) → ProperOption whole e → notes_maybe e ≡ [] → IsClean a (tells_maybe e t) → AllSound (inner_maybe e around)
+option_inner : (e : MaybeExpr) (a : JumpContext Text) (t : Told Text) (around : List ℕ) → ProperOption whole e → notes_maybe e ≡ [] → IsClean a (tells_maybe e t) → AllSound (inner_maybe e around)
 option_inner no_expr a t around p n h = tt
 option_inner (some_expr e) a t around p n h = expr_inner e a t around p n h
 
 -- the names that are declared change nothing
-binds_inner : (kind : Decl) (bs : Binds) (a : Around Text) (t : Told Text) (around : List ℕ) → ProperBinds whole bs → notes_binds bs ≡ [] → IsClean a (tells_binds kind bs t) → AllSound (inner_binds bs around)
+binds_inner : (kind : Decl) (bs : Binds) (a : JumpContext Text) (t : Told Text) (around : List ℕ) → ProperBinds whole bs → notes_binds bs ≡ [] → IsClean a (tells_binds kind bs t) → AllSound (inner_binds bs around)
 binds_inner kind no_binds a t around p n h = tt
 binds_inner kind (more_binds name value rest) a t around p n h =
     both (inner_maybe value around) (inner_binds rest around) (maybe_inner value a (tells_binds kind rest t) around p.0 (nil_left (notes_maybe value) (notes_binds rest) n) h)
     (binds_inner kind rest a t around p.1 (nil_right (notes_maybe value) (notes_binds rest) n) (maybe_passes a value (tells_binds kind rest t) h))
 
-init_inner : (init : Init) (a : Around Text) (t : Told Text) (around : List ℕ) → ProperInit whole init → notes_init init ≡ [] → IsClean a (tells_init init t) → AllSound (inner_init init around)
+init_inner : (init : Init) (a : JumpContext Text) (t : Told Text) (around : List ℕ) → ProperInit whole init → notes_init init ≡ [] → IsClean a (tells_init init t) → AllSound (inner_init init around)
 init_inner NoInit a t around p n h = tt
 init_inner (ValueInit e) a t around p n h = expr_inner e a t around p.1 n h
 init_inner (BindsInit kind bs) a t around p n h = binds_inner kind bs a t around p.2 (nil_right (const_errors kind bs) (notes_binds bs) n) h
 
-each_inner : (each : Each) (a : Around Text) (t : Told Text) (around : List ℕ) → ProperEach whole each → notes_each each ≡ [] → IsClean a (tells_each each t) → AllSound (inner_each each around)
+each_inner : (each : Each) (a : JumpContext Text) (t : Told Text) (around : List ℕ) → ProperEach whole each → notes_each each ≡ [] → IsClean a (tells_each each t) → AllSound (inner_each each around)
 each_inner (TargetEach e) a t around p n h = expr_inner e a t around p.1 (nil_right (target_error e) (notes_expr e) n) h
 each_inner (BindEach kind name) a t around p n h = tt
 
-params_inner : (ps : Params) (a : Around Text) (t : Told Text) (around : List ℕ) → ProperParams whole ps → notes_params ps ≡ [] → IsClean a (tells_params ps t) → AllSound (inner_params ps around)
+params_inner : (ps : Params) (a : JumpContext Text) (t : Told Text) (around : List ℕ) → ProperParams whole ps → notes_params ps ≡ [] → IsClean a (tells_params ps t) → AllSound (inner_params ps around)
 params_inner no_params a t around p n h = tt
 params_inner (more_params name value rest more) a t around p n h =
     both (inner_maybe value around) (inner_params more around) (maybe_inner value a (tells_params more t) around p.0 (nil_left (notes_maybe value) (notes_params more) n) h)
@@ -176,12 +176,12 @@ params_inner (more_params name value rest more) a t around p n h =
 -- ---- statements
 
 -- the functions in a statement, and nothing wrong after it
-record Inside (a : Around Text) (t : Told Text) (is : List Inner) : Type 0 where
+record Inside (a : JumpContext Text) (t : Told Text) (is : List Inner) : Type 0 where
   all : AllSound is
   behind : IsClean a t
 
 mutual
-  stmt_inner : (inside top : Bool) (s : Stmt) (a : Around Text) (t : Told Text) (next : ℕ) (around : List ℕ) → ProperStmt whole inside s → notes_stmt s ≡ [] → IsClean a (tells_stmt top s t) → Inside a t (inner_stmt s next around)
+  stmt_inner : (inside top : Bool) (s : Stmt) (a : JumpContext Text) (t : Told Text) (next : ℕ) (around : List ℕ) → ProperStmt whole inside s → notes_stmt s ≡ [] → IsClean a (tells_stmt top s t) → Inside a t (inner_stmt s next around)
   stmt_inner inside top (Block items) a t next around p n h = record {
     all = (stmts_inner inside false items a nothing _ _ p n (clean_inside a told.Block 0 (tells_stmts false items nothing) t h)).all;
     behind = clean_behind a told.Block 0 (tells_stmts false items nothing) t h;
@@ -200,12 +200,12 @@ mutual
       }
   stmt_inner inside top (Do body test semi) a t next around p n h =
       let in_loop : Told Text = tells_stmt false body (tells_expr test nothing) in
-      let beside : Around Text = record a { loop = true; leaves = true } in
+      let beside : JumpContext Text = record a { loop = true; leaves = true } in
       let first = stmt_inner inside false body beside (tells_expr test nothing) next around p.1 (nil_left (notes_stmt body) (notes_expr test) n) (clean_inside a told.Loop 0 in_loop t h) in
       record { all = both (inner_stmt body next around) (inner_expr test around) first.all (expr_inner test beside nothing around p.2 (nil_right (notes_stmt body) (notes_expr test) n) first.behind); behind = clean_behind a told.Loop 0 in_loop t h }
   stmt_inner inside top (While test body) a t next around p n h =
       let in_loop : Told Text = tells_expr test (tells_stmt false body nothing) in
-      let beside : Around Text = record a { loop = true; leaves = true } in
+      let beside : JumpContext Text = record a { loop = true; leaves = true } in
       let within_loop : IsClean beside in_loop = clean_inside a told.Loop 0 in_loop t h in
       let second = stmt_inner inside false body beside nothing next around p.2 (nil_right (notes_expr test) (notes_stmt body) n) (expr_passes beside test (tells_stmt false body nothing) within_loop) in
       record { all = both (inner_expr test around) (inner_stmt body next around) (expr_inner test beside (tells_stmt false body nothing) around p.0 (nil_left (notes_expr test) (notes_stmt body) n) within_loop) second.all; behind = clean_behind a told.Loop 0 in_loop t h }
@@ -213,7 +213,7 @@ mutual
       let told_body : Told Text = tells_stmt false body nothing in
       let in_head : Told Text = tells_init init (tells_maybe test (tells_maybe update told_body)) in
       let in_loop : Told Text = told.inner told.ForHead 0 in_head nothing in
-      let beside : Around Text = record a { loop = true; leaves = true } in
+      let beside : JumpContext Text = record a { loop = true; leaves = true } in
       let head : IsClean beside in_head = clean_inside beside told.ForHead 0 in_head nothing (clean_inside a told.Loop 0 in_loop t h) in
       let n1 = nil_right (notes_init init) (notes_maybe test ++ (notes_maybe update ++ notes_stmt body)) n in
       let n2 = nil_right (notes_maybe test) (notes_maybe update ++ notes_stmt body) n1 in
@@ -230,7 +230,7 @@ mutual
       let told_body : Told Text = tells_stmt false body nothing in
       let in_head : Told Text = tells_each each (tells_expr over told_body) in
       let in_loop : Told Text = told.inner told.ForHead 0 in_head nothing in
-      let beside : Around Text = record a { loop = true; leaves = true } in
+      let beside : JumpContext Text = record a { loop = true; leaves = true } in
       let head : IsClean beside in_head = clean_inside beside told.ForHead 0 in_head nothing (clean_inside a told.Loop 0 in_loop t h) in
       let n1 = nil_right (notes_each each) (notes_expr over ++ notes_stmt body) n in
       let h1 = each_passes beside each (tells_expr over told_body) head in
@@ -254,7 +254,7 @@ mutual
       }
   stmt_inner inside top (Label name body) a t next around p n h =
       let region : Told Text = labelled_region (labels_on body) (tells_stmt false body nothing) in
-      let beside : Around Text = within (told.Label (spelled name)) region a in
+      let beside : JumpContext Text = within (told.Label (spelled name)) region a in
       record {
         all = (stmt_inner inside false body beside nothing next around p.1 n (region_clean beside (labels_on body) (tells_stmt false body nothing) (clean_inside a (told.Label (spelled name)) 0 region t h))).all;
         behind = clean_behind a (told.Label (spelled name)) 0 region t h;
@@ -281,18 +281,18 @@ mutual
       let here : IsClean a (tells_function f t) = declares_pass a top (function_name f) (tells_function f t) h in
       record { all = (sound f a t p.1 n here, tt); behind = function_passes a f t here }
 
-  stmts_inner : (inside top : Bool) (ss : Stmts) (a : Around Text) (t : Told Text) (next : ℕ) (around : List ℕ) → ProperStmts whole inside ss → notes_stmts ss ≡ [] → IsClean a (tells_stmts top ss t) → Inside a t (inner_stmts ss next around)
+  stmts_inner : (inside top : Bool) (ss : Stmts) (a : JumpContext Text) (t : Told Text) (next : ℕ) (around : List ℕ) → ProperStmts whole inside ss → notes_stmts ss ≡ [] → IsClean a (tells_stmts top ss t) → Inside a t (inner_stmts ss next around)
   stmts_inner inside top no_stmts a t next around p n h = record { all = tt; behind = h }
   stmts_inner inside top (more_stmts s rest) a t next around p n h =
       let first = stmt_inner inside top s a (tells_stmts top rest t) next around p.0 (nil_left (notes_stmt s) (notes_stmts rest) n) h in
       let more = stmts_inner inside top rest a t _ around p.1 (nil_right (notes_stmt s) (notes_stmts rest) n) first.behind in
       record { all = both (inner_stmt s next around) _ first.all more.all; behind = more.behind }
 
-  else_inner : (inside : Bool) (x : MaybeStmt) (a : Around Text) (t : Told Text) (next : ℕ) (around : List ℕ) → ProperElse whole inside x → notes_maybe_stmt x ≡ [] → IsClean a (tells_maybe_stmt x t) → Inside a t (inner_else x next around)
+  else_inner : (inside : Bool) (x : MaybeStmt) (a : JumpContext Text) (t : Told Text) (next : ℕ) (around : List ℕ) → ProperElse whole inside x → notes_maybe_stmt x ≡ [] → IsClean a (tells_maybe_stmt x t) → Inside a t (inner_else x next around)
   else_inner inside no_stmt a t next around p n h = record { all = tt; behind = h }
   else_inner inside (some_stmt s) a t next around p n h = stmt_inner inside false s a t next around p.1 n h
 
-  clauses_inner : (inside : Bool) (cs : Clauses) (a : Around Text) (t : Told Text) (next : ℕ) (around : List ℕ) → ProperClauses whole inside cs → notes_clauses cs ≡ [] → IsClean a (tells_clauses cs t) → Inside a t (inner_clauses cs next around)
+  clauses_inner : (inside : Bool) (cs : Clauses) (a : JumpContext Text) (t : Told Text) (next : ℕ) (around : List ℕ) → ProperClauses whole inside cs → notes_clauses cs ≡ [] → IsClean a (tells_clauses cs t) → Inside a t (inner_clauses cs next around)
   clauses_inner inside no_clauses a t next around p n h = record { all = tt; behind = h }
   clauses_inner inside (more_clauses test items rest) a t next around p n h =
       let n1 = nil_right (notes_maybe test) (notes_stmts items ++ notes_clauses rest) n in
@@ -302,7 +302,7 @@ mutual
 
 -- ---- functions and scripts
 
-body_inner : (form : FuncForm) (initialized : Bool) (body : Body) (a : Around Text) (next : ℕ) (around : List ℕ) → ProperBody whole form body → notes_body body ≡ [] → IsClean a (tells_body body) → AllSound (inner_body initialized body next around)
+body_inner : (form : FuncForm) (initialized : Bool) (body : Body) (a : JumpContext Text) (next : ℕ) (around : List ℕ) → ProperBody whole form body → notes_body body ≡ [] → IsClean a (tells_body body) → AllSound (inner_body initialized body next around)
 body_inner form initialized (ShortBody value) a next around p n h = expr_inner value a nothing around p.3 n h
 body_inner form initialized (BracedBody items) a next around p n h = (stmts_inner true true items a nothing _ _ p n h).all
 
@@ -311,7 +311,7 @@ pub function_inner : (kind : FuncKind) (name : Option Text) (f : Function) → I
 function_inner kind name (function form start end given ps comma bare body) s =
     let in_body : Told Text = body_region (has_initializer ps) (tells_body body) in
     let in_function : Told Text = tells_params ps in_body in
-    let here : Around Text = within (function_region form) in_function s.around in
+    let here : JumpContext Text = within (function_region form) in_function s.around in
     let clean : IsClean here in_function = clean_inside s.around (function_region form) start in_function s.behind s.clean in
     let n1 = nil_right (params_error limit ps) (notes_params ps ++ (body_errors (has_initializer ps || has_rest ps) body ++ notes_body body)) s.notes in
     let n2 = nil_right (notes_params ps) (body_errors (has_initializer ps || has_rest ps) body ++ notes_body body) n1 in

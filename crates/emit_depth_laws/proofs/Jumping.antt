@@ -9,7 +9,7 @@ use Rattle.script_grammar.specs.Tree.{Named, Function, function, Body, BracedBod
 use Rattle.parse_track.specs.declared.region.Declare.TheVariants as how
 use Rattle.parse_track.specs.declared.region.Early.{Early}
 use Rattle.parse_track.specs.declared.region.Jump.TheVariants as word
-use Rattle.parse_track.specs.EarlyErrors.{Around, nothing_around, within, is_loop, has, wrong_jump, wrong_jumps, smaller, smallest, is_sooner, sooner, error_of, at_regions, twice_lexical, lexical_and_var, head_and_var, catch_and_lexical, param_and_lexical, twice_param, binds_reserved}
+use Rattle.parse_track.specs.EarlyErrors.{JumpContext, nothing_around, within, is_loop, has, wrong_jump, wrong_jumps, smaller, smallest, is_sooner, sooner, error_of, at_regions, twice_lexical, lexical_and_var, head_and_var, catch_and_lexical, param_and_lexical, twice_param, binds_reserved}
 use Rattle.parse_track.specs.Notes.{const_errors, params_error, limit, body_errors, has_rest, notes_expr, notes_maybe, notes_function, notes_params, notes_body, notes_binds, notes_init, notes_each, notes_clauses, notes_stmt, notes_stmts, notes_maybe_stmt, first_note, early_error}
 use Rattle.parse_track.specs.Told as told
 use Rattle.parse_track.specs.Told.{Told, nothing, leaf, inner}
@@ -28,23 +28,23 @@ abbrev IsLoopHere : Stmt → Type 0
 IsLoopHere s = is_loop (labelled_region (labels_on s) (tells_stmt false s nothing)) ≡ true
 
 -- the frames have all that is around; labels of a loop that is still to come are those of the statement
-record Fits (a : Around Text) (frames : List Frame) (s : Stmt) : Type 0 where
+record Fits (a : JumpContext Text) (frames : List Frame) (s : Stmt) : Type 0 where
   leaves : a.leaves ≡ true → has_goal (Out None) frames ≡ true
   loop : a.loop ≡ true → has_goal (Again None) frames ≡ true
   labels : (l : Text) → has bytes_eq l a.labels ≡ true → has_goal (Out (Some l)) frames ≡ true
   loops : (l : Text) → has bytes_eq l a.loops ≡ true → (has_goal (Again (Some l)) frames ≡ true) ⊎ ((is_labelled l frames ≡ true) × IsLoopHere s)
 
 -- no loop is still to come
-record Settled (a : Around Text) (frames : List Frame) : Type 0 where
+record Settled (a : JumpContext Text) (frames : List Frame) : Type 0 where
   leaves : a.leaves ≡ true → has_goal (Out None) frames ≡ true
   loop : a.loop ≡ true → has_goal (Again None) frames ≡ true
   labels : (l : Text) → has bytes_eq l a.labels ≡ true → has_goal (Out (Some l)) frames ≡ true
   loops : (l : Text) → has bytes_eq l a.loops ≡ true → has_goal (Again (Some l)) frames ≡ true
 
-fits_of : (a : Around Text) (frames : List Frame) (s : Stmt) → Settled a frames → Fits a frames s
+fits_of : (a : JumpContext Text) (frames : List Frame) (s : Stmt) → Settled a frames → Fits a frames s
 fits_of a frames s h = record { leaves = h.leaves; loop = h.loop; labels = h.labels; loops = λ l k. inl (h.loops l k) }
 
-settled_of : (a : Around Text) (frames : List Frame) (s : Stmt) → (IsLoopHere s → ⊥) → Fits a frames s → Settled a frames
+settled_of : (a : JumpContext Text) (frames : List Frame) (s : Stmt) → (IsLoopHere s → ⊥) → Fits a frames s → Settled a frames
 settled_of a frames s none h = record { leaves = h.leaves; loop = h.loop; labels = h.labels; loops = λ l k. first l (h.loops l k) }
   where
     first : (l : Text) → (has_goal (Again (Some l)) frames ≡ true) ⊎ ((is_labelled l frames ≡ true) × IsLoopHere s) → has_goal (Again (Some l)) frames ≡ true
@@ -63,21 +63,21 @@ here_if true x h = refl
 here_if false x h = absurd (cc)
 
 -- inside a loop
-loop_settled : (a : Around Text) (frames : List Frame) (s : Stmt) → Fits a frames s → Settled (record a { loop = true; leaves = true }) (Loop ∷ frames)
+loop_settled : (a : JumpContext Text) (frames : List Frame) (s : Stmt) → Fits a frames s → Settled (record a { loop = true; leaves = true }) (Loop ∷ frames)
 loop_settled a frames s h = record { leaves = λ k. refl; loop = λ k. refl; labels = h.labels; loops = λ l k. inside l (h.loops l k) }
   where
     inside : (l : Text) → (has_goal (Again (Some l)) frames ≡ true) ⊎ ((is_labelled l frames ≡ true) × IsLoopHere s) → has_goal (Again (Some l)) (Loop ∷ frames) ≡ true
     inside l (inl here) = either_if (is_labelled l frames) (has_goal (Again (Some l)) frames) here
     inside l (inr later) = here_if (is_labelled l frames) (has_goal (Again (Some l)) frames) later.0
 
-keys_settled : (a : Around Text) (frames : List Frame) (s : Stmt) → Fits a frames s → Settled (record a { loop = true; leaves = true }) (KeysLoop ∷ frames)
+keys_settled : (a : JumpContext Text) (frames : List Frame) (s : Stmt) → Fits a frames s → Settled (record a { loop = true; leaves = true }) (KeysLoop ∷ frames)
 keys_settled a frames s h = record { leaves = λ k. refl; loop = λ k. refl; labels = h.labels; loops = λ l k. inside l (h.loops l k) }
   where
     inside : (l : Text) → (has_goal (Again (Some l)) frames ≡ true) ⊎ ((is_labelled l frames ≡ true) × IsLoopHere s) → has_goal (Again (Some l)) (KeysLoop ∷ frames) ≡ true
     inside l (inl here) = either_if (is_labelled l frames) (has_goal (Again (Some l)) frames) here
     inside l (inr later) = here_if (is_labelled l frames) (has_goal (Again (Some l)) frames) later.0
 
-switch_settled : (a : Around Text) (frames : List Frame) → Settled a frames → Settled (record a { leaves = true }) (Switching ∷ frames)
+switch_settled : (a : JumpContext Text) (frames : List Frame) → Settled a frames → Settled (record a { leaves = true }) (Switching ∷ frames)
 switch_settled a frames h = record { leaves = λ k. refl; loop = h.loop; labels = h.labels; loops = h.loops }
 
 -- after a label
@@ -102,10 +102,10 @@ more_loop : (l name : Text) (xs : List Text) (b : Bool) → has bytes_eq l (xs +
 more_loop l name xs true h = elim (more_label l name xs h) [ inl old ↦ inl old | inr new ↦ inr (new, refl) ]
 more_loop l name xs false h = elim (or_cases (has bytes_eq l xs) false (sym (list_any-append (bytes_eq l) xs []) ∙ h)) [ inl old ↦ inl old | inr none ↦ absurd (not_true none) ]
 
-abbrev behind_label : Named → Stmt → Around Text → Around Text
+abbrev behind_label : Named → Stmt → JumpContext Text → JumpContext Text
 behind_label name body a = within (told.Label (spelled name)) (labelled_region (labels_on body) (tells_stmt false body nothing)) a
 
-label_fits : (a : Around Text) (frames : List Frame) (name : Named) (body : Stmt) → Fits a frames (Label name body) → Fits (behind_label name body a) (Labelled name.text ∷ frames) body
+label_fits : (a : JumpContext Text) (frames : List Frame) (name : Named) (body : Stmt) → Fits a frames (Label name body) → Fits (behind_label name body a) (Labelled name.text ∷ frames) body
 label_fits a frames name body h = record {
   leaves = h.leaves;
   loop = h.loop;
@@ -123,7 +123,7 @@ label_fits a frames name body h = record {
     older l (inl here) = inl here
     older l (inr later) = inr (either_if (bytes_eq name.text l) (is_labelled l frames) later.0, later.1)
 
-pub region_clean : (a : Around Text) (b : Bool) (t : Told Text) → IsClean a (labelled_region b t) → IsClean a t
+pub region_clean : (a : JumpContext Text) (b : Bool) (t : Told Text) → IsClean a (labelled_region b t) → IsClean a t
 region_clean a true t h = h
 region_clean a false t h = clean_inside a told.Block 0 t nothing h
 
@@ -133,27 +133,27 @@ wanted : (b : Bool) (at : ℕ) → cond b [] (at ∷ []) ≡ [] → b ≡ true
 wanted true at h = refl
 wanted false at h = absurd (cc)
 
-break_there : (a : Around Text) (frames : List Frame) (at : ℕ) (label : Option Named) → Settled a frames → wrong_jump bytes_eq a (told.Jumped word.Break at (spelled_label label)) ≡ [] → IsTrue (has_goal (Out (label_text label)) frames)
+break_there : (a : JumpContext Text) (frames : List Frame) (at : ℕ) (label : Option Named) → Settled a frames → wrong_jump bytes_eq a (told.Jumped word.Break at (spelled_label label)) ≡ [] → IsTrue (has_goal (Out (label_text label)) frames)
 break_there a frames at None s h = s.leaves (wanted a.leaves at h)
 break_there a frames at (Some name) s h = s.labels name.text (wanted (has bytes_eq name.text a.labels) name.at h)
 
-continue_there : (a : Around Text) (frames : List Frame) (at : ℕ) (label : Option Named) → Settled a frames → wrong_jump bytes_eq a (told.Jumped word.Continue at (spelled_label label)) ≡ [] → IsTrue (has_goal (Again (label_text label)) frames)
+continue_there : (a : JumpContext Text) (frames : List Frame) (at : ℕ) (label : Option Named) → Settled a frames → wrong_jump bytes_eq a (told.Jumped word.Continue at (spelled_label label)) ≡ [] → IsTrue (has_goal (Again (label_text label)) frames)
 continue_there a frames at None s h = s.loop (wanted a.loop at h)
 continue_there a frames at (Some name) s h = s.loops name.text (wanted (has bytes_eq name.text a.loops) name.at (nil_right (cond a.loop [] (at ∷ [])) (cond (has bytes_eq name.text a.loops) [] (name.at ∷ [])) h))
 
-pub declares_pass : (a : Around Text) (top : Bool) (name : Option Named) (t : Told Text) → IsClean a (declares_function top name t) → IsClean a t
+pub declares_pass : (a : JumpContext Text) (top : Bool) (name : Option Named) (t : Told Text) → IsClean a (declares_function top name t) → IsClean a t
 declares_pass a top None t h = h
 declares_pass a top (Some name) t h = h
 
 -- ---- the equations
 
 -- the statement has its targets, and nothing is wrong after it
-record Good (a : Around Text) (t : Told Text) (P : Type 0) : Type 0 where
+record Good (a : JumpContext Text) (t : Told Text) (P : Type 0) : Type 0 where
   targets : P
   behind : IsClean a t
 
 mutual
-  stmt_good : (m : Bodies) (inside top : Bool) (s : Stmt) (a : Around Text) (frames : List Frame) (t : Told Text) → ProperStmt m inside s → notes_stmt s ≡ [] → Fits a frames s → IsClean a (tells_stmt top s t) → Good a t (StmtTargets s frames)
+  stmt_good : (m : Bodies) (inside top : Bool) (s : Stmt) (a : JumpContext Text) (frames : List Frame) (t : Told Text) → ProperStmt m inside s → notes_stmt s ≡ [] → Fits a frames s → IsClean a (tells_stmt top s t) → Good a t (StmtTargets s frames)
   stmt_good m inside top (Block items) a frames t p n f h = record {
     targets = (stmts_good m inside false items a frames nothing p n (settled_of a frames (Block items) not_true f) (clean_inside a told.Block 0 (tells_stmts false items nothing) t h)).targets;
     behind = clean_behind a told.Block 0 (tells_stmts false items nothing) t h;
@@ -170,7 +170,7 @@ mutual
       record { targets = (expr_assigns m test p.0 (nil_left (notes_expr test) (notes_stmt then_stmt ++ notes_maybe_stmt else_stmt) n), first.targets, second.targets); behind = second.behind }
   stmt_good m inside top (Do body test semi) a frames t p n f h =
       let in_loop : Told Text = tells_stmt false body (tells_expr test nothing) in
-      let around : Around Text = record a { loop = true; leaves = true } in
+      let around : JumpContext Text = record a { loop = true; leaves = true } in
       record {
         targets = (
           (stmt_good m inside false body around (Loop ∷ frames) (tells_expr test nothing) p.1 (nil_left (notes_stmt body) (notes_expr test) n) (fits_of around (Loop ∷ frames) body (loop_settled a frames (Do body test semi) f)) (clean_inside a told.Loop 0 in_loop t h)).targets,
@@ -180,7 +180,7 @@ mutual
       }
   stmt_good m inside top (While test body) a frames t p n f h =
       let in_loop : Told Text = tells_expr test (tells_stmt false body nothing) in
-      let around : Around Text = record a { loop = true; leaves = true } in
+      let around : JumpContext Text = record a { loop = true; leaves = true } in
       record {
         targets = (
           expr_assigns m test p.0 (nil_left (notes_expr test) (notes_stmt body) n),
@@ -192,7 +192,7 @@ mutual
       let told_body : Told Text = tells_stmt false body nothing in
       let in_head : Told Text = tells_init init (tells_maybe test (tells_maybe update told_body)) in
       let in_loop : Told Text = inner told.ForHead 0 in_head nothing in
-      let around : Around Text = record a { loop = true; leaves = true } in
+      let around : JumpContext Text = record a { loop = true; leaves = true } in
       let head : IsClean around in_head = clean_inside around told.ForHead 0 in_head nothing (clean_inside a told.Loop 0 in_loop t h) in
       let n1 = nil_right (notes_init init) (notes_maybe test ++ (notes_maybe update ++ notes_stmt body)) n in
       let n2 = nil_right (notes_maybe test) (notes_maybe update ++ notes_stmt body) n1 in
@@ -209,7 +209,7 @@ mutual
       let told_body : Told Text = tells_stmt false body nothing in
       let in_head : Told Text = tells_each each (tells_expr over told_body) in
       let in_loop : Told Text = inner told.ForHead 0 in_head nothing in
-      let around : Around Text = record a { loop = true; leaves = true } in
+      let around : JumpContext Text = record a { loop = true; leaves = true } in
       let head : IsClean around in_head = clean_inside around told.ForHead 0 in_head nothing (clean_inside a told.Loop 0 in_loop t h) in
       let n1 = nil_right (notes_each each) (notes_expr over ++ notes_stmt body) n in
       record {
@@ -232,7 +232,7 @@ mutual
   stmt_good m inside top (Throw value semi) a frames t p n f h = record { targets = expr_assigns m value p n; behind = expr_passes a value t h }
   stmt_good m inside top (Switch of clauses) a frames t p n f h =
       let in_switch : Told Text = tells_clauses clauses nothing in
-      let around : Around Text = record a { leaves = true } in
+      let around : JumpContext Text = record a { leaves = true } in
       let region : IsClean a (inner told.Switch 0 in_switch t) = expr_passes a of (inner told.Switch 0 in_switch t) h in
       record {
         targets = (
@@ -273,18 +273,18 @@ mutual
       }
   stmt_good m inside top (Declared g) a frames t p n f h = record { targets = tt; behind = function_passes a g t (declares_pass a top (function_name g) (tells_function g t) h) }
 
-  stmts_good : (m : Bodies) (inside top : Bool) (ss : Stmts) (a : Around Text) (frames : List Frame) (t : Told Text) → ProperStmts m inside ss → notes_stmts ss ≡ [] → Settled a frames → IsClean a (tells_stmts top ss t) → Good a t (StmtsTarget ss frames)
+  stmts_good : (m : Bodies) (inside top : Bool) (ss : Stmts) (a : JumpContext Text) (frames : List Frame) (t : Told Text) → ProperStmts m inside ss → notes_stmts ss ≡ [] → Settled a frames → IsClean a (tells_stmts top ss t) → Good a t (StmtsTarget ss frames)
   stmts_good m inside top no_stmts a frames t p n s h = record { targets = tt; behind = h }
   stmts_good m inside top (more_stmts x rest) a frames t p n s h =
       let first = stmt_good m inside top x a frames (tells_stmts top rest t) p.0 (nil_left (notes_stmt x) (notes_stmts rest) n) (fits_of a frames x s) h in
       let more = stmts_good m inside top rest a frames t p.1 (nil_right (notes_stmt x) (notes_stmts rest) n) s first.behind in
       record { targets = (first.targets, more.targets); behind = more.behind }
 
-  else_good : (m : Bodies) (inside : Bool) (x : MaybeStmt) (a : Around Text) (frames : List Frame) (t : Told Text) → ProperElse m inside x → notes_maybe_stmt x ≡ [] → Settled a frames → IsClean a (tells_maybe_stmt x t) → Good a t (ElseTargets x frames)
+  else_good : (m : Bodies) (inside : Bool) (x : MaybeStmt) (a : JumpContext Text) (frames : List Frame) (t : Told Text) → ProperElse m inside x → notes_maybe_stmt x ≡ [] → Settled a frames → IsClean a (tells_maybe_stmt x t) → Good a t (ElseTargets x frames)
   else_good m inside no_stmt a frames t p n s h = record { targets = tt; behind = h }
   else_good m inside (some_stmt x) a frames t p n s h = stmt_good m inside false x a frames t p.1 n (fits_of a frames x s) h
 
-  clauses_good : (m : Bodies) (inside : Bool) (cs : Clauses) (a : Around Text) (frames : List Frame) (t : Told Text) → ProperClauses m inside cs → notes_clauses cs ≡ [] → Settled a frames → IsClean a (tells_clauses cs t) → Good a t (ClausesTarget cs frames)
+  clauses_good : (m : Bodies) (inside : Bool) (cs : Clauses) (a : JumpContext Text) (frames : List Frame) (t : Told Text) → ProperClauses m inside cs → notes_clauses cs ≡ [] → Settled a frames → IsClean a (tells_clauses cs t) → Good a t (ClausesTarget cs frames)
   clauses_good m inside no_clauses a frames t p n s h = record { targets = tt; behind = h }
   clauses_good m inside (more_clauses test items rest) a frames t p n s h =
       let n1 = nil_right (notes_maybe test) (notes_stmts items ++ notes_clauses rest) n in
@@ -298,16 +298,16 @@ none_around : Settled nothing_around []
 none_around = record { leaves = λ k. absurd (not_true k); loop = λ k. absurd (not_true k); labels = λ l k. absurd (not_true k); loops = λ l k. absurd (not_true k) }
 
 -- a function has nothing around it
-around_by : (arrow : Bool) (i : Told Text) (a : Around Text) → within (cond arrow told.Arrow told.Function) i a ≡ nothing_around
+around_by : (arrow : Bool) (i : Told Text) (a : JumpContext Text) → within (cond arrow told.Arrow told.Function) i a ≡ nothing_around
 around_by true i a = refl
 around_by false i a = refl
 
-pub body_clean : (a : Around Text) (b : Bool) (t : Told Text) → IsClean a (body_region b t) → IsClean a t
+pub body_clean : (a : JumpContext Text) (b : Bool) (t : Told Text) → IsClean a (body_region b t) → IsClean a t
 body_clean a true t h = clean_inside a told.VarBody 0 t nothing h
 body_clean a false t h = h
 
 -- a function that is proper, that has no early error of the rules that look at no region, and that has no wrong jump
-pub function_targets : (f : Function) (a : Around Text) (t : Told Text) → ProperFunction whole f → notes_function f ≡ [] → IsClean a (tells_function f t) → FunctionTargets f
+pub function_targets : (f : Function) (a : JumpContext Text) (t : Told Text) → ProperFunction whole f → notes_function f ≡ [] → IsClean a (tells_function f t) → FunctionTargets f
 function_targets (function form start end name ps comma bare body) a t p n h = (params_assign whole ps p.3 (nil_left (notes_params ps) (body_errors (has_initializer ps || has_rest ps) body ++ notes_body body) n1), body_targets body p.4 n3 body_is_clean)
   where
     in_body : Told Text
@@ -323,7 +323,7 @@ function_targets (function form start end name ps comma bare body) a t p n h = (
     n3 = nil_right (body_errors (has_initializer ps || has_rest ps) body) (notes_body body) (nil_right (notes_params ps) (body_errors (has_initializer ps || has_rest ps) body ++ notes_body body) n1)
 
     inside_clean : IsClean nothing_around in_function
-    inside_clean = subst (λ (x : Around Text). IsClean x in_function) (around_by (is_arrow_form form) in_function a) (clean_inside a (function_region form) start in_function t h)
+    inside_clean = subst (λ (x : JumpContext Text). IsClean x in_function) (around_by (is_arrow_form form) in_function a) (clean_inside a (function_region form) start in_function t h)
 
     body_is_clean : IsClean nothing_around (tells_body body)
     body_is_clean = body_clean nothing_around (has_initializer ps) (tells_body body) (params_pass nothing_around ps in_body inside_clean)

@@ -30,7 +30,7 @@ use Rattle.bytecode_buf.specs.Emits.{emitted}
 use Rattle.bytecode_buf.specs.Pieces.{Code, settled, notes}
 use Rattle.bytecode_buf.proofs.AppendLemmas.{appends_both}
 use Rattle.emit_exprs.specs.Sites.{EmitsAt, scene_of}
-use Rattle.emit_stmts.specs.declared.stmt_site.StmtContext.{StmtContext}
+use Rattle.emit_stmts.specs.declared.stmt_context.StmtContext.{StmtContext}
 use Rattle.emit_stmts.specs.Declares.{declares}
 use Rattle.emit_stmts.specs.Frames.{scope_at, chain_link}
 use Rattle.emit_stmts.specs.Functions.{specials_code, params_code, body_code, params_base, code_in, start_of, extent_of, starts_of, extents_of, count_of, function_code, function_script}

@@ -17,7 +17,7 @@ use Rattle.emit_exprs.specs.Exprs.{Scene}
 use Rattle.emit_exprs.specs.Sites.{EmitsAt, scene_of}
 use Rattle.emit_exprs.specs.TreeCode.{at_site}
 use Rattle.emit_exprs.proofs.Writing.{written_of, written_as, Left, left_begin, left_step, left_end}
-use Rattle.emit_stmts.specs.declared.stmt_site.StmtContext.{StmtContext}
+use Rattle.emit_stmts.specs.declared.stmt_context.StmtContext.{StmtContext}
 use Rattle.emit_stmts.specs.Declares.{declares}
 use Rattle.emit_stmts.specs.Frames.{kept_values, leave_scope}
 use Rattle.emit_stmts.specs.Functions.{top_function, top_functions}

@@ -19,7 +19,7 @@ use Rattle.bytecode_buf.specs.Appends.{Appends, Emitted}
 use Rattle.bytecode_buf.specs.Pieces.{Code}
 use Rattle.emit_exprs.specs.Fitting.{ExprFits}
 use Rattle.emit_exprs.specs.TreeCode.{Written}
-use Rattle.emit_stmts.specs.declared.stmt_site.StmtContext.{StmtContext}
+use Rattle.emit_stmts.specs.declared.stmt_context.StmtContext.{StmtContext}
 use Rattle.emit_stmts.specs.Declares.{declares}
 use Rattle.emit_stmts.specs.Frames.{scope_at, chain_link}
 use Rattle.emit_stmts.specs.Functions.{copies_code, body_code}

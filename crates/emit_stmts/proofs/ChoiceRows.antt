@@ -18,7 +18,7 @@ use Rattle.emit_exprs.specs.Exprs.{Scene, expr_code}
 use Rattle.emit_exprs.specs.Fitting.{ExprFits}
 use Rattle.emit_exprs.specs.Sites.{text_in}
 use Rattle.emit_exprs.specs.TreeCode.{ExprEmits}
-use Rattle.emit_stmts.specs.declared.stmt_site.StmtContext.{StmtContext}
+use Rattle.emit_stmts.specs.declared.stmt_context.StmtContext.{StmtContext}
 use Rattle.emit_stmts.specs.Frames.{Labelled, kept_values}
 use Rattle.emit_stmts.specs.PartCode.{FirstWritten, first_code}
 use Rattle.emit_stmts.specs.Positions.{position_of, framed, scene, setting, within}

@@ -12,7 +12,7 @@ use Rattle.bytecode_buf.specs.declared.waits.Wait.{Wait}
 use Rattle.bytecode_buf.specs.Appends.{Appends, AllRoom, waits_of}
 use Rattle.bytecode_buf.specs.Emits.{emitted, Waits}
 use Rattle.bytecode_buf.specs.Pieces.{Code, Waiting}
-use Rattle.emit_stmts.specs.declared.stmt_site.StmtContext.{StmtContext}
+use Rattle.emit_stmts.specs.declared.stmt_context.StmtContext.{StmtContext}
 use Rattle.emit_stmts.specs.declared.switching.ClauseJumps.{ClauseJumps}
 use Rattle.emit_stmts.specs.Apart.{is_clause, place_of}
 use Rattle.emit_stmts.specs.Clauses.{NoClause, InOrder, Among, ClauseLanded, waiting}

@@ -14,7 +14,7 @@ use Rattle.emit_exprs.specs.TreeCode.{Written}
 use Rattle.emit_exprs.proofs.Writing.{written_of, Left, left_begin, left_step, left_end}
 use Rattle.emit_stmts.specs.declared.frames.Frame.{Frame}
 use Rattle.emit_stmts.specs.declared.leaving.Goal.{Goal}
-use Rattle.emit_stmts.specs.declared.stmt_site.StmtContext.{StmtContext}
+use Rattle.emit_stmts.specs.declared.stmt_context.StmtContext.{StmtContext}
 use Rattle.emit_stmts.specs.Frames.{exit, exits, is_meant, goal_aim, leaving}
 use Rattle.emit_stmts.specs.Leaving.{Exits, Leaves, goal_in}
 use Rattle.emit_stmts.specs.Positions.{position_of, frame_in, frames_in}

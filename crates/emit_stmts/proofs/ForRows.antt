@@ -20,7 +20,7 @@ use Rattle.emit_exprs.specs.Sites.{EmitsAt}
 use Rattle.emit_exprs.specs.Whole.{just}
 use Rattle.emit_exprs.proofs.Writing.{written_of}
 use Rattle.emit_exprs.proofs.Writing as expr
-use Rattle.emit_stmts.specs.declared.stmt_site.StmtContext.{StmtContext}
+use Rattle.emit_stmts.specs.declared.stmt_context.StmtContext.{StmtContext}
 use Rattle.emit_stmts.specs.Declares.{declares}
 use Rattle.emit_stmts.specs.Frames.{Frame, Loop, KeysLoop, Entered, kept_values, leave_scope}
 use Rattle.emit_stmts.specs.HeadCode.{freshen_head}

@@ -24,7 +24,7 @@ use Rattle.emit_exprs.specs.TreeCode.{Written, ExprEmits, at_site}
 use Rattle.emit_exprs.specs.Whole.{just}
 use Rattle.emit_exprs.proofs.Writing.{written_of}
 use Rattle.emit_exprs.proofs.Writing as expr
-use Rattle.emit_stmts.specs.declared.stmt_site.StmtContext.{StmtContext}
+use Rattle.emit_stmts.specs.declared.stmt_context.StmtContext.{StmtContext}
 use Rattle.emit_stmts.specs.Frames.{kept_values}
 use Rattle.emit_stmts.specs.HeadCode.{Tested, KeysTested, keys_code, Choosing, CaseWritten, CasesWritten}
 use Rattle.emit_stmts.specs.PartCode.{clauses_in}

@@ -24,7 +24,7 @@ use Rattle.emit_exprs.specs.TreeCode.{ExprEmits}
 use Rattle.emit_exprs.specs.Whole.{just}
 use Rattle.emit_exprs.proofs.Writing.{written_of}
 use Rattle.emit_exprs.proofs.Writing as expr
-use Rattle.emit_stmts.specs.declared.stmt_site.StmtContext.{StmtContext}
+use Rattle.emit_stmts.specs.declared.stmt_context.StmtContext.{StmtContext}
 use Rattle.emit_stmts.specs.Frames.{Frame, Loop, KeysLoop, kept_values, chain_of}
 use Rattle.emit_stmts.specs.HeadCode.{freshen_head, keys_code, Tested, KeysTested}
 use Rattle.emit_stmts.specs.PartCode.{ForWritten, ForInWritten, maybe_in}

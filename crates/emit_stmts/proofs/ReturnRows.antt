@@ -16,7 +16,7 @@ use Rattle.emit_exprs.specs.Sites.{EmitsAt}
 use Rattle.emit_exprs.specs.Whole.{just}
 use Rattle.emit_exprs.proofs.Writing.{written_of, written_both}
 use Rattle.emit_stmts.specs.declared.frames.Frame.{Frame}
-use Rattle.emit_stmts.specs.declared.stmt_site.StmtContext.{StmtContext}
+use Rattle.emit_stmts.specs.declared.stmt_context.StmtContext.{StmtContext}
 use Rattle.emit_stmts.specs.Frames.{exit, exits}
 use Rattle.emit_stmts.specs.Leaving.{has_code}
 use Rattle.emit_stmts.specs.Positions.{position_of, within, frame_in, frames_in}

@@ -16,7 +16,7 @@ use Rattle.emit_exprs.specs.Sites.{EmitsAt}
 use Rattle.emit_exprs.proofs.Writing.{written_of}
 use Rattle.emit_stmts.specs.declared.frames.Frame.{Frame}
 use Rattle.emit_stmts.specs.declared.frames.Frame.TheVariants as frame
-use Rattle.emit_stmts.specs.declared.stmt_site.StmtContext.{StmtContext}
+use Rattle.emit_stmts.specs.declared.stmt_context.StmtContext.{StmtContext}
 use Rattle.emit_stmts.specs.Declares.{declares}
 use Rattle.emit_stmts.specs.Frames.{Entered, scope_at, chain_link, kept_values, leave_scope}
 use Rattle.emit_stmts.specs.Frames as model

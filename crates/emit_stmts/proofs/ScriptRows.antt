@@ -23,7 +23,7 @@ use Rattle.bytecode_buf.specs.Emits.{emitted}
 use Rattle.emit_exprs.specs.Sites.{EmitsAt}
 use Rattle.emit_exprs.specs.Whole.{just}
 use Rattle.emit_exprs.proofs.Writing.{written_of}
-use Rattle.emit_stmts.specs.declared.stmt_site.StmtContext.{StmtContext}
+use Rattle.emit_stmts.specs.declared.stmt_context.StmtContext.{StmtContext}
 use Rattle.emit_stmts.specs.Frames.{global_link}
 use Rattle.emit_stmts.specs.Functions.{function_count, starts_of, extents_of, start_of, extent_of, script_code}
 use Rattle.emit_stmts.specs.PartCode.{stmts_in}

@@ -19,7 +19,7 @@ use Rattle.emit_exprs.specs.TreeCode.{ExprEmits}
 use Rattle.emit_exprs.specs.Whole.{just}
 use Rattle.emit_exprs.proofs.Writing.{written_of, written_both}
 use Rattle.emit_stmts.specs.declared.leaving.Goal.TheVariants as goal
-use Rattle.emit_stmts.specs.declared.stmt_site.StmtContext.{StmtContext}
+use Rattle.emit_stmts.specs.declared.stmt_context.StmtContext.{StmtContext}
 use Rattle.emit_stmts.specs.Frames.{Out, Again, leaving}
 use Rattle.emit_stmts.specs.Leaving.{Leaves, label_in}
 use Rattle.emit_stmts.specs.Positions.{position_of, within}

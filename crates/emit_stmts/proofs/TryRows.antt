@@ -23,7 +23,7 @@ use Rattle.emit_exprs.specs.Whole.{whole, just}
 use Rattle.emit_exprs.proofs.Writing.{written_of}
 use Rattle.emit_stmts.specs.declared.frames.Frame.{Frame}
 use Rattle.emit_stmts.specs.declared.frames.Frame.TheVariants as frame
-use Rattle.emit_stmts.specs.declared.stmt_site.StmtContext.{StmtContext}
+use Rattle.emit_stmts.specs.declared.stmt_context.StmtContext.{StmtContext}
 use Rattle.emit_stmts.specs.Frames.{kept_values, leave_scope, scope_at}
 use Rattle.emit_stmts.specs.PartCode.{BlockWritten, BlockFits, GuardedWritten, HandlerWritten, block_code, block_count, handler_code, stmts_in}
 use Rattle.emit_stmts.specs.Positions.{Position, position_of, frame_in, frames_in, World, setting, within}

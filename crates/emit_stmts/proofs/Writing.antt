@@ -15,7 +15,7 @@ use Rattle.bytecode_buf.specs.Pieces.{Code, Waiting, here, turning}
 use Rattle.bytecode_buf.proofs.AppendLemmas.{appends_none, appends_both, appends_room}
 use Rattle.emit_exprs.specs.TreeCode as expr
 use Rattle.emit_stmts.specs.Apart.{is_clause, Apart}
-use Rattle.emit_stmts.specs.declared.stmt_site.StmtContext.{StmtContext}
+use Rattle.emit_stmts.specs.declared.stmt_context.StmtContext.{StmtContext}
 use Rattle.emit_stmts.specs.Frames.{Frame, chain_of, kept_values}
 use Rattle.emit_stmts.specs.Positions.{Position, position_of, framed, scene, World, setting, within, Stands}
 use Rattle.emit_stmts.specs.PartCode.{stmts_in}

@@ -15,7 +15,7 @@ use Rattle.bytecode_buf.specs.Emits.{emitted}
 use Rattle.bytecode_buf.specs.Pieces.{Code, Waiting}
 use Rattle.emit_exprs.specs.Fitting.{MaybeExprFits}
 use Rattle.emit_exprs.specs.Whole.{whole, just}
-use Rattle.emit_stmts.specs.declared.stmt_site.StmtContext.{StmtContext}
+use Rattle.emit_stmts.specs.declared.stmt_context.StmtContext.{StmtContext}
 use Rattle.emit_stmts.specs.Frames.{scope_at, has_env, kept_values}
 use Rattle.emit_stmts.specs.Positions.{Position, World, position_of, scene, within}
 use Rattle.emit_stmts.specs.StmtCode.{Written}

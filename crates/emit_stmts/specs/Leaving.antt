@@ -11,7 +11,7 @@ use Rattle.emit_exprs.specs.Sites.{EmitsAt}
 use Rattle.emit_stmts.specs.declared.frames.Frame.{Frame}
 use Rattle.emit_stmts.specs.declared.leaving.Goal.{Goal}
 use Rattle.emit_stmts.specs.declared.leaving.Goal.TheVariants as goal
-use Rattle.emit_stmts.specs.declared.stmt_site.StmtContext.{StmtContext}
+use Rattle.emit_stmts.specs.declared.stmt_context.StmtContext.{StmtContext}
 use Rattle.emit_stmts.specs.Frames.{Out, Again, exits, leaving}
 use Rattle.emit_stmts.specs.Frames as model
 use Rattle.emit_stmts.specs.Positions.{position_of, frames_in}

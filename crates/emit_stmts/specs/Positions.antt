@@ -13,7 +13,7 @@ use Rattle.emit_exprs.specs.Exprs.{Scene}
 use Rattle.emit_stmts.specs.declared.draft.Draft.{Draft}
 use Rattle.emit_stmts.specs.declared.frames.Frame.{Frame}
 use Rattle.emit_stmts.specs.declared.frames.Frame.TheVariants as frame
-use Rattle.emit_stmts.specs.declared.stmt_site.StmtContext.{StmtContext}
+use Rattle.emit_stmts.specs.declared.stmt_context.StmtContext.{StmtContext}
 use Rattle.emit_stmts.specs.Frames.{Loop, KeysLoop, Switching, Labelled, Entered, chain_of}
 use Rattle.emit_stmts.specs.Frames as model
 use Rattle.emit_stmts.specs.Stmts.{Setting}

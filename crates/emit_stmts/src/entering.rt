@@ -10,7 +10,7 @@ ghost use Rattle.emit_stmts.specs.Stmts as code;
 
 use crate::frames::Frame;
 use crate::scoping::hidden_slot;
-use crate::stmt_site::StmtContext;
+use crate::stmt_context::StmtContext;
 use bytecode_buf::{CodeBuf, Op};
 use emit_exprs::Site;
 use emit_exprs::steps::{counted, plain};

@@ -2,7 +2,7 @@
 ghost use Rattle.std.specs.Prelude.{◌≡◌, ◌∷◌, IfOk};
 ghost use Rattle.emit_stmts.specs.Positions.{position_of, framed, frames_in};
 
-use crate::stmt_site::StmtContext;
+use crate::stmt_context::StmtContext;
 use emit_exprs::Site;
 use std::alloc::{AllocError, Global};
 

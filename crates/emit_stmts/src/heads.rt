@@ -5,7 +5,7 @@ ghost use Rattle.emit_stmts.specs.HeadCode.{KeysTested, Tested, freshen_head};
 ghost use Rattle.emit_stmts.specs.Positions.{position_of};
 
 use crate::scoping::freshen;
-use crate::stmt_site::StmtContext;
+use crate::stmt_context::StmtContext;
 use bytecode_buf::{Aim, CodeBuf, Op, Wait, jump_to};
 use emit_exprs::steps::plain;
 use emit_exprs::{Use, emit_expr};

@@ -11,7 +11,7 @@ use crate::draft::Draft;
 use crate::entering::{hide_scope, site_inside};
 use crate::frames::{Frame, frames_inside};
 use crate::scoping::{chain_inside, push_env};
-use crate::stmt_site::StmtContext;
+use crate::stmt_context::StmtContext;
 use bytecode_buf::Op;
 use std::alloc::AllocError;
 use stencil_data::Chain;

@@ -8,7 +8,7 @@ ghost use Rattle.emit_stmts.specs.Positions.{position_of, frame_in, frames_in};
 
 use crate::frames::Frame;
 use crate::scoping::leave_scope;
-use crate::stmt_site::StmtContext;
+use crate::stmt_context::StmtContext;
 use bytecode_buf::{Aim, CodeBuf, Op, Wait, jump_to};
 use emit_exprs::steps::plain;
 use scope_analysis::{same_units, units_of};

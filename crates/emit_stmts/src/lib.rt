@@ -6,7 +6,7 @@
 //!
 //! `emit_stmt` appends the code of a whole statement (`stmts`), for every form of a statement; its clause is that of
 //! `specs/StmtCode.antt`. It is one cycle with a function for each row of the table of code. Below it stand the site of a
-//! statement with the frames around it (`stmt_site`, `frames`), the jumps out of these (`leaving`, `returning`), scopes
+//! statement with the frames around it (`stmt_context`, `frames`), the jumps out of these (`leaving`, `returning`), scopes
 //! that are entered and left (`entering`, `inside`, `scoping`) and the links that they make (`links`), functions that are
 //! declared (`functions`), whether there are any names for a scope (`declares`), and the rows without statements in them
 //! (`simple`, `valued`, `bindings`, `heads`, `storing`, `switching`, `trying`).
@@ -30,7 +30,7 @@ pub mod returning;
 pub mod scoping;
 pub mod scripts;
 pub mod simple;
-pub mod stmt_site;
+pub mod stmt_context;
 pub mod stmts;
 pub mod storing;
 pub mod switching;
@@ -39,4 +39,4 @@ pub mod valued;
 
 pub use draft::Draft;
 pub use frames::Frame;
-pub use stmt_site::StmtContext;
+pub use stmt_context::StmtContext;

@@ -16,7 +16,7 @@ use crate::draft::Draft;
 use crate::frames::Frame;
 use crate::leaving::exits;
 use crate::scoping::has_env;
-use crate::stmt_site::StmtContext;
+use crate::stmt_context::StmtContext;
 use bytecode_buf::{CodeBuf, Op};
 use emit_exprs::steps::plain;
 use script_grammar::tree::Expr;

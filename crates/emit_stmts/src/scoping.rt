@@ -10,7 +10,7 @@ ghost use Rattle.emit_stmts.specs.Scoping.{scope_in, hidden_in, enters};
 ghost use Rattle.emit_stmts.specs.Stmts as code;
 
 use crate::links::scope_link;
-use crate::stmt_site::StmtContext;
+use crate::stmt_context::StmtContext;
 use bytecode_buf::{CodeBuf, Op};
 use emit_exprs::steps::{counted, plain};
 use std::alloc::AllocError;

@@ -12,7 +12,7 @@ ghost use Rattle.emit_stmts.specs.Positions.{position_of, state};
 ghost use Rattle.emit_stmts.specs.ScriptCode.{ScriptWritten, Drafted, IsTop};
 
 use crate::draft::Draft;
-use crate::stmt_site::StmtContext;
+use crate::stmt_context::StmtContext;
 use crate::stmts::emit_stmts;
 use bytecode_buf::{CodeBuf, Op, Wait};
 use emit_exprs::Site;

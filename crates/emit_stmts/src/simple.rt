@@ -8,7 +8,7 @@ ghost use Rattle.emit_stmts.specs.StmtCode.{RowWritten};
 
 use crate::draft::Draft;
 use crate::leaving::{Goal, leaving};
-use crate::stmt_site::StmtContext;
+use crate::stmt_context::StmtContext;
 use bytecode_buf::{Op, Wait};
 use emit_exprs::steps::plain;
 use script_grammar::tree::Ident;

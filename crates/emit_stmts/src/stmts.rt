@@ -18,7 +18,7 @@ use crate::inside::{enter_next, may_enter, push_next, within_scope};
 use crate::returning::return_stmt;
 use crate::scoping::leave_scope;
 use crate::simple::{break_stmt, continue_stmt, debugger_stmt};
-use crate::stmt_site::StmtContext;
+use crate::stmt_context::StmtContext;
 use crate::storing::store_each;
 use crate::switching::{ClauseJumps, cases, clause_target, default_aim};
 use crate::trying::{caught, close_try, dropped, open_try};

@@ -9,7 +9,7 @@ ghost use Rattle.emit_stmts.specs.Clauses.{ClauseLanded, InOrder, TestLanded, wa
 ghost use Rattle.emit_stmts.specs.HeadCode.{CaseWritten, CasesWritten};
 ghost use Rattle.emit_stmts.specs.Stmts as code;
 
-use crate::stmt_site::StmtContext;
+use crate::stmt_context::StmtContext;
 use bytecode_buf::{Aim, CodeBuf, Op, Wait, jump_to, land};
 use emit_exprs::steps::plain;
 use emit_exprs::{Use, emit_expr};

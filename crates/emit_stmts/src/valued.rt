@@ -11,7 +11,7 @@ ghost use Rattle.emit_stmts.specs.Stmts as code;
 
 use crate::bindings::bind_names;
 use crate::draft::Draft;
-use crate::stmt_site::StmtContext;
+use crate::stmt_context::StmtContext;
 use bytecode_buf::{CodeBuf, Op};
 use emit_exprs::steps::plain;
 use emit_exprs::{Use, emit_expr};

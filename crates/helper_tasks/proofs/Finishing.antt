@@ -8,7 +8,7 @@ use Rattle.std.proofs.lemmas.List.{take-append-drop, map-append, append-nil, len
 use Rattle.std.proofs.lemmas.Bool.Decides.{nat_tests}
 use Rattle.helper_tasks.specs.declared.rule.Dealt.{Dealt}
 use Rattle.helper_tasks.specs.declared.helper.Made.{Made}
-use Rattle.helper_tasks.specs.declared.helper.Desk.{Desk}
+use Rattle.helper_tasks.specs.declared.helper.WorkerDesk.{WorkerDesk}
 use Rattle.helper_tasks.specs.declared.helper.Helper.{Helper}
 use Rattle.helper_tasks.specs.Count.{times, total, once_below, Each, EachOnceBelow}
 use Rattle.helper_tasks.specs.Jobs.{Gain, GainedOnce, GivesEach}
@@ -74,7 +74,7 @@ module _ {S O N : Type 0} where
       → ((x : ℕ) → total (alone order x) hired ≡ times x (drop p order)) → (x : ℕ) → times x pushed + total (alone order x) v ≡ times x order
   staffed_tasks order pushed p hired base looking v eb ev same ep rest x =
       let a = ap (total (alone order x)) ev in
-      let b = total_along aspect (λ (s : ℕ × Place × Reach × Desk S O × ℕ). times x (drop s.4 order)) looking base same in
+      let b = total_along aspect (λ (s : ℕ × Place × Reach × WorkerDesk S O × ℕ). times x (drop s.4 order)) looking base same in
       let g = ap (total (alone order x)) eb in
       let c = rest x in
       let d = ap (times x) ep in
@@ -83,7 +83,7 @@ module _ {S O N : Type 0} where
 
   pub staffed_shares : (hired base looking v : List (Helper S O N)) (shares : List S) → base ≡ hired → v ≡ looking → map aspect looking ≡ map aspect base → map (λ (h : Helper S O N). h.desk.share) hired ≡ shares → map (λ (h : Helper S O N). h.desk.share) v ≡ shares
   staffed_shares hired base looking v shares eb ev same e =
-      ap (map (λ (h : Helper S O N). h.desk.share)) ev ∙ (map_along aspect (λ (s : ℕ × Place × Reach × Desk S O × ℕ). s.3.share) looking base same ∙ (ap (map (λ (h : Helper S O N). h.desk.share)) eb ∙ e))
+      ap (map (λ (h : Helper S O N). h.desk.share)) ev ∙ (map_along aspect (λ (s : ℕ × Place × Reach × WorkerDesk S O × ℕ). s.3.share) looking base same ∙ (ap (map (λ (h : Helper S O N). h.desk.share)) eb ∙ e))
 
   pub staffed_fresh : (queue : Place) (n : ℕ) (order : List ℕ) (first hired looking v : List (Helper S O N)) → hired ≡ first → v ≡ looking → map aspect looking ≡ map aspect hired → n ≡ length hired
       → Each (Hired queue n order) first → Each (λ (h : Helper S O N). h.handles.own.dealt ≡ dealt (64 - length hired) [] []) looking
@@ -93,10 +93,10 @@ module _ {S O N : Type 0} where
       let P : List Place = map deque_of looking in
       let count : length hired ≡ length looking = sym (same_length looking hired same) in
       let known : Helper S O N → Type 0 = λ h. (h.handles.number < n) × (h.handles.fetcher ≡ reach_at queue (dealt 1 [] [])) × (h.desk.made.items ≡ []) × (h.rest ≤ length order) in
-      let Q : ℕ × Place × Reach × Desk S O × ℕ → Type 0 = λ s. (s.0 < n) × (s.2 ≡ reach_at queue (dealt 1 [] [])) × (s.3.made.items ≡ []) × (s.4 ≤ length order) in
+      let Q : ℕ × Place × Reach × WorkerDesk S O × ℕ → Type 0 = λ s. (s.0 < n) × (s.2 ≡ reach_at queue (dealt 1 [] [])) × (s.3.made.items ≡ []) × (s.4 ≤ length order) in
       let old : Each known hired = each-map (Hired queue n order) known hired (λ h f. (f.numbered, f.fetcher_new, f.none_made, f.rest_in)) (subst (Each (Hired queue n order)) (sym eb) all) in
       let new : Each known looking = along aspect Q looking hired same old in
-      let at : map (λ (k : Helper S O N). new_look (deque_of k)) hired ≡ map new_look P = sym (map_along aspect (λ (s : ℕ × Place × Reach × Desk S O × ℕ). new_look s.1) looking hired same) ∙ sym (map_after new_look deque_of looking) in
+      let at : map (λ (k : Helper S O N). new_look (deque_of k)) hired ≡ map new_look P = sym (map_along aspect (λ (s : ℕ × Place × Reach × WorkerDesk S O × ℕ). new_look s.1) looking hired same) ∙ sym (map_after new_look deque_of looking) in
       let Own : Helper S O N → Type 0 = λ h. h.handles.own.dealt ≡ dealt (64 - length hired) [] [] in
       let Look : Helper S O N → Type 0 = λ h. h.handles.looks.items ≡ map (λ (k : Helper S O N). new_look (deque_of k)) hired in
       let both = each_both known (λ h. Own h × Look h) looking new (each_both Own Look looking own looks) in
@@ -138,10 +138,10 @@ paired_set R (a ∷ as') [] d new to p = p
 paired_set R (a ∷ as') (b ∷ bs) d new to p = (to a p.0, p.1)
 
 module _ {S O : Type 0} (fits : S → Type 0) (gives : ℕ → O → Type 0) (ran : S → List ℕ) where
-  pub settle_lists : (starts : List (List ℕ)) (desks : List (Desk S O)) (d was new : Desk S O) (v w : Dealt) → was ≡ get_or desks 0 d → Drained fits gives ran was new v w → Paired (Lists ran) starts desks → Paired (Lists ran) starts (set desks 0 new)
+  pub settle_lists : (starts : List (List ℕ)) (desks : List (WorkerDesk S O)) (d was new : WorkerDesk S O) (v w : Dealt) → was ≡ get_or desks 0 d → Drained fits gives ran was new v w → Paired (Lists ran) starts desks → Paired (Lists ran) starts (set desks 0 new)
   settle_lists starts desks d was new v w e p q = paired_set (Lists ran) starts desks d new (λ start l. p.lists start (subst (Lists ran start) (sym e) l)) q
 
-  pub settle_ran : (x c f q l k : ℕ) (desks : List (Desk S O)) (d was new : Desk S O) (pushed : List ℕ) (all now : Dealt) → 0 < length desks → was ≡ get_or desks 0 d → Drained fits gives ran was new all now → TookAll now
+  pub settle_ran : (x c f q l k : ℕ) (desks : List (WorkerDesk S O)) (d was new : WorkerDesk S O) (pushed : List ℕ) (all now : Dealt) → 0 < length desks → was ≡ get_or desks 0 d → Drained fits gives ran was new all now → TookAll now
       → all.parts ≡ 64 → all.pushed ≡ pushed → times x all.taken ≡ f → total (ran_at x) desks + q ≡ l → c ≡ f + q → k ≡ l
       → total (ran_at x) (set desks 0 new) + c ≡ k + times x pushed
   settle_ran x c f q l k desks d was new pushed all now some_desk e p empty parts same took ran_all came left =
@@ -268,28 +268,28 @@ module _ {S O N : Type 0} (fits : S → Type 0) (gives : ℕ → O → Type 0) (
       omega arith
 
 module _ {S O : Type 0} where
-  pub made_total : (x : ℕ) (ds : List (Desk S O)) → times x (tasks_of (all_made ds)) ≡ total (ran_at x) ds
+  pub made_total : (x : ℕ) (ds : List (WorkerDesk S O)) → times x (tasks_of (all_made ds)) ≡ total (ran_at x) ds
   made_total x [] = refl
   made_total x (d ∷ ds) =
       let r = made_total x ds in
       let e = ap (times x) (map-append (λ (m : Made O). m.task) d.made.items (all_made ds)) in
       omega (arith, times-append x (tasks_of d.made.items) (tasks_of (all_made ds)))
 
-  pub made_given : (fits : S → Type 0) (gives : ℕ → O → Type 0) (ds : List (Desk S O)) → Each (InOrder fits gives) ds → Each (λ (m : Made O). gives m.task m.out) (all_made ds)
+  pub made_given : (fits : S → Type 0) (gives : ℕ → O → Type 0) (ds : List (WorkerDesk S O)) → Each (InOrder fits gives) ds → Each (λ (m : Made O). gives m.task m.out) (all_made ds)
   made_given fits gives [] all = tt
   made_given fits gives (d ∷ ds) all = each-append (λ (m : Made O). gives m.task m.out) d.made.items (all_made ds) all.0.outs_given (made_given fits gives ds all.1)
 
-  pub shares_fit : (fits : S → Type 0) (gives : ℕ → O → Type 0) (ds : List (Desk S O)) (shares : List S) → shares ≡ map (λ (d : Desk S O). d.share) ds → Each (InOrder fits gives) ds → All fits shares
+  pub shares_fit : (fits : S → Type 0) (gives : ℕ → O → Type 0) (ds : List (WorkerDesk S O)) (shares : List S) → shares ≡ map (λ (d : WorkerDesk S O). d.share) ds → Each (InOrder fits gives) ds → All fits shares
   shares_fit fits gives ds shares e all =
-      each_all fits shares (subst (Each fits) (sym e) (each-mapped (λ (d : Desk S O). d.share) fits ds (each-map (InOrder fits gives) (λ (d : Desk S O). fits d.share) ds (λ d o. o.share_fits) all)))
+      each_all fits shares (subst (Each fits) (sym e) (each-mapped (λ (d : WorkerDesk S O). d.share) fits ds (each-map (InOrder fits gives) (λ (d : WorkerDesk S O). fits d.share) ds (λ d o. o.share_fits) all)))
 
-  gained : (ran : S → List ℕ) (shares : List S) (ds : List (Desk S O)) → Paired (Lists ran) (map ran shares) ds → Gain ran shares (map (λ (d : Desk S O). d.share) ds) (tasks_of (all_made ds))
+  gained : (ran : S → List ℕ) (shares : List S) (ds : List (WorkerDesk S O)) → Paired (Lists ran) (map ran shares) ds → Gain ran shares (map (λ (d : WorkerDesk S O). d.share) ds) (tasks_of (all_made ds))
   gained ran [] [] p = refl
   gained ran [] (d ∷ ds) p = elim p [ ]
   gained ran (s ∷ shares) [] p = elim p [ ]
   gained ran (s ∷ shares) (d ∷ ds) p = (tasks_of d.made.items, tasks_of (all_made ds), p.0, gained ran shares ds p.1, map-append (λ (m : Made O). m.task) d.made.items (all_made ds))
 
-  pub lists_gained : (ran : S → List ℕ) (n m : ℕ) (shares after : List S) (ds : List (Desk S O)) → n ≡ m → after ≡ map (λ (d : Desk S O). d.share) ds → Paired (Lists ran) (map ran shares) ds → EachOnceBelow n (tasks_of (all_made ds)) → GainedOnce ran shares after m
+  pub lists_gained : (ran : S → List ℕ) (n m : ℕ) (shares after : List S) (ds : List (WorkerDesk S O)) → n ≡ m → after ≡ map (λ (d : WorkerDesk S O). d.share) ds → Paired (Lists ran) (map ran shares) ds → EachOnceBelow n (tasks_of (all_made ds)) → GainedOnce ran shares after m
   lists_gained ran n m shares after ds em ea p once =
       (tasks_of (all_made ds), subst (λ (l : List S). Gain ran shares l (tasks_of (all_made ds))) (sym ea) (gained ran shares ds p), λ x. once x ∙ ap (once_below x) em)
 
@@ -301,7 +301,7 @@ paired_length R (a ∷ as') (b ∷ bs) p = ap suc (paired_length R as' bs p.1)
 
 module _ {S O N : Type 0} (fits : S → Type 0) (gives : ℕ → O → Type 0) (ran : S → List ℕ) (queue : Place) (order : List ℕ) where
   -- the workers ran each task once
-  pub run_once : (hs ks : List (Helper S O N)) (ds : List (Desk S O)) (pushed : List ℕ) (tasks : ℕ) → Each (Fresh (map deque_of hs) queue (length hs) order) hs → Paired (Done fits gives ran queue order) hs ks
+  pub run_once : (hs ks : List (Helper S O N)) (ds : List (WorkerDesk S O)) (pushed : List ℕ) (tasks : ℕ) → Each (Fresh (map deque_of hs) queue (length hs) order) hs → Paired (Done fits gives ran queue order) hs ks
       → ((x : ℕ) → times x pushed + total (alone order x) hs ≡ times x order) → ((x : ℕ) → total (ran_at x) ds + total (came_to x) ks ≡ total (left_by x) ks + times x pushed)
       → length order ≡ tasks → EachOnceBelow tasks order → EachOnceBelow (length order) (tasks_of (all_made ds))
   run_once hs ks ds pushed tasks fresh done split all size once x =
@@ -319,28 +319,28 @@ module _ {S O N : Type 0} (fits : S → Type 0) (gives : ℕ → O → Type 0) (
       let n = done_length fits gives ran queue order hs ks done in
       subst (λ (p : List Place × ℕ). Each (Looking p.0 (64 - p.1)) ks) (λ j. (sym at j, sym n j)) (done_looking fits gives ran queue order (map deque_of hs) (length hs) hs ks fresh done)
 
-  pub run_lists : (hs ks : List (Helper S O N)) (ds : List (Desk S O)) (shares : List S) → Each (Fresh (map deque_of hs) queue (length hs) order) hs → Paired (Done fits gives ran queue order) hs ks
+  pub run_lists : (hs ks : List (Helper S O N)) (ds : List (WorkerDesk S O)) (shares : List S) → Each (Fresh (map deque_of hs) queue (length hs) order) hs → Paired (Done fits gives ran queue order) hs ks
       → map (λ (h : Helper S O N). h.desk.share) hs ≡ shares → ((starts : List (List ℕ)) → Paired (Lists ran) starts (map desk_of ks) → Paired (Lists ran) starts ds) → Paired (Lists ran) (map ran shares) ds
   run_lists hs ks ds shares fresh done e lists =
       lists (map ran shares) (subst (λ (s : List (List ℕ)). Paired (Lists ran) s (map desk_of ks)) (sym (map_after ran (λ (h : Helper S O N). h.desk.share) hs) ∙ ap (map ran) e) (done_lists fits gives ran queue order (map deque_of hs) (length hs) hs ks fresh done))
 
 module _ {S O E : Type 0} where
-  pub answer_outs : (gives : ℕ → O → Type 0) (n m : ℕ) (ds : List (Desk S O)) (r : Result (Vec O Global × Vec S Global) E) → n ≡ m → Each (λ (k : Made O). gives k.task k.out) (all_made ds)
+  pub answer_outs : (gives : ℕ → O → Type 0) (n m : ℕ) (ds : List (WorkerDesk S O)) (r : Result (Vec O Global × Vec S Global) E) → n ≡ m → Each (λ (k : Made O). gives k.task k.out) (all_made ds)
       → IfOk r (λ r. map (λ (x : O). Some x) r.0.items ≡ placed (empty_slots n) (all_made ds)) → IfOk r (λ r. (length r.0.items ≡ m) × GivesEach gives r.0.items)
   answer_outs gives n m ds (Err e) en given p = tt
   answer_outs gives n m ds (Ok r) en given p = (outs_length n (all_made ds) r.0.items p ∙ en, outs_given gives n (all_made ds) r.0.items p given)
 
-  pub answer_count : (ran : S → List ℕ) (ds : List (Desk S O)) (shares : List S) (r : Result (Vec O Global × Vec S Global) E) → Paired (Lists ran) (map ran shares) ds
-      → IfOk r (λ r. r.1.items ≡ map (λ (d : Desk S O). d.share) ds) → IfOk r (λ r. length r.1.items ≡ length shares)
+  pub answer_count : (ran : S → List ℕ) (ds : List (WorkerDesk S O)) (shares : List S) (r : Result (Vec O Global × Vec S Global) E) → Paired (Lists ran) (map ran shares) ds
+      → IfOk r (λ r. r.1.items ≡ map (λ (d : WorkerDesk S O). d.share) ds) → IfOk r (λ r. length r.1.items ≡ length shares)
   answer_count ran ds shares (Err e) q p = tt
-  answer_count ran ds shares (Ok r) q p = ap length p ∙ (length-map ds (λ (d : Desk S O). d.share) ∙ (paired_length (Lists ran) (map ran shares) ds q ∙ length-map shares ran))
+  answer_count ran ds shares (Ok r) q p = ap length p ∙ (length-map ds (λ (d : WorkerDesk S O). d.share) ∙ (paired_length (Lists ran) (map ran shares) ds q ∙ length-map shares ran))
 
-  pub answer_shares : (fits : S → Type 0) (gives : ℕ → O → Type 0) (ds : List (Desk S O)) (r : Result (Vec O Global × Vec S Global) E) → Each (InOrder fits gives) ds
-      → IfOk r (λ r. r.1.items ≡ map (λ (d : Desk S O). d.share) ds) → IfOk r (λ r. All fits r.1.items)
+  pub answer_shares : (fits : S → Type 0) (gives : ℕ → O → Type 0) (ds : List (WorkerDesk S O)) (r : Result (Vec O Global × Vec S Global) E) → Each (InOrder fits gives) ds
+      → IfOk r (λ r. r.1.items ≡ map (λ (d : WorkerDesk S O). d.share) ds) → IfOk r (λ r. All fits r.1.items)
   answer_shares fits gives ds (Err e) all p = tt
   answer_shares fits gives ds (Ok r) all p = shares_fit fits gives ds r.1.items p all
 
-  pub answer_lists : (ran : S → List ℕ) (n m : ℕ) (ds : List (Desk S O)) (shares : List S) (r : Result (Vec O Global × Vec S Global) E) → n ≡ m → Paired (Lists ran) (map ran shares) ds → EachOnceBelow n (tasks_of (all_made ds))
-      → IfOk r (λ r. r.1.items ≡ map (λ (d : Desk S O). d.share) ds) → IfOk r (λ r. GainedOnce ran shares r.1.items m)
+  pub answer_lists : (ran : S → List ℕ) (n m : ℕ) (ds : List (WorkerDesk S O)) (shares : List S) (r : Result (Vec O Global × Vec S Global) E) → n ≡ m → Paired (Lists ran) (map ran shares) ds → EachOnceBelow n (tasks_of (all_made ds))
+      → IfOk r (λ r. r.1.items ≡ map (λ (d : WorkerDesk S O). d.share) ds) → IfOk r (λ r. GainedOnce ran shares r.1.items m)
   answer_lists ran n m ds shares (Err e) en q once p = tt
   answer_lists ran n m ds shares (Ok r) en q once p = lists_gained ran n m shares r.1.items ds en p q once

@@ -7,7 +7,7 @@ use mathlib.Core.Option.{some, some-injective, some-ne-none}
 use lib.ListN.{get_elem?}
 use Rattle.crossbeam_deque.proofs.Lists.{at_set, set_here, set_else}
 use Rattle.helper_tasks.specs.declared.helper.Made.{Made}
-use Rattle.helper_tasks.specs.declared.helper.Desk.{Desk}
+use Rattle.helper_tasks.specs.declared.helper.WorkerDesk.{WorkerDesk}
 use Rattle.helper_tasks.specs.Count.{times, once_below, Each, EachOnceBelow}
 use Rattle.helper_tasks.specs.Jobs.{GivesEach}
 use Rattle.helper_tasks.specs.Desks.{tasks_of}
@@ -141,26 +141,26 @@ module _ {O : Type 0} where
 
 module _ {S O : Type 0} where
   -- one more desk: its outs are placed, and the slots are as many
-  pub collect_slots : (slots now : List (Option O)) (len count : ℕ) (d : Desk S O) (rest later : List (Desk S O)) (goal : List (Option O)) → rest ≡ d ∷ later → length slots ≡ len → length slots ≡ count
+  pub collect_slots : (slots now : List (Option O)) (len count : ℕ) (d : WorkerDesk S O) (rest later : List (WorkerDesk S O)) (goal : List (Option O)) → rest ≡ d ∷ later → length slots ≡ len → length slots ≡ count
       → now ≡ placed slots d.made.items → placed slots (all_made rest) ≡ goal
       → (placed (take len (now ++ drop (length now) slots)) (all_made later) ≡ goal) × (length (take len (now ++ drop (length now) slots)) ≡ count)
   collect_slots slots now len count d rest later goal er el ec en inv =
       let size : length now ≡ len = ap length en ∙ (placed_length slots d.made.items ∙ el) in
       let whole : take len (now ++ drop (length now) slots) ≡ now = ap (λ (k : ℕ). take k (now ++ drop (length now) slots)) (sym size) ∙ take-append_seam now (drop (length now) slots) in (
         ap (λ (s : List (Option O)). placed s (all_made later)) (whole ∙ en)
-            ∙ (sym (placed_append slots d.made.items (all_made later)) ∙ (ap (λ (r : List (Desk S O)). placed slots (all_made r)) (sym er) ∙ inv)),
+            ∙ (sym (placed_append slots d.made.items (all_made later)) ∙ (ap (λ (r : List (WorkerDesk S O)). placed slots (all_made r)) (sym er) ∙ inv)),
         ap length whole ∙ (size ∙ (sym el ∙ ec)),
       )
 
-  pub collect_tasks : (count : ℕ) (d : Desk S O) (rest later : List (Desk S O)) → rest ≡ d ∷ later → Each (λ (m : Made O). m.task < count) (all_made rest)
+  pub collect_tasks : (count : ℕ) (d : WorkerDesk S O) (rest later : List (WorkerDesk S O)) → rest ≡ d ∷ later → Each (λ (m : Made O). m.task < count) (all_made rest)
       → Each (λ (m : Made O). m.task < count) d.made.items × Each (λ (m : Made O). m.task < count) (all_made later)
   collect_tasks count d rest later er all =
       let P : Made O → Type 0 = λ m. m.task < count in
-      let both : Each P (d.made.items ++ all_made later) = subst (λ (r : List (Desk S O)). Each P (all_made r)) er all in
+      let both : Each P (d.made.items ++ all_made later) = subst (λ (r : List (WorkerDesk S O)). Each P (all_made r)) er all in
       (each-front P d.made.items (all_made later) both, each-back P d.made.items (all_made later) both)
 
-  pub collect_shares : (shares more : List S) (d : Desk S O) (rest later : List (Desk S O)) (goal : List S) → more ≡ shares ++ d.share ∷ [] → rest ≡ d ∷ later
-      → shares ++ map (λ (e : Desk S O). e.share) rest ≡ goal → more ++ map (λ (e : Desk S O). e.share) later ≡ goal
+  pub collect_shares : (shares more : List S) (d : WorkerDesk S O) (rest later : List (WorkerDesk S O)) (goal : List S) → more ≡ shares ++ d.share ∷ [] → rest ≡ d ∷ later
+      → shares ++ map (λ (e : WorkerDesk S O). e.share) rest ≡ goal → more ++ map (λ (e : WorkerDesk S O). e.share) later ≡ goal
   collect_shares shares more d rest later goal em er inv =
-      ap (λ (l : List S). l ++ map (λ (e : Desk S O). e.share) later) em
-      ∙ (append_assoc shares (d.share ∷ []) (map (λ (e : Desk S O). e.share) later) ∙ (ap (λ (r : List (Desk S O)). shares ++ map (λ (e : Desk S O). e.share) r) (sym er) ∙ inv))
+      ap (λ (l : List S). l ++ map (λ (e : WorkerDesk S O). e.share) later) em
+      ∙ (append_assoc shares (d.share ∷ []) (map (λ (e : WorkerDesk S O). e.share) later) ∙ (ap (λ (r : List (WorkerDesk S O)). shares ++ map (λ (e : WorkerDesk S O). e.share) r) (sym er) ∙ inv))

@@ -5,7 +5,7 @@ use Rattle.std.specs.declared.alloc.Global.{Global}
 use Rattle.std.proofs.Math.Seq.{map-set_same, drop-set-lt}
 use Rattle.std.proofs.lemmas.List.{take-map, drop-map, take_more_set, append-nil}
 use Rattle.helper_tasks.specs.declared.rule.Dealt.{Dealt}
-use Rattle.helper_tasks.specs.declared.helper.Desk.{Desk}
+use Rattle.helper_tasks.specs.declared.helper.WorkerDesk.{WorkerDesk}
 use Rattle.helper_tasks.specs.declared.helper.Helper.{Helper}
 use Rattle.helper_tasks.specs.Count.{times, total, Each}
 use Rattle.helper_tasks.specs.Rule.{TookAll}
@@ -202,10 +202,10 @@ module _ {S O N : Type 0} where
 
 -- draining: one more task
 module _ {S O : Type 0} (fits : S → Type 0) (gives : ℕ → O → Type 0) (ran : S → List ℕ) where
-  pub drained_stay : (d : Desk S O) (v : Dealt) → InOrder fits gives d → Drained fits gives ran d d v v
+  pub drained_stay : (d : WorkerDesk S O) (v : Dealt) → InOrder fits gives d → Drained fits gives ran d d v v
   drained_stay d v o = record { in_order = o; lists = λ start l. l; parts_are = refl; pushed_is = refl; moves = λ x. refl }
 
-  pub drained_more : (a b c : Desk S O) (v w u : Dealt) (t : ℕ) → Drained fits gives ran a b v w → u ≡ took w t → InOrder fits gives c → ((start : List ℕ) → Lists ran start b → Lists ran start c)
+  pub drained_more : (a b c : WorkerDesk S O) (v w u : Dealt) (t : ℕ) → Drained fits gives ran a b v w → u ≡ took w t → InOrder fits gives c → ((start : List ℕ) → Lists ran start b → Lists ran start c)
       → tasks_of c.made.items ≡ tasks_of b.made.items ++ t ∷ [] → Drained fits gives ran a c v u
   drained_more a b c v w u t p eu o l e = record {
     in_order = o;
@@ -227,16 +227,16 @@ paired_put R (a ∷ as') (c ∷ bs) b new cs to p = (p.0, paired_put R as' bs b 
 
 -- one worker is dismissed
 module _ {S O N : Type 0} (fits : S → Type 0) (gives : ℕ → O → Type 0) (ran : S → List ℕ) (queue : Place) where
-  pub dismiss_paired : (starts : List (List ℕ)) (desks more : List (Desk S O)) (h : Helper S O N) (d : Desk S O) (v w : Dealt) (rest later : List (Helper S O N)) → rest ≡ h ∷ later → more ≡ desks ++ d ∷ []
+  pub dismiss_paired : (starts : List (List ℕ)) (desks more : List (WorkerDesk S O)) (h : Helper S O N) (d : WorkerDesk S O) (v w : Dealt) (rest later : List (Helper S O N)) → rest ≡ h ∷ later → more ≡ desks ++ d ∷ []
       → Drained fits gives ran h.desk d v w → Paired (Lists ran) starts (desks ++ map desk_of rest) → Paired (Lists ran) starts (more ++ map desk_of later)
   dismiss_paired starts desks more h d v w rest later er em p q =
       let now : Paired (Lists ran) starts (desks ++ map desk_of (h ∷ later)) = subst (λ (r : List (Helper S O N)). Paired (Lists ran) starts (desks ++ map desk_of r)) er q in
-      subst (λ (m : List (Desk S O)). Paired (Lists ran) starts (m ++ map desk_of later)) (sym em) (paired_put (Lists ran) starts desks h.desk d (map desk_of later) p.lists now)
+      subst (λ (m : List (WorkerDesk S O)). Paired (Lists ran) starts (m ++ map desk_of later)) (sym em) (paired_put (Lists ran) starts desks h.desk d (map desk_of later) p.lists now)
 
   pub dismiss_fits : (h : Helper S O N) (rest later : List (Helper S O N)) → rest ≡ h ∷ later → Each (Dismissible fits gives queue) rest → Dismissible fits gives queue h × Each (Dismissible fits gives queue) later
   dismiss_fits h rest later er all = let r = subst (Each (Dismissible fits gives queue)) er all in (r.0, r.1)
 
-  pub dismiss_ran : (x : ℕ) (desks more : List (Desk S O)) (h : Helper S O N) (d : Desk S O) (own : Dealt) (rest later hs : List (Helper S O N)) → rest ≡ h ∷ later → more ≡ desks ++ d ∷ [] → Dismissible fits gives queue h
+  pub dismiss_ran : (x : ℕ) (desks more : List (WorkerDesk S O)) (h : Helper S O N) (d : WorkerDesk S O) (own : Dealt) (rest later hs : List (Helper S O N)) → rest ≡ h ∷ later → more ≡ desks ++ d ∷ [] → Dismissible fits gives queue h
       → Drained fits gives ran h.desk d h.handles.own.dealt own → TookAll own
       → total (ran_at x) desks + total (popped x) hs + total (left_by x) rest ≡ total (left_by x) hs + total (popped x) rest
       → total (ran_at x) more + total (popped x) hs + total (left_by x) later ≡ total (left_by x) hs + total (popped x) later
@@ -269,5 +269,5 @@ module _ {S O N : Type 0} (fits : S → Type 0) (gives : ℕ → O → Type 0) (
   pub dismiss_some : (all new : Reach) (h : Helper S O N) → new ≡ reach_at queue (joined all.dealt h.handles.fetcher.dealt) → 0 < all.dealt.parts → 0 < new.dealt.parts
   dismiss_some all new h en some_part = let b = ap (λ (r : Reach). r.dealt.parts) en in omega arith
 
-pub dismiss_order : {S O : Type 0} (fits : S → Type 0) (gives : ℕ → O → Type 0) (desks more : List (Desk S O)) (d : Desk S O) → more ≡ desks ++ d ∷ [] → InOrder fits gives d → Each (InOrder fits gives) desks → Each (InOrder fits gives) more
+pub dismiss_order : {S O : Type 0} (fits : S → Type 0) (gives : ℕ → O → Type 0) (desks more : List (WorkerDesk S O)) (d : WorkerDesk S O) → more ≡ desks ++ d ∷ [] → InOrder fits gives d → Each (InOrder fits gives) desks → Each (InOrder fits gives) more
 dismiss_order fits gives desks more d em o all = subst (Each (InOrder fits gives)) (sym em) (each-snoc (InOrder fits gives) desks d all o)

@@ -1,7 +1,7 @@
 -- What each step of a worker does.
 use Rattle.std.proofs.Common.{◌≡◌, ℕ, List, [], ◌∷◌, ◌++◌, Result, Ok, Err, IfOk, refl, ap, ◌∙◌, arith}
 use Rattle.helper_tasks.specs.declared.handles.Handles.{Handles}
-use Rattle.helper_tasks.specs.declared.helper.Desk.{Desk}
+use Rattle.helper_tasks.specs.declared.helper.WorkerDesk.{WorkerDesk}
 use Rattle.helper_tasks.specs.declared.helper.Helper.{Helper}
 use Rattle.helper_tasks.specs.Count.{times}
 use Rattle.helper_tasks.specs.Handles.{Place}
@@ -44,7 +44,7 @@ module _ {S O N : Type 0} (fits : S → Type 0) (gives : ℕ → O → Type 0) (
   }
 
   -- the worker runs a task
-  pub works_run : (h : Helper S O N) (d : Desk S O) (t : ℕ) → Ready fits gives queue h → InOrder fits gives d → ((start : List ℕ) → Lists ran start h.desk → Lists ran start d)
+  pub works_run : (h : Helper S O N) (d : WorkerDesk S O) (t : ℕ) → Ready fits gives queue h → InOrder fits gives d → ((start : List ℕ) → Lists ran start h.desk → Lists ran start d)
       → tasks_of d.made.items ≡ tasks_of h.desk.made.items ++ t ∷ [] → Works fits gives ran queue h (record h { desk = d }) (t ∷ []) []
   works_run h d t r o l e = record {
     ready = record { equipped = r.equipped; fetches_from = r.fetches_from; in_order = o };
@@ -54,7 +54,7 @@ module _ {S O N : Type 0} (fits : S → Type 0) (gives : ℕ → O → Type 0) (
     moves = λ x. let i = ap (times x) e in omega (arith, times-append x (tasks_of h.desk.made.items) (t ∷ []));
   }
 
-  pub works_ran : {U E : Type 0} (h : Helper S O N) (d : Desk S O) (t : ℕ) (r : Result U E) → Ready fits gives queue h → IfOk r (λ _. InOrder fits gives d) → IfOk r (λ _. (start : List ℕ) → Lists ran start h.desk → Lists ran start d)
+  pub works_ran : {U E : Type 0} (h : Helper S O N) (d : WorkerDesk S O) (t : ℕ) (r : Result U E) → Ready fits gives queue h → IfOk r (λ _. InOrder fits gives d) → IfOk r (λ _. (start : List ℕ) → Lists ran start h.desk → Lists ran start d)
       → IfOk r (λ _. tasks_of d.made.items ≡ tasks_of h.desk.made.items ++ t ∷ []) → IfOk r (λ _. Works fits gives ran queue h (record h { desk = d }) (t ∷ []) [])
   works_ran h d t (Ok u) ready o l e = works_run h d t ready o l e
   works_ran h d t (Err e) ready o l e' = tt

@@ -3,7 +3,7 @@ use Rattle.std.specs.Prelude.{◌≡◌, ℕ, ◌+◌, ◌-◌, ◌<◌, ◌≤�
 use Rattle.std.specs.declared.alloc.AllocError.{AllocError}
 use Rattle.helper_tasks.specs.declared.rule.Dealt.{Dealt}
 use Rattle.helper_tasks.specs.declared.helper.Made.{Made}
-use Rattle.helper_tasks.specs.declared.helper.Desk.{Desk}
+use Rattle.helper_tasks.specs.declared.helper.WorkerDesk.{WorkerDesk}
 use Rattle.helper_tasks.specs.declared.helper.Helper.{Helper}
 use Rattle.helper_tasks.specs.Count.{times, Each}
 use Rattle.helper_tasks.specs.Rule.{dealt}
@@ -24,14 +24,14 @@ new_look deque = end_at deque (dealt 1 [] [])
 
 module _ {S O : Type 0} where
   -- how often the desk's share ran the task
-  abbrev pub ran_at : ℕ → Desk S O → ℕ
+  abbrev pub ran_at : ℕ → WorkerDesk S O → ℕ
   ran_at x d = times x (tasks_of d.made.items)
 
 module _ {S O N : Type 0} where
   abbrev pub deque_of : Helper S O N → Place
   deque_of h = h.handles.own.deque
 
-  abbrev pub desk_of : Helper S O N → Desk S O
+  abbrev pub desk_of : Helper S O N → WorkerDesk S O
   desk_of h = h.desk
 
   abbrev pub fetcher_of : Helper S O N → Reach
@@ -58,7 +58,7 @@ module _ {S O N : Type 0} where
   alone order x h = times x (drop h.rest order)
 
   -- all of a worker but its looks and what it has of its own deque
-  abbrev pub aspect : Helper S O N → ℕ × Place × Reach × Desk S O × ℕ
+  abbrev pub aspect : Helper S O N → ℕ × Place × Reach × WorkerDesk S O × ℕ
   aspect h = (h.handles.number, h.handles.own.deque, h.handles.fetcher, h.desk, h.rest)
 
   -- the worker gave a part of its deque away
@@ -83,7 +83,7 @@ module _ {S O N : Type 0} where
 
 module _ {S O : Type 0} where
   -- all that the tasks of these desks gave
-  abbrev pub all_made : List (Desk S O) → List (Made O)
+  abbrev pub all_made : List (WorkerDesk S O) → List (Made O)
   all_made [] = []
   all_made (d ∷ ds) = d.made.items ++ all_made ds
 
@@ -110,7 +110,7 @@ module _ {S O N : Type 0} (fits : S → Type 0) (gives : ℕ → O → Type 0) (
 
 -- tasks left a deque or the injector, and were run at the desk
 module _ {S O : Type 0} (fits : S → Type 0) (gives : ℕ → O → Type 0) (ran : S → List ℕ) where
-  pub record Drained (old new : Desk S O) (before after : Dealt) : Type 0 where
+  pub record Drained (old new : WorkerDesk S O) (before after : Dealt) : Type 0 where
     pub in_order : InOrder fits gives new
     pub lists : (start : List ℕ) → Lists ran start old → Lists ran start new
     pub parts_are : after.parts ≡ before.parts

@@ -1,7 +1,7 @@
 -- What a worker's desk has, and what a worker has done. It is this project's own choice.
 use Rattle.std.specs.Prelude.{◌≡◌, ℕ, ◌+◌, List, ◌++◌, map}
 use Rattle.helper_tasks.specs.declared.helper.Made.{Made}
-use Rattle.helper_tasks.specs.declared.helper.Desk.{Desk}
+use Rattle.helper_tasks.specs.declared.helper.WorkerDesk.{WorkerDesk}
 use Rattle.helper_tasks.specs.declared.helper.Helper.{Helper}
 use Rattle.helper_tasks.specs.Count.{times, Each}
 use Rattle.helper_tasks.specs.Handles.{Place}
@@ -14,13 +14,13 @@ module _ {O : Type 0} where
 
 module _ {S O : Type 0} (fits : S → Type 0) (gives : ℕ → O → Type 0) where
   -- the share fits, and each out is one that its task gives
-  pub record InOrder (d : Desk S O) : Type 0 where
+  pub record InOrder (d : WorkerDesk S O) : Type 0 where
     pub share_fits : fits d.share
     pub outs_given : Each (λ (m : Made O). gives m.task m.out) d.made.items
 
 module _ {S O : Type 0} (ran : S → List ℕ) where
   -- the share's list has grown by the tasks that gave the desk's outs
-  abbrev pub Lists : List ℕ → Desk S O → Type 0
+  abbrev pub Lists : List ℕ → WorkerDesk S O → Type 0
   Lists start d = ran d.share ≡ start ++ tasks_of d.made.items
 
 module _ {S O N : Type 0} (fits : S → Type 0) (gives : ℕ → O → Type 0) (queue : Place) where

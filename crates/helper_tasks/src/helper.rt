@@ -17,7 +17,7 @@ pub struct Made<O> {
 
 /// A worker's share, and what the tasks that it ran gave, the first one first.
 #[derive(Drop)]
-pub struct Desk<S, O> {
+pub struct WorkerDesk<S, O> {
     pub share: S,
     pub made: Vec<Made<O>>,
 }
@@ -26,7 +26,7 @@ pub struct Desk<S, O> {
 #[derive(Drop)]
 pub struct Helper<S, O, N: Numbering> {
     pub handles: Handles<N>,
-    pub desk: Desk<S, O>,
+    pub desk: WorkerDesk<S, O>,
     /// The tasks of the order from this place on are the worker's alone.
     pub rest: usize,
 }
@@ -53,7 +53,7 @@ impl<S, O, N: Numbering> Helper<S, O, N> {
             looks: Vec::new(alloc),
             fetcher,
         };
-        let desk = Desk {
+        let desk = WorkerDesk {
             share,
             made: Vec::new(alloc),
         };

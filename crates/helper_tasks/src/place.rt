@@ -3,7 +3,7 @@ ghost use Rattle.std.specs.Prelude.{◌≡◌, ℕ, ◌<◌, List, [], ◌++◌,
 ghost use Rattle.helper_tasks.specs.Count.{Each};
 ghost use Rattle.helper_tasks.specs.Crew.{placed, empty_slots, all_made};
 
-use crate::helper::{Desk, Made};
+use crate::helper::{Made, WorkerDesk};
 use std::alloc::{AllocError, Global};
 
 // n empty slots.
@@ -46,7 +46,7 @@ fn outs<O: Drop>(alloc: Global, slots: Vec<Option<O>>) -> Result<Vec<O>, AllocEr
 pub fn collect<S: Drop, O: Drop>(
     alloc: Global,
     count: usize,
-    desks: Vec<Desk<S, O>>,
+    desks: Vec<WorkerDesk<S, O>>,
 ) -> Result<(Vec<O>, Vec<S>), AllocError>
     requires tasks { Each (λ m. m.task < count) (all_made desks.items) }
     requires filled { Each IsSome (placed (empty_slots count) (all_made desks.items)) }
@@ -56,7 +56,7 @@ pub fn collect<S: Drop, O: Drop>(
     let mut slots = slots(alloc, count)?;
     let mut shares = Vec::new(alloc);
     for desk in desks {
-        let Desk { share, made } = desk;
+        let WorkerDesk { share, made } = desk;
         shares.push(share)?;
         place_all(&mut slots, made);
     }

@@ -10,7 +10,7 @@ ghost use Rattle.helper_tasks.specs.Crew.{Looking, Dismissible, Drained, Paired,
 use crate::deque::{Look, Own};
 use crate::gate::Gate;
 use crate::handles::Handles;
-use crate::helper::{Desk, Helper};
+use crate::helper::{Helper, WorkerDesk};
 use crate::injector::Fetcher;
 use crate::job::Job;
 use crate::rule::Numbering;
@@ -55,7 +55,7 @@ impl<'a, J: Job, G: Gate, N: Numbering> Workplace<'a, J, G, N> {
         &self,
         rt: &impl Wait,
         own: &mut Own<N>,
-        desk: &mut Desk<J::Share, J::Out>,
+        desk: &mut WorkerDesk<J::Share, J::Out>,
     ) -> Result<(), AllocError>
         requires numbered { N.bound ≡ J.tasks self.now.job.now }
         requires part { 0 < own.old.dealt.parts }
@@ -77,7 +77,7 @@ impl<'a, J: Job, G: Gate, N: Numbering> Workplace<'a, J, G, N> {
         &self,
         rt: &impl Wait,
         all: &mut Fetcher,
-        desk: &mut Desk<J::Share, J::Out>,
+        desk: &mut WorkerDesk<J::Share, J::Out>,
     ) -> Result<(), AllocError>
         requires numbered { N.bound ≡ J.tasks self.now.job.now }
         requires queue { all.old.injector ≡ self.now.queue.now }
@@ -101,7 +101,7 @@ impl<'a, J: Job, G: Gate, N: Numbering> Workplace<'a, J, G, N> {
         rt: &impl Wait,
         helpers: Vec<Helper<J::Share, J::Out, N>>,
         all: &mut Fetcher,
-    ) -> Result<Vec<Desk<J::Share, J::Out>>, AllocError>
+    ) -> Result<Vec<WorkerDesk<J::Share, J::Out>>, AllocError>
         requires numbered { N.bound ≡ J.tasks self.now.job.now }
         requires queue { all.old.injector ≡ self.now.queue.now }
         requires part { 0 < all.old.dealt.parts }
@@ -138,7 +138,7 @@ impl<'a, J: Job, G: Gate, N: Numbering> Workplace<'a, J, G, N> {
         rt: &impl Wait,
         mut helpers: Vec<Helper<J::Share, J::Out, N>>,
         mut all: Fetcher,
-    ) -> Result<Vec<Desk<J::Share, J::Out>>, AllocError>
+    ) -> Result<Vec<WorkerDesk<J::Share, J::Out>>, AllocError>
         requires numbered { N.bound ≡ J.tasks self.now.job.now }
         requires count { (0 < length helpers.items) × (length helpers.items ≤ 16) }
         requires all { all ≡ reach_at self.now.queue.now (dealt (64 - length helpers.items) all.dealt.pushed []) }

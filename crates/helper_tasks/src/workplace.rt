@@ -4,7 +4,7 @@ ghost use Rattle.helper_tasks.specs.Count.{Each};
 ghost use Rattle.helper_tasks.specs.Desks.{tasks_of, InOrder, Lists, Ready, Works};
 
 use crate::gate::Gate;
-use crate::helper::{Desk, Helper, Made};
+use crate::helper::{Helper, Made, WorkerDesk};
 use crate::injector::Queue;
 use crate::job::Job;
 use crate::rule::Numbering;
@@ -35,7 +35,7 @@ impl<'a, J: Job, G: Gate, N: Numbering> Drop for Workplace<'a, J, G, N> {
 
 impl<'a, J: Job, G: Gate, N: Numbering> Workplace<'a, J, G, N> {
     /// Runs a task with the desk's share, and keeps what it gave.
-    pub fn run(&self, desk: &mut Desk<J::Share, J::Out>, task: u32) -> Result<(), AllocError>
+    pub fn run(&self, desk: &mut WorkerDesk<J::Share, J::Out>, task: u32) -> Result<(), AllocError>
         requires numbered { N.bound ≡ J.tasks self.now.job.now }
         requires task { task < N.bound }
         requires desk { InOrder (J.fits self.now.job.now) (J.gives self.now.job.now) desk.old }

@@ -7,7 +7,7 @@ use Rattle.stencil_data.specs.declared.records.ClosedName.{ClosedName}
 use Rattle.stencil_data.specs.LinkView.{LinkView}
 use Rattle.stencil_data.specs.StandsFor.{text_at, named_closed}
 use Rattle.stencil_data.specs.Views.{RecordView}
-use Rattle.parse_track.specs.declared.region.Known.{Known}
+use Rattle.parse_track.specs.declared.region.WellKnownAtoms.{WellKnownAtoms}
 use Rattle.parser_atoms.specs.Places.{AreWithoutEquals}
 use Rattle.script_scanner.specs.Stands.{Keeps}
 use Rattle.scope_analysis.specs.FunctionTree.{HasBody, KnowsNames}
@@ -39,7 +39,7 @@ room file lazy texts chain items m can words named all few_words few_named taken
     omega (arith, short, few_texts, ends, few_words, few_named, few)
 
 -- the own texts: with the known words, then with the name, then with the closed names
-module _ (texts words named all : List (List ℕ)) (known : Known) (has : HasWords words known) (name_taken : TakesFrom texts words named) (closed_taken : TakesFrom texts named all) where
+module _ (texts words named all : List (List ℕ)) (known : WellKnownAtoms) (has : HasWords words known) (name_taken : TakesFrom texts words named) (closed_taken : TakesFrom texts named all) where
   words_there : HasWords all known
   words_there = words_kept named all known closed_taken.keeps (words_kept words named known name_taken.keeps has)
 

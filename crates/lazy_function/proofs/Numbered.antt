@@ -26,7 +26,7 @@ use Rattle.compile_specs.proofs.Sites.{one_functions}
 use Rattle.session_specs.specs.Sources.{IsValid}
 use Rattle.lazy_compile.specs.declared.Delazified.{Delazified}
 use Rattle.lazy_compile.specs.Delazified.{CanBeDelazified, CompilesAlone, IsCompiledAlone}
-use Rattle.compile_initial.specs.declared.Around.{Around}
+use Rattle.compile_initial.specs.declared.Nesting.{Nesting}
 use Rattle.compile_initial.specs.declared.InitialStencil.{InitialStencil}
 use Rattle.compile_initial.specs.Initial.{AllAround, IsAround, IsInitialOf}
 use Rattle.compile_site_laws.specs.Around.{HandsDown}
@@ -38,18 +38,18 @@ use Rattle.lazy_function.specs.Numbered.{IsChainOf, IsCompiledFunction, IsNumber
 -- ---- lists
 
 -- where a function stands, and the function, among all of a script
-record Found (top : List (List LinkView)) (all : List Site) (number : ℕ) (around : List Around) (some : List Site) (k : ℕ) : Type 0 where
+record Found (top : List (List LinkView)) (all : List Site) (number : ℕ) (around : List Nesting) (some : List Site) (k : ℕ) : Type 0 where
   s : Site
   at : slice_get some k ≡ Some s
   is : IsAround top all (number + k) (slice_index_or around k (record { number = 0; place = 0 })) s
 
-all_long : (top : List (List LinkView)) (all : List Site) (number : ℕ) (around : List Around) (some : List Site) → AllAround top all number around some → length around ≡ length some
+all_long : (top : List (List LinkView)) (all : List Site) (number : ℕ) (around : List Nesting) (some : List Site) → AllAround top all number around some → length around ≡ length some
 all_long top all number [] [] h = refl
 all_long top all number [] (s ∷ some) h = absurd h
 all_long top all number (a ∷ around) [] h = absurd h
 all_long top all number (a ∷ around) (s ∷ some) h = ap suc (all_long top all (suc number) around some h.1)
 
-found : (top : List (List LinkView)) (all : List Site) (number : ℕ) (around : List Around) (some : List Site) (k : ℕ) → AllAround top all number around some → k < length some → Found top all number around some k
+found : (top : List (List LinkView)) (all : List Site) (number : ℕ) (around : List Nesting) (some : List Site) (k : ℕ) → AllAround top all number around some → k < length some → Found top all number around some k
 found top all number [] [] k h lt = absurd (omega (arith, lt))
 found top all number [] (s ∷ some) k h lt = absurd h
 found top all number (a ∷ around) [] k h lt = absurd h

@@ -4,7 +4,7 @@ use Rattle.script_grammar.specs.Tree.{Stmts}
 use Rattle.stencil_data.specs.LinkView.{LinkView}
 use Rattle.compile_specs.specs.Eager.{Site, AreFunctions}
 use Rattle.session_specs.specs.Sources.{IsValid}
-use Rattle.compile_initial.specs.declared.Around.{Around}
+use Rattle.compile_initial.specs.declared.Nesting.{Nesting}
 use Rattle.compile_initial.specs.declared.InitialStencil.{InitialStencil}
 use Rattle.compile_initial.specs.Initial.{IsInitialOf}
 use Rattle.lazy_compile.specs.declared.Delazified.{Delazified}
@@ -15,7 +15,7 @@ abbrev pub IsNumberIn : InitialStencil → ℕ → Type 0
 IsNumberIn initial number = (1 ≤ number) × (number ≤ length initial.parts.records)
 
 -- where the function of this number stands: in which function, or in the script itself (0), and at which place there
-abbrev pub around_in : InitialStencil → ℕ → Around
+abbrev pub around_in : InitialStencil → ℕ → Nesting
 around_in initial number = slice_index_or initial.around.items (number - 1) (record { number = 0; place = 0 })
 
 -- the chain is the one that the function of this number gets where the whole script is compiled

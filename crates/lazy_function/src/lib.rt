@@ -19,13 +19,13 @@ ghost use Rattle.lazy_function.specs.Texts.{AreAmong};
 mod extents;
 
 use crate::extents::extents_inside;
-use compile_initial::{Around, InitialStencil};
+use compile_initial::{InitialStencil, Nesting};
 use lazy_compile::{Delazified, delazify};
 use std::alloc::{AllocError, Global};
 use stencil_data::Chain;
 
 /// Where the function of this number stands.
-pub fn around_of(initial: &InitialStencil, number: u32) -> Around
+pub fn around_of(initial: &InitialStencil, number: u32) -> Nesting
     requires initial { (bytes : List ℕ) × IsInitialOf bytes initial.now }
     requires number { IsNumberIn initial.now number }
     ensures is { result ≡ around_in initial.now number }

@@ -17,7 +17,7 @@ use Rattle.script_grammar.specs.declared.node.NodeFuncBody.TheVariants as bodies
 use Rattle.grammar_parser_specs.specs.Parser.{Recorded, Reply, head_of, after, ret, bad, when}
 use Rattle.grammar_parser_specs.specs.Stmts.{end_of}
 use Rattle.parse_exprs.specs.declared.source.Source.{Source}
-use Rattle.parse_exprs.specs.declared.place.Place.{Place}
+use Rattle.parse_exprs.specs.declared.place.Cursor.{Cursor}
 use Rattle.parse_exprs.specs.declared.place.ParseFault.{ParseFault}
 use Rattle.parse_exprs.specs.Answers.{Refuses, ReadAs}
 use Rattle.parse_exprs.proofs.Onward.{Maps}
@@ -34,7 +34,7 @@ end_after {A = A} a ts = split (is_end (head_of ts).kind)
 pub end_read : {A : Type 0} {rs qs : List Recorded} {us : List Lexeme} (ts : List Lexeme) (a : A) → ReadAs rs (end_of {A = Unit {0}} tt ts) tt qs us → ReadAs rs (end_of a ts) a qs us
 end_read {rs = rs} {qs = qs} {us = us} ts a h = subst (λ r. ReadAs rs r a qs us) (sym (end_after a ts)) (made (λ _. a) h)
 
-pub end_refused : {A : Type 0} (s : Source) (i : Interpretation) (p : Place) (e : ParseFault) (rs : List Recorded) (ts : List Lexeme) (a : A) → Refuses s i p e rs (end_of {A = Unit {0}} tt ts) → Refuses s i p e rs (end_of a ts)
+pub end_refused : {A : Type 0} (s : Source) (i : Interpretation) (p : Cursor) (e : ParseFault) (rs : List Recorded) (ts : List Lexeme) (a : A) → Refuses s i p e rs (end_of {A = Unit {0}} tt ts) → Refuses s i p e rs (end_of a ts)
 end_refused s i p e rs ts a h = subst (λ r. Refuses s i p e rs r) (sym (end_after a ts)) (refused s i p e rs (end_of {A = Unit {0}} tt ts) (λ _. ret a) h)
 
 body_maps : {E B : Type 0} (i : Interpretation) (shows : E → Expr → Type 0) (shows_body : B → Stmts → Type 0) (start : ℕ) → Maps (FuncBodyOf i shows shows_body start)

@@ -21,7 +21,7 @@ use Rattle.grammar_script_laws.proofs.PassedLaws.{pass_script, passed_is_script}
 use Rattle.grammar_script_laws.proofs.Totals.{or_says, own_says, total, judged_bodies, or_fine, pass_body, next_read, next_faulty, total_bad, total_deep, total_fine, no_deep_end}
 use Rattle.parse_pending_laws.proofs.Later.{ScriptReading, script_init, script_next, script_done}
 use Rattle.parse_exprs.specs.declared.source.Source.{Source}
-use Rattle.parse_exprs.specs.declared.place.Place.{Place}
+use Rattle.parse_exprs.specs.declared.place.Cursor.{Cursor}
 use Rattle.parse_exprs.specs.declared.place.Pending.{Pending}
 use Rattle.parse_exprs.specs.declared.place.ParseFault.{ParseFault}
 use Rattle.parse_exprs.specs.declared.place.ParseFault.TheVariants as faults
@@ -76,15 +76,15 @@ script_here : (s : Source) (i : Interpretation) → pure.script_of (stmts_at i 0
 unfolding stmts_at all_at
 script_here s i = refl
 
-pub none_before : (s : Source) (i : Interpretation) (p : Place) → p.pending.items ≡ [] → records_at s i p ≡ []
+pub none_before : (s : Source) (i : Interpretation) (p : Cursor) → p.pending.items ≡ [] → records_at s i p ≡ []
 unfolding records_at
 none_before s i p e = ap (map (recorded s i)) e
 
-then_ahead : (s : Source) (i : Interpretation) (p : Place) → records_at s i p ≡ ahead s i p.pending.items
+then_ahead : (s : Source) (i : Interpretation) (p : Cursor) → records_at s i p ≡ ahead s i p.pending.items
 unfolding records_at
 then_ahead s i p = refl
 
-pub going_init : {B : Type 0} (shows : B → Stmts → Type 0) (s : Source) (i : Interpretation) (old new : Place) (top : Result B ParseFault) → old.at ≡ 0 → old.pending.items ≡ []
+pub going_init : {B : Type 0} (shows : B → Stmts → Type 0) (s : Source) (i : Interpretation) (old new : Cursor) (top : Result B ParseFault) → old.at ≡ 0 → old.pending.items ≡ []
     → Answers (NodeOf shows) s i new top (records_at s i old) (pure.script_of (stmts_at i 0) (front s i old.at)) → Going shows s i top [] new.pending.items
 going_init {B = B} shows s i old new top z e a = by top (subst (λ rs. Answers (NodeOf shows) s i new top rs (script_reply s i)) (none_before s i old e) (subst (λ r. Answers (NodeOf shows) s i new top (records_at s i old) r) (ap (λ k. pure.script_of (stmts_at i 0) (front s i k)) z ∙ script_here s i) a))
   where
@@ -103,7 +103,7 @@ unfolding stmts_at all_at
 body_here s i p = refl
 
 -- the next body is read
-pub going_read : {B : Type 0} (shows : B → Stmts → Type 0) (s : Source) (i : Interpretation) (new : Place) (top : Result B ParseFault) (nodes : List B) (b : BodyNode B) (p : Pending) (rest : List Pending)
+pub going_read : {B : Type 0} (shows : B → Stmts → Type 0) (s : Source) (i : Interpretation) (new : Cursor) (top : Result B ParseFault) (nodes : List B) (b : BodyNode B) (p : Pending) (rest : List Pending)
     → Answers (BodyOf shows) s i new (Ok b) [] (pure.reading (stmts_at i p.depth) p.form 0 p.simple (front s i p.token)) → Going shows s i top nodes (p ∷ rest) → Going shows s i top (nodes ++ b.node ∷ []) (new.pending.items ++ rest)
 going_read {B = B} shows s i new top nodes b p rest a g =
     let e : pass_body (body_at i) (braced_at i) (recorded s i p) ≡ Read (record { body = Rattle.script_grammar.specs.Tree.BracedBody a.0; end = b.end }) (records_at s i new) (front s i new.at) = sym (body_here s i p) ∙ a.2.is in
@@ -132,7 +132,7 @@ known (Err (faults.TooDeep k)) P e h = h
 known (Err faults.NoMemory) P e h = absurd (cc)
 
 -- the next body has a fault
-pub going_faulty : {B C : Type 0} (shows : B → Stmts → Type 0) (s : Source) (i : Interpretation) (new : Place) (top : Result B ParseFault) (nodes later : List B) (fault : ParseFault) (p : Pending) (rest : List Pending) (gives : C → (BodyRead → Type 0) → Type 0)
+pub going_faulty : {B C : Type 0} (shows : B → Stmts → Type 0) (s : Source) (i : Interpretation) (new : Cursor) (top : Result B ParseFault) (nodes later : List B) (fault : ParseFault) (p : Pending) (rest : List Pending) (gives : C → (BodyRead → Type 0) → Type 0)
     → lacks_memory top ≡ false → Answers {E = C} gives s i new (Err fault) [] (pure.reading (stmts_at i p.depth) p.form 0 p.simple (front s i p.token)) → Going shows s i top nodes (p ∷ rest) → Going shows s i (Err fault) later new.pending.items
 going_faulty shows s i new top nodes later (faults.Unexpected k) p rest gives m a g =
     let e : pass_body (body_at i) (braced_at i) (recorded s i p) ≡ Bad (records_at s i new) (front s i k) = sym (body_here s i p) ∙ a.is in

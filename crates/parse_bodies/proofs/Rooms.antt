@@ -6,7 +6,7 @@ use Rattle.script_grammar.specs.Interpretation.{Interpretation}
 use Rattle.script_grammar.specs.Lexeme.{Lexeme}
 use Rattle.grammar_parser_specs.specs.Parser.{Recorded, Bad, Deep, head_of, noted, when, deep, bad, no_room}
 use Rattle.parse_exprs.specs.declared.source.Source.{Source}
-use Rattle.parse_exprs.specs.declared.place.Place.{Place}
+use Rattle.parse_exprs.specs.declared.place.Cursor.{Cursor}
 use Rattle.parse_exprs.specs.declared.place.ParseFault.{ParseFault}
 use Rattle.parse_exprs.specs.declared.place.ParseFault.TheVariants as faults
 use Rattle.parse_exprs.specs.Answers.{Refuses, records}
@@ -20,10 +20,10 @@ noted_deep : {A : Type 0} (rs : List Recorded) (ts : List Lexeme) → noted {A =
 noted_deep [] ts = refl
 noted_deep (b ∷ rs) ts = ap (λ x. Deep x ts) (append-nil (b ∷ rs))
 
-fault_at : (A : Type 0) (s : Source) (i : Interpretation) (p : Place) (b : Bool) → Refuses {A = A} s i p (if b then faults.TooDeep p.at else faults.Unexpected p.at) (records s i p) (when b deep bad (front s i p.at))
+fault_at : (A : Type 0) (s : Source) (i : Interpretation) (p : Cursor) (b : Bool) → Refuses {A = A} s i p (if b then faults.TooDeep p.at else faults.Unexpected p.at) (records s i p) (when b deep bad (front s i p.at))
 fault_at A s i p true = record { is = noted_deep (records s i p) (front s i p.at) }
 fault_at A s i p false = record { is = noted_bad (records s i p) (front s i p.at) }
 
 -- what begins as these kinds do is too deep
-pub no_room_refuses : (A : Type 0) (s : Source) (i : Interpretation) (p : Place) (e : ParseFault) (begins : Kind → Bool) (b : Bool) → b ≡ begins (head_of (front s i p.at)).kind → e ≡ (if b then faults.TooDeep p.at else faults.Unexpected p.at) → Refuses {A = A} s i p e (records s i p) (no_room begins (front s i p.at))
+pub no_room_refuses : (A : Type 0) (s : Source) (i : Interpretation) (p : Cursor) (e : ParseFault) (begins : Kind → Bool) (b : Bool) → b ≡ begins (head_of (front s i p.at)).kind → e ≡ (if b then faults.TooDeep p.at else faults.Unexpected p.at) → Refuses {A = A} s i p e (records s i p) (no_room begins (front s i p.at))
 no_room_refuses A s i p e begins b h k = subst (λ x. Refuses {A = A} s i p x (records s i p) (no_room begins (front s i p.at))) (sym k) (subst (λ x. Refuses {A = A} s i p (if b then faults.TooDeep p.at else faults.Unexpected p.at) (records s i p) (when x deep bad (front s i p.at))) h (fault_at A s i p b))

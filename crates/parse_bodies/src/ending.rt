@@ -9,7 +9,7 @@ ghost use Rattle.parse_bodies.specs.Means.{stmt_ending};
 
 use parse_exprs::kinds::{is_assign_mark, is_binary, is_end, is_head, is_mark, is_whole};
 use parse_exprs::part::Ending;
-use parse_exprs::place::Place;
+use parse_exprs::place::Cursor;
 use parse_exprs::source::Source;
 use script_grammar::token::{Kind, mark};
 
@@ -67,7 +67,7 @@ fn is_do_while(ending: StmtEnding) -> bool
 }
 
 /// Whether a semicolon may be left out before the present token, after a statement with this ending.
-pub fn may_omit(place: &Place, source: &Source, ending: StmtEnding) -> bool
+pub fn may_omit(place: &Cursor, source: &Source, ending: StmtEnding) -> bool
     requires { IsSource source.now }
     ensures { (i : Interpretation) → result ≡ grammar.may_omit (stmt_ending ending) (head_of (front source.now i place.now.at)) }
 {

@@ -25,7 +25,7 @@ use crate::position::Position;
 use crate::stmts::stmt;
 use crate::values::{option, parens};
 use parse_exprs::part::{Rank, Ranked};
-use parse_exprs::place::{ParseFault, Place};
+use parse_exprs::place::{Cursor, ParseFault};
 use parse_exprs::source::Source;
 use parse_exprs::state::State;
 use script_grammar::handler::Handler;
@@ -171,7 +171,7 @@ fn may_be_each(of: Rank) -> bool
 }
 
 /// Whether a for-in goes on here after an expression that binds so.
-fn is_for_in(place: &Place, source: &Source, of: Rank) -> bool
+fn is_for_in(place: &Cursor, source: &Source, of: Rank) -> bool
     requires { IsSource source.now }
     ensures { (i : Interpretation) (t : model.Expr) → of ≡ rank_of t → result ≡ (test.is_word word.IN (head_of (front source.now i place.now.at)).kind && nat_le (rank t) left_rank) }
 {

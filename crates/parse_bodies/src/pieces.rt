@@ -11,7 +11,7 @@ ghost use Rattle.parse_bodies.specs.Means.{stmt_ending};
 
 use crate::ending::{StmtEnding, may_omit};
 use parse_exprs::kinds::{is_end, is_mark, is_name};
-use parse_exprs::place::{ParseFault, Place};
+use parse_exprs::place::{Cursor, ParseFault};
 use parse_exprs::source::Source;
 use parse_exprs::token;
 use script_grammar::token::mark;
@@ -19,7 +19,7 @@ use script_grammar::tree::Ident;
 
 /// Goes past this word, which must stand here.
 #[tactic(auto, unfolding(grammar_parser_specs::specs::Stmts::expect_word))]
-pub fn expect_word(place: &mut Place, source: &Source, word: u8) -> Result<(), ParseFault>
+pub fn expect_word(place: &mut Cursor, source: &Source, word: u8) -> Result<(), ParseFault>
     requires { IsSource source.now }
     ensures { (i : Interpretation) → Reads Itself (pure.expect_word word) source.now i place.old place.new result }
 {
@@ -32,7 +32,7 @@ pub fn expect_word(place: &mut Place, source: &Source, word: u8) -> Result<(), P
 
 /// Goes past a semicolon, or leaves it out, after a statement with this ending; whether it is written.
 #[tactic(auto, unfolding(grammar_parser_specs::specs::Stmts::semi_of))]
-pub fn semi(place: &mut Place, source: &Source, ending: StmtEnding) -> Result<bool, ParseFault>
+pub fn semi(place: &mut Cursor, source: &Source, ending: StmtEnding) -> Result<bool, ParseFault>
     requires { IsSource source.now }
     ensures { (i : Interpretation) → Reads Itself (pure.semi_of (stmt_ending ending)) source.now i place.old place.new result }
 {
@@ -48,7 +48,7 @@ pub fn semi(place: &mut Place, source: &Source, ending: StmtEnding) -> Result<bo
 
 /// Reads a label on the line of its word, where one stands here.
 #[tactic(auto, unfolding(grammar_parser_specs::specs::Stmts::label_name))]
-pub fn label_name(place: &mut Place, source: &Source) -> Result<Option<Ident>, ParseFault>
+pub fn label_name(place: &mut Cursor, source: &Source) -> Result<Option<Ident>, ParseFault>
     requires { IsSource source.now }
     ensures { (i : Interpretation) → Reads (MaybeNameOf i) pure.label_name source.now i place.old place.new result }
 {
@@ -61,7 +61,7 @@ pub fn label_name(place: &mut Place, source: &Source) -> Result<Option<Ident>, P
 }
 
 /// Whether a line end stands before the present token.
-pub fn after_line(place: &Place, source: &Source) -> bool
+pub fn after_line(place: &Cursor, source: &Source) -> bool
     requires { IsSource source.now }
     ensures { (i : Interpretation) → result ≡ (head_of (front source.now i place.now.at)).after_line }
 {
@@ -69,7 +69,7 @@ pub fn after_line(place: &Place, source: &Source) -> bool
 }
 
 /// Whether a `return` before the present token has no value.
-pub fn ends_return(place: &Place, source: &Source) -> bool
+pub fn ends_return(place: &Cursor, source: &Source) -> bool
     requires { IsSource source.now }
     ensures { (i : Interpretation) → result ≡ pure.ends_return (head_of (front source.now i place.now.at)) }
 {
@@ -81,7 +81,7 @@ pub fn ends_return(place: &Place, source: &Source) -> bool
 }
 
 /// Whether a label stands here: a name and a colon after it.
-pub fn is_label(place: &Place, source: &Source) -> bool
+pub fn is_label(place: &Cursor, source: &Source) -> bool
     requires { IsSource source.now }
     ensures { (i : Interpretation) → result ≡ pure.is_label (head_of (front source.now i place.now.at)) (head_of (rest_of (front source.now i place.now.at))) }
 {
@@ -91,7 +91,7 @@ pub fn is_label(place: &Place, source: &Source) -> bool
 
 /// Reads the parameter of a `catch` after its parenthesis, and the one that closes it.
 #[tactic(auto, unfolding(grammar_parser_specs::specs::Stmts::catch_name))]
-fn catch_name(place: &mut Place, source: &Source) -> Result<Ident, ParseFault>
+fn catch_name(place: &mut Cursor, source: &Source) -> Result<Ident, ParseFault>
     requires { IsSource source.now }
     ensures { (i : Interpretation) → Reads (NameOf i) pure.catch_name source.now i place.old place.new result }
 {
@@ -102,7 +102,7 @@ fn catch_name(place: &mut Place, source: &Source) -> Result<Ident, ParseFault>
 
 /// Reads the parameter of a `catch` with its parentheses, where it has one.
 #[tactic(auto, unfolding(grammar_parser_specs::specs::Stmts::catch_param))]
-pub fn catch_param(place: &mut Place, source: &Source) -> Result<Option<Ident>, ParseFault>
+pub fn catch_param(place: &mut Cursor, source: &Source) -> Result<Option<Ident>, ParseFault>
     requires { IsSource source.now }
     ensures { (i : Interpretation) → Reads (MaybeNameOf i) pure.catch_param source.now i place.old place.new result }
 {

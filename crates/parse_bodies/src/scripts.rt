@@ -19,7 +19,7 @@ use crate::arrows::arrow_alone;
 use crate::part::BodyNode;
 use crate::stmts::stmts_from;
 use parse_exprs::kinds::{is_end, is_mark};
-use parse_exprs::place::{ParseFault, Place};
+use parse_exprs::place::{Cursor, ParseFault};
 use parse_exprs::source::Source;
 use parse_exprs::state::State;
 use script_grammar::handler::Handler;
@@ -28,7 +28,7 @@ use script_grammar::token::{FuncForm, mark};
 
 /// Goes past the brace that closes a body, and answers the offset where it ends.
 #[tactic(auto, unfolding(grammar_parser_specs::specs::Stmts::close_body))]
-fn close_body(place: &mut Place, source: &Source) -> Result<u32, ParseFault>
+fn close_body(place: &mut Cursor, source: &Source) -> Result<u32, ParseFault>
     requires { IsSource source.now }
     ensures { (i : Interpretation) (ss : List model.Stmt) → Reads (ClosedOf ss) (pure.close_body ss) source.now i place.old place.new result }
 {
@@ -61,7 +61,7 @@ pub fn body<H: Handler>(
 
 /// Asks that no token is left here.
 #[tactic(auto, unfolding(grammar_parser_specs::specs::Stmts::end_of))]
-fn expect_end(place: &Place, source: &Source) -> Result<(), ParseFault>
+fn expect_end(place: &Cursor, source: &Source) -> Result<(), ParseFault>
     requires { IsSource source.now }
     ensures { (i : Interpretation) → Reads Itself (pure.end_of tt) source.now i place.now place.now result }
 {

@@ -5,7 +5,7 @@ use Rattle.script_grammar.specs.Lexeme.{Lexeme}
 use Rattle.grammar_parser_specs.specs.Parser.{Recorded, head_of, noted, deep, bad, when, no_room}
 use Rattle.grammar_parser_specs.specs.Exprs.{Call, Result as Answer, calls, call_case, begins_call, passing}
 use Rattle.parse_exprs.specs.declared.source.Source.{Source}
-use Rattle.parse_exprs.specs.declared.place.Place.{Place}
+use Rattle.parse_exprs.specs.declared.place.Cursor.{Cursor}
 use Rattle.parse_exprs.specs.declared.place.ParseFault.{ParseFault}
 use Rattle.parse_exprs.specs.declared.place.ParseFault.TheVariants as faults
 use Rattle.parse_exprs.specs.Answers.{Answers, Refuses, BadAs, DeepAs, records}
@@ -28,12 +28,12 @@ unfolding env_at calls
 call_none i depth c ts h = ap (λ n. calls (passing (body_at i)) n c ts) (sym (none_left depth h))
 
 -- what a call answers is what it answers inside
-pub answers_inside : {E : Type 0} (i : Interpretation) (depth : ℕ) (c : Call) (gives : E → (Answer c → Type 0) → Type 0) (s : Source) (p : Place) (o : Result E ParseFault) (rs : List Recorded) (ts : List Lexeme) → depth < 400
+pub answers_inside : {E : Type 0} (i : Interpretation) (depth : ℕ) (c : Call) (gives : E → (Answer c → Type 0) → Type 0) (s : Source) (p : Cursor) (o : Result E ParseFault) (rs : List Recorded) (ts : List Lexeme) → depth < 400
     → Answers gives s i p o rs (call_case (env_at i (depth + 1)) c ts) → Answers gives s i p o rs ((env_at i depth).sub c ts)
 answers_inside i depth c gives s p o rs ts h k = subst (λ r. Answers gives s i p o rs r) (call_inside i depth c ts h) k
 
 -- without room
-pub refuses_none : (i : Interpretation) (depth : ℕ) (c : Call) (s : Source) (p : Place) (b : Bool) → 400 ≤ depth → begins_call c (head_of (front s i p.at)).kind ≡ b
+pub refuses_none : (i : Interpretation) (depth : ℕ) (c : Call) (s : Source) (p : Cursor) (b : Bool) → 400 ≤ depth → begins_call c (head_of (front s i p.at)).kind ≡ b
     → Refuses s i p (if b then faults.TooDeep p.at else faults.Unexpected p.at) (records s i p) ((env_at i depth).sub c (front s i p.at))
 refuses_none i depth c s p true h e = subst (λ r. DeepAs (records s i p) r (records s i p) (front s i p.at)) (call_none i depth c (front s i p.at) h) (record { is = ap (λ b. noted (records s i p) (when b deep bad (front s i p.at))) e ∙ deep_here (records s i p) (front s i p.at) })
 refuses_none i depth c s p false h e = subst (λ r. BadAs (records s i p) r (records s i p) (front s i p.at)) (call_none i depth c (front s i p.at) h) (record { is = ap (λ b. noted (records s i p) (when b deep bad (front s i p.at))) e ∙ bad_here (records s i p) (front s i p.at) })

@@ -10,7 +10,7 @@ use Rattle.grammar_parser_specs.specs.Parser.{Recorded, Reply, Read, Parser, hea
 use Rattle.grammar_parser_specs.specs.Exprs.{Env, unary_of, power_operand, is_op, is_update_expr, operand, op_turn, operands_from, binary_case, with_last, power_turn, power_of, level_of, or_from, short_circuit, coalesce_level, bit_or_level}
 use Rattle.grammar_local_laws.proofs.LocalExprs.{after_noted}
 use Rattle.parse_exprs.specs.declared.source.Source.{Source}
-use Rattle.parse_exprs.specs.declared.place.Place.{Place}
+use Rattle.parse_exprs.specs.declared.place.Cursor.{Cursor}
 use Rattle.parse_exprs.specs.declared.place.ParseFault.{ParseFault}
 use Rattle.parse_exprs.specs.declared.place.ParseFault.TheVariants as faults
 use Rattle.parse_exprs.specs.Answers.{ReadAs, Refuses}
@@ -67,7 +67,7 @@ module _ (v : Env) (w heads : Bool) (rs : List Recorded) (ts : List Lexeme) wher
       either g false e = let same : k ≡ suc n = grind (arith, nat_tests) in subst (λ j. ReadAs rs (level_of v w j heads ts) t qs us) same h
 
   -- a fault up to a level is one up to a looser one
-  refused_past : (s : Source) (i : Interpretation) (p : Place) (e : ParseFault) (k : ℕ) → Refuses s i p e rs (level_of v w k heads ts) → (n : ℕ) → k ≤ n → Refuses s i p e rs (level_of v w n heads ts)
+  refused_past : (s : Source) (i : Interpretation) (p : Cursor) (e : ParseFault) (k : ℕ) → Refuses s i p e rs (level_of v w k heads ts) → (n : ℕ) → k ≤ n → Refuses s i p e rs (level_of v w n heads ts)
   unfolding level_of
   refused_past s i p e k h zero l = subst (λ j. Refuses s i p e rs (level_of v w j heads ts)) (let q : k ≡ zero = omega arith in q) h
   refused_past s i p e k h (suc n) l = either (λ less. refused_past s i p e k h n less) (nat_le k n) refl
@@ -99,7 +99,7 @@ pub record Climbing (v : Env) (w heads : Bool) (rs : List Recorded) (ts : List L
 pub read_by : {A : Type 0} {rs qs : List Recorded} {us : List Lexeme} {r q : Reply A} {a : A} → r ≡ q → ReadAs rs r a qs us → ReadAs rs q a qs us
 read_by {rs = rs} {qs = qs} {us = us} {a = a} e h = subst (λ x. ReadAs rs x a qs us) e h
 
-refuses_same : {A : Type 0} (s : Source) (i : Interpretation) (p : Place) (e : ParseFault) (rs qs : List Recorded) (a b : Reply A) → noted rs a ≡ noted qs b → Refuses s i p e qs b → Refuses s i p e rs a
+refuses_same : {A : Type 0} (s : Source) (i : Interpretation) (p : Cursor) (e : ParseFault) (rs qs : List Recorded) (a b : Reply A) → noted rs a ≡ noted qs b → Refuses s i p e qs b → Refuses s i p e rs a
 refuses_same s i p (faults.Unexpected k) rs qs a b q h = record { is = q ∙ h.is }
 refuses_same s i p (faults.TooDeep k) rs qs a b q h = record { is = q ∙ h.is }
 refuses_same s i p faults.NoMemory rs qs a b q h = tt
@@ -124,7 +124,7 @@ module _ (v : Env) (w heads : Bool) (rs : List Recorded) (ts : List Lexeme) wher
   unfolding level_of
   climb_start last t qs us h = record { within = omega arith; reads = h; logical = λ e a b. absurd (omega (arith, a)) }
 
-  pub start_refused : (s : Source) (i : Interpretation) (p : Place) (e : ParseFault) (last : ℕ) → last ≤ 11 → Refuses s i p e rs (power_of v heads ts) → Refuses s i p e rs (up_to v w last heads ts)
+  pub start_refused : (s : Source) (i : Interpretation) (p : Cursor) (e : ParseFault) (last : ℕ) → last ≤ 11 → Refuses s i p e rs (power_of v heads ts) → Refuses s i p e rs (up_to v w last heads ts)
   unfolding level_of short_circuit
   start_refused s i p e last l h = either (nat_le last 10) refl
     where
@@ -210,7 +210,7 @@ module _ (v : Env) (w heads : Bool) (rs : List Recorded) (ts : List Lexeme) wher
       pub climb_next : (x : Expr) (ps : List Recorded) (vs : List Lexeme) → ReadAs qs (operands_from w next (level_of v w (operand_level next) false) t us) x ps vs → Climbing v w heads rs ts last next x ps vs
       climb_next x ps vs h = record { within = on.within; reads = record { is = climb_list ∙ h.is }; logical = climb_logical }
 
-      pub climb_refused : (s : Source) (i : Interpretation) (p : Place) (e : ParseFault) → Refuses s i p e qs (operands_from w next (level_of v w (operand_level next) false) t us) → Refuses s i p e rs (up_to v w last heads ts)
+      pub climb_refused : (s : Source) (i : Interpretation) (p : Cursor) (e : ParseFault) → Refuses s i p e qs (operands_from w next (level_of v w (operand_level next) false) t us) → Refuses s i p e rs (up_to v w last heads ts)
       unfolding short_circuit
       climb_refused s i p e h = either (nat_le last 10) (nat_le next 8) (nat_le next 10) refl refl refl
         where

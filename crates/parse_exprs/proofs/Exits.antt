@@ -14,7 +14,7 @@ use Rattle.grammar_parser_specs.specs.Parser.{Recorded, Reply, Parser, head_of, 
 use Rattle.grammar_parser_specs.specs.Exprs.{Env, AnAssign, more_turn, unary_of, power_operand, power_turn, is_update_expr, operand, is_op, op_turn, args_of, call_of, tail_turn}
 use Rattle.grammar_local_laws.proofs.LocalExprs.{after_twice}
 use Rattle.parse_exprs.specs.declared.source.Source.{Source}
-use Rattle.parse_exprs.specs.declared.place.Place.{Place}
+use Rattle.parse_exprs.specs.declared.place.Cursor.{Cursor}
 use Rattle.parse_exprs.specs.declared.place.ParseFault.{ParseFault}
 use Rattle.parse_exprs.specs.Answers.{ReadAs, Refuses}
 use Rattle.parse_exprs.proofs.Steps.{made, read_is, refused, when_false, when_true}
@@ -40,7 +40,7 @@ unfolding power_turn
 power_turn_last v ts e h f k = when_true _ _ h (read_is (made (power_operand (head_of ts)) k) (ap (λ b. if b then Again (operand (head_of ts) e) else Stop (Some (operand (head_of ts) e))) f))
 
 -- a fault in front of what is made twice
-pub refused_twice : {A B C : Type 0} (s : Source) (i : Interpretation) (p : Place) (e : ParseFault) (rs : List Recorded) (r : Reply A) (f : A → B) (g : B → C) → Refuses s i p e rs (after r (λ x. ret (f x))) → Refuses s i p e rs (after r (λ x. ret (g (f x))))
+pub refused_twice : {A B C : Type 0} (s : Source) (i : Interpretation) (p : Cursor) (e : ParseFault) (rs : List Recorded) (r : Reply A) (f : A → B) (g : B → C) → Refuses s i p e rs (after r (λ x. ret (f x))) → Refuses s i p e rs (after r (λ x. ret (g (f x))))
 refused_twice s i p e rs r f g h = subst (λ x. Refuses s i p e rs x) (after_twice r (λ x. ret (f x)) (λ x. ret (g x))) (refused s i p e rs (after r (λ x. ret (f x))) (λ x. ret (g x)) h)
 
 -- no kind is two marks

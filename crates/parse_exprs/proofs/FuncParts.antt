@@ -22,14 +22,14 @@ use Rattle.grammar_parser_specs.specs.Parser.{Recorded, Reply, Read, Bad, Deep, 
 use Rattle.grammar_parser_specs.specs.Exprs as pure
 use Rattle.grammar_parser_specs.specs.Exprs.{Env, function_of}
 use Rattle.parse_exprs.specs.declared.source.Source.{Source}
-use Rattle.parse_exprs.specs.declared.place.Place.{Place}
+use Rattle.parse_exprs.specs.declared.place.Cursor.{Cursor}
 use Rattle.parse_exprs.specs.declared.place.ParseFault.{ParseFault}
 use Rattle.parse_exprs.specs.Answers.{ReadAs, Refuses}
 use Rattle.parse_exprs.specs.Means.{Itself}
 use Rattle.parse_exprs.proofs.Onward.{onward, itself_maps}
 
 -- a fault after a part that was read
-pub refused_behind : {A B : Type 0} {qs : List Recorded} {a : A} {us : List Lexeme} (s : Source) (i : Interpretation) (p : Place) (e : ParseFault) (rs : List Recorded) (r : Reply A) (f : A → Parser B)
+pub refused_behind : {A B : Type 0} {qs : List Recorded} {a : A} {us : List Lexeme} (s : Source) (i : Interpretation) (p : Cursor) (e : ParseFault) (rs : List Recorded) (r : Reply A) (f : A → Parser B)
     → ReadAs rs r a qs us → Refuses s i p e qs (f a us) → Refuses s i p e rs (after r f)
 refused_behind {B = B} s i p e rs r f h k = onward (Itself {A = B}) s i p (Err e) rs r f itself_maps h k
 

@@ -8,7 +8,7 @@ use Rattle.grammar_parser_specs.specs.Parser.{Recorded, Reply, Read, Bad, Deep, 
 use Rattle.grammar_parser_specs.specs.Exprs.{last_end, spanned, spanned_reply}
 use Rattle.grammar_parser_laws.proofs.Local.{Eats, Ate}
 use Rattle.parse_exprs.specs.declared.source.Source.{Source}
-use Rattle.parse_exprs.specs.declared.place.Place.{Place}
+use Rattle.parse_exprs.specs.declared.place.Cursor.{Cursor}
 use Rattle.parse_exprs.specs.declared.place.ParseFault.{ParseFault}
 use Rattle.parse_exprs.specs.declared.place.ParseFault.TheVariants as faults
 use Rattle.parse_exprs.specs.Answers.{ReadAs, Refuses}
@@ -31,7 +31,7 @@ spanned_noted ts (b ∷ bs) (Read a rs us) = refl
 spanned_noted ts (b ∷ bs) (Bad rs us) = refl
 spanned_noted ts (b ∷ bs) (Deep rs us) = refl
 
-pub refused_spanned : {A : Type 0} (s : Source) (i : Interpretation) (p : Place) (e : ParseFault) (rs : List Recorded) (f : Parser A) (ts : List Lexeme) → Refuses s i p e rs (f ts) → Refuses s i p e rs (spanned f ts)
+pub refused_spanned : {A : Type 0} (s : Source) (i : Interpretation) (p : Cursor) (e : ParseFault) (rs : List Recorded) (f : Parser A) (ts : List Lexeme) → Refuses s i p e rs (f ts) → Refuses s i p e rs (spanned f ts)
 refused_spanned s i p (faults.Unexpected k) rs f ts h = record { is = spanned_noted ts rs (f ts) ∙ ap (spanned_reply ts) h.is }
 refused_spanned s i p (faults.TooDeep k) rs f ts h = record { is = spanned_noted ts rs (f ts) ∙ ap (spanned_reply ts) h.is }
 refused_spanned s i p faults.NoMemory rs f ts h = tt

@@ -10,7 +10,7 @@ use Rattle.script_grammar.specs.TreeLists.{exprs_of}
 use Rattle.grammar_parser_specs.specs.Exprs.{has_items, list_case}
 use Rattle.grammar_parser_specs.specs.Parser.{Recorded, Reply}
 use Rattle.parse_exprs.specs.declared.source.Source.{Source}
-use Rattle.parse_exprs.specs.declared.place.Place.{Place}
+use Rattle.parse_exprs.specs.declared.place.Cursor.{Cursor}
 use Rattle.parse_exprs.specs.declared.place.ParseFault.{ParseFault}
 use Rattle.parse_exprs.specs.declared.place.ParseFault.TheVariants as faults
 use Rattle.parse_exprs.specs.Answers.{Answers, Makes}
@@ -54,7 +54,7 @@ all_both for (e ∷ es) [] ds ys h k = absurd h
 all_both for (e ∷ es) (x ∷ xs) ds ys h k = (h.0, all_both for es xs ds ys h.1 k)
 
 -- a fault of a part that only makes nodes, which `?` hands on
-pub made_failed : {E D A : Type 0} (gives : D → (A → Type 0) → Type 0) (P : E → Type 0) (s : Source) (i : Interpretation) (p : Place) (o : Result D ParseFault) (e : ParseFault) (rs : List Recorded) (reply : Reply A)
+pub made_failed : {E D A : Type 0} (gives : D → (A → Type 0) → Type 0) (P : E → Type 0) (s : Source) (i : Interpretation) (p : Cursor) (o : Result D ParseFault) (e : ParseFault) (rs : List Recorded) (reply : Reply A)
     → IsErrAnd o (λ y. y ≡ e) → Makes {E = E} (Err e) P → Answers gives s i p o rs reply
 made_failed gives P s i p o (faults.Unexpected k) rs reply h m = absurd m
 made_failed gives P s i p o (faults.TooDeep k) rs reply h m = absurd m

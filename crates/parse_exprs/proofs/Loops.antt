@@ -10,7 +10,7 @@ use Rattle.grammar_parser_specs.specs.Parser.{Recorded, Parser, Reply, Read, Bad
 use Rattle.grammar_parser_laws.proofs.Local.{Gains, Moves, moves_noted}
 use Rattle.grammar_local_laws.proofs.LocalExprs.{after_noted}
 use Rattle.parse_exprs.specs.declared.source.Source.{Source}
-use Rattle.parse_exprs.specs.declared.place.Place.{Place}
+use Rattle.parse_exprs.specs.declared.place.Cursor.{Cursor}
 use Rattle.parse_exprs.specs.declared.place.ParseFault.{ParseFault}
 use Rattle.parse_exprs.specs.declared.place.ParseFault.TheVariants as faults
 use Rattle.parse_exprs.specs.Answers.{Answers, Refuses, ReadAs}
@@ -68,7 +68,7 @@ unfolding turns
 turns_stop turn zero rs qs us vs b e h = absurd (omega arith)
 turns_stop turn (suc n) rs qs us vs b e h = (then (turned (turns turn n)) e (just qs (stopped b) vs)).is
 
-turns_refused : {A B : Type 0} (s : Source) (i : Interpretation) (p : Place) (e : ParseFault) (turn : Parser (Turn A B)) (n : ℕ) (rs : List Recorded) (us : List Lexeme) → Refuses s i p e rs (turn us) → length us < n → Refuses s i p e rs (turns turn n us)
+turns_refused : {A B : Type 0} (s : Source) (i : Interpretation) (p : Cursor) (e : ParseFault) (turn : Parser (Turn A B)) (n : ℕ) (rs : List Recorded) (us : List Lexeme) → Refuses s i p e rs (turn us) → length us < n → Refuses s i p e rs (turns turn n us)
 unfolding turns
 turns_refused s i p e turn zero rs us k h = absurd (omega arith)
 turns_refused s i p e turn (suc n) rs us k h = refused s i p e rs (turn us) (turned (turns turn n)) k
@@ -122,19 +122,19 @@ pub stop_done : {E A B : Type 0} {for : E → A → Type 0} {turn : Parser (Turn
 unfolding looping_stop
 stop_done b l t = refl
 
-front_refused : {A B : Type 0} (s : Source) (i : Interpretation) (p : Place) (e : ParseFault) (xs : List A) (ns : List Recorded) (start : Reply (Many A B)) (rs : List Recorded) (r : Reply (Many A B)) → noted ns start ≡ with_front xs (noted rs r) → Refuses s i p e rs r → Refuses s i p e ns start
+front_refused : {A B : Type 0} (s : Source) (i : Interpretation) (p : Cursor) (e : ParseFault) (xs : List A) (ns : List Recorded) (start : Reply (Many A B)) (rs : List Recorded) (r : Reply (Many A B)) → noted ns start ≡ with_front xs (noted rs r) → Refuses s i p e rs r → Refuses s i p e ns start
 front_refused s i p (faults.Unexpected k) xs ns start rs r l h = record { is = l ∙ ap (with_front xs) h.is }
 front_refused s i p (faults.TooDeep k) xs ns start rs r l h = record { is = l ∙ ap (with_front xs) h.is }
 front_refused s i p faults.NoMemory xs ns start rs r l h = tt
 
 -- how it fails by a `?`
-pub looping_failed : {E A B D : Type 0} {for : E → A → Type 0} {turn : Parser (Turn A B)} {ns : List Recorded} {start : Reply (Many A B)} {rs : List Recorded} {us : List Lexeme} {es : List E} (s : Source) (i : Interpretation) (p : Place) (e : ParseFault) (o : Result D ParseFault) (gives : D → (Many A B → Type 0) → Type 0)
+pub looping_failed : {E A B D : Type 0} {for : E → A → Type 0} {turn : Parser (Turn A B)} {ns : List Recorded} {start : Reply (Many A B)} {rs : List Recorded} {us : List Lexeme} {es : List E} (s : Source) (i : Interpretation) (p : Cursor) (e : ParseFault) (o : Result D ParseFault) (gives : D → (Many A B → Type 0) → Type 0)
     → IsErrAnd o (λ y. y ≡ e) → Looping for turn ns start rs us es → Refuses s i p e rs (turn us) → Answers gives s i p o ns start
 looping_failed {turn = turn} {ns = ns} {start = start} {rs = rs} {us = us} s i p e o gives h l t =
     handed s i p e o gives ns start h (front_refused s i p e l.done ns start rs (turns turn l.fuel us) l.read (turns_refused s i p e turn l.fuel rs us t l.enough))
 
 -- the same where something is made of what it read
-pub looping_failed_in : {E A B C D : Type 0} {for : E → A → Type 0} {turn : Parser (Turn A B)} {ns : List Recorded} {start : Reply (Many A B)} {rs : List Recorded} {us : List Lexeme} {es : List E} (s : Source) (i : Interpretation) (p : Place) (e : ParseFault) (o : Result D ParseFault) (gives : D → (C → Type 0) → Type 0) (f : Many A B → Parser C)
+pub looping_failed_in : {E A B C D : Type 0} {for : E → A → Type 0} {turn : Parser (Turn A B)} {ns : List Recorded} {start : Reply (Many A B)} {rs : List Recorded} {us : List Lexeme} {es : List E} (s : Source) (i : Interpretation) (p : Cursor) (e : ParseFault) (o : Result D ParseFault) (gives : D → (C → Type 0) → Type 0) (f : Many A B → Parser C)
     → IsErrAnd o (λ y. y ≡ e) → Looping for turn ns start rs us es → Refuses s i p e rs (turn us) → Answers gives s i p o ns (after start f)
 looping_failed_in {turn = turn} {ns = ns} {start = start} {rs = rs} {us = us} s i p e o gives f h l t =
     handed s i p e o gives ns (after start f) h (refused s i p e ns start f (front_refused s i p e l.done ns start rs (turns turn l.fuel us) l.read (turns_refused s i p e turn l.fuel rs us t l.enough)))

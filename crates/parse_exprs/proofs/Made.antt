@@ -4,7 +4,7 @@ use Rattle.script_grammar.specs.Interpretation.{Interpretation}
 use Rattle.script_grammar.specs.Shows.{ShowAll}
 use Rattle.grammar_parser_specs.specs.Parser.{Recorded, Reply}
 use Rattle.parse_exprs.specs.declared.source.Source.{Source}
-use Rattle.parse_exprs.specs.declared.place.Place.{Place}
+use Rattle.parse_exprs.specs.declared.place.Cursor.{Cursor}
 use Rattle.parse_exprs.specs.declared.place.ParseFault.{ParseFault}
 use Rattle.parse_exprs.specs.declared.place.ParseFault.TheVariants as faults
 use Rattle.parse_exprs.specs.Answers.{Answers, Makes, ReadAs, records}
@@ -22,7 +22,7 @@ nonempty for (d ∷ es) [] h n e f = absurd h
 nonempty for (d ∷ es) (x ∷ xs) h n e f = (x, xs, refl)
 
 -- what a part that only makes nodes answers
-pub made_answers : {E A : Type 0} (gives : E → (A → Type 0) → Type 0) (P : E → Type 0) (s : Source) (i : Interpretation) (p : Place) (o : Result E ParseFault) (rs : List Recorded) (reply : Reply A)
+pub made_answers : {E A : Type 0} (gives : E → (A → Type 0) → Type 0) (P : E → Type 0) (s : Source) (i : Interpretation) (p : Cursor) (o : Result E ParseFault) (rs : List Recorded) (reply : Reply A)
     → Makes o P → ((e : E) → P e → gives e (λ a. ReadAs rs reply a (records s i p) (front s i p.at))) → Answers gives s i p o rs reply
 made_answers gives P s i p (Ok e) rs reply m f = f e m
 made_answers gives P s i p (Err faults.NoMemory) rs reply m f = tt

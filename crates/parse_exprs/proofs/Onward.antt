@@ -7,7 +7,7 @@ use Rattle.script_grammar.specs.Tree.{Expr}
 use Rattle.grammar_parser_specs.specs.Parser.{Recorded, Reply, Parser, after, when}
 use Rattle.grammar_local_laws.proofs.LocalExprs.{after_noted}
 use Rattle.parse_exprs.specs.declared.source.Source.{Source}
-use Rattle.parse_exprs.specs.declared.place.Place.{Place}
+use Rattle.parse_exprs.specs.declared.place.Cursor.{Cursor}
 use Rattle.parse_exprs.specs.declared.place.ParseFault.{ParseFault}
 use Rattle.parse_exprs.specs.declared.place.ParseFault.TheVariants as faults
 use Rattle.parse_exprs.specs.declared.part.Turned.TheVariants as turned
@@ -20,7 +20,7 @@ abbrev pub Maps : {E A : Type 0} → (E → (A → Type 0) → Type 0) → Type 
 Maps {E = E} {A = A} gives = (e : E) (k n : A → Type 0) → ((a : A) → k a → n a) → gives e k → gives e n
 
 -- a part that ends with another
-pub onward : {E A B : Type 0} {qs : List Recorded} {a : A} {us : List Lexeme} (gives : E → (B → Type 0) → Type 0) (s : Source) (i : Interpretation) (p : Place) (o : Result E ParseFault) (rs : List Recorded) (r : Reply A) (f : A → Parser B)
+pub onward : {E A B : Type 0} {qs : List Recorded} {a : A} {us : List Lexeme} (gives : E → (B → Type 0) → Type 0) (s : Source) (i : Interpretation) (p : Cursor) (o : Result E ParseFault) (rs : List Recorded) (r : Reply A) (f : A → Parser B)
     → Maps gives → ReadAs rs r a qs us → Answers gives s i p o qs (f a us) → Answers gives s i p o rs (after r f)
 onward gives s i p (Ok e) rs r f m h k = m e _ _ (λ b x. then f h x) k
 onward gives s i p (Err (faults.Unexpected n)) rs r f m h k = record { is = sym (after_noted rs r f) ∙ ap (λ x. after x f) h.is ∙ k.is }
@@ -29,10 +29,10 @@ onward gives s i p (Err faults.NoMemory) rs r f m h k = tt
 
 -- the same after a test
 
-pub onward_true : {E A : Type 0} {b : Bool} (gives : E → (A → Type 0) → Type 0) (s : Source) (i : Interpretation) (p : Place) (o : Result E ParseFault) (rs : List Recorded) (us : List Lexeme) (f g : Parser A) → b ≡ true → Answers gives s i p o rs (f us) → Answers gives s i p o rs (when b f g us)
+pub onward_true : {E A : Type 0} {b : Bool} (gives : E → (A → Type 0) → Type 0) (s : Source) (i : Interpretation) (p : Cursor) (o : Result E ParseFault) (rs : List Recorded) (us : List Lexeme) (f g : Parser A) → b ≡ true → Answers gives s i p o rs (f us) → Answers gives s i p o rs (when b f g us)
 onward_true gives s i p o rs us f g e h = subst (λ x. Answers gives s i p o rs (when x f g us)) (sym e) h
 
-pub onward_false : {E A : Type 0} {b : Bool} (gives : E → (A → Type 0) → Type 0) (s : Source) (i : Interpretation) (p : Place) (o : Result E ParseFault) (rs : List Recorded) (us : List Lexeme) (f g : Parser A) → b ≡ false → Answers gives s i p o rs (g us) → Answers gives s i p o rs (when b f g us)
+pub onward_false : {E A : Type 0} {b : Bool} (gives : E → (A → Type 0) → Type 0) (s : Source) (i : Interpretation) (p : Cursor) (o : Result E ParseFault) (rs : List Recorded) (us : List Lexeme) (f g : Parser A) → b ≡ false → Answers gives s i p o rs (g us) → Answers gives s i p o rs (when b f g us)
 onward_false gives s i p o rs us f g e h = subst (λ x. Answers gives s i p o rs (when x f g us)) (sym e) h
 
 -- each way to stand for something maps

@@ -12,7 +12,7 @@ use Rattle.grammar_parser_specs.specs.Parser.{Recorded, Read, Bad, head_of, rest
 use Rattle.grammar_parser_specs.specs.Exprs.{pass_over, passed_body, passing}
 use Rattle.grammar_local_laws.proofs.LocalExprs.{noted_twice}
 use Rattle.parse_exprs.specs.declared.source.Source.{Source}
-use Rattle.parse_exprs.specs.declared.place.Place.{Place}
+use Rattle.parse_exprs.specs.declared.place.Cursor.{Cursor}
 use Rattle.parse_exprs.specs.declared.place.Pending.{Pending}
 use Rattle.parse_exprs.specs.Answers.{ReadAs, BadAs, recorded, records}
 use Rattle.parse_exprs.specs.Env.{env_at, body_at}
@@ -47,6 +47,6 @@ module _ (i : Interpretation) (depth : ℕ) (form : FuncForm) (start : ℕ) (sim
   }
 
 -- one more body that was passed over
-pub records_more : (s : Source) (i : Interpretation) (old new : Place) (p : Pending) → new.pending.items ≡ old.pending.items ++ p ∷ [] → records s i new ≡ records s i old ++ recorded s i p ∷ []
+pub records_more : (s : Source) (i : Interpretation) (old new : Cursor) (p : Pending) → new.pending.items ≡ old.pending.items ++ p ∷ [] → records s i new ≡ records s i old ++ recorded s i p ∷ []
 unfolding records
 records_more s i old new p e = ap (map (recorded s i)) e ∙ map-append (recorded s i) old.pending.items (p ∷ [])

@@ -10,7 +10,7 @@ use Rattle.grammar_parser_specs.specs.Exprs.{expect, arrow_mark, is_arrow}
 use Rattle.grammar_local_laws.proofs.LocalExprs.{after_noted, after_twice}
 use Rattle.grammar_local_laws.proofs.LocalHeads.{read_noted}
 use Rattle.parse_exprs.specs.declared.source.Source.{Source}
-use Rattle.parse_exprs.specs.declared.place.Place.{Place}
+use Rattle.parse_exprs.specs.declared.place.Cursor.{Cursor}
 use Rattle.parse_exprs.specs.declared.place.ParseFault.{ParseFault}
 use Rattle.parse_exprs.specs.declared.place.ParseFault.TheVariants as faults
 use Rattle.parse_exprs.specs.Answers.{Answers, Refuses, ReadAs}
@@ -48,13 +48,13 @@ pub read_is : {A : Type 0} {rs qs : List Recorded} {us : List Lexeme} {r : Reply
 read_is {rs = rs} {qs = qs} {us = us} {r = r} h e = subst (λ x. ReadAs rs r x qs us) e h
 
 -- a fault of the first part
-pub refused : {A B : Type 0} (s : Source) (i : Interpretation) (p : Place) (e : ParseFault) (rs : List Recorded) (r : Reply A) (f : A → Parser B) → Refuses s i p e rs r → Refuses s i p e rs (after r f)
+pub refused : {A B : Type 0} (s : Source) (i : Interpretation) (p : Cursor) (e : ParseFault) (rs : List Recorded) (r : Reply A) (f : A → Parser B) → Refuses s i p e rs r → Refuses s i p e rs (after r f)
 refused s i p (faults.Unexpected k) rs r f h = record { is = sym (after_noted rs r f) ∙ ap (λ x. after x f) h.is }
 refused s i p (faults.TooDeep k) rs r f h = record { is = sym (after_noted rs r f) ∙ ap (λ x. after x f) h.is }
 refused s i p faults.NoMemory rs r f h = tt
 
 -- a fault that `?` hands on
-pub handed : {D A : Type 0} (s : Source) (i : Interpretation) (p : Place) (e : ParseFault) (o : Result D ParseFault) (gives : D → (A → Type 0) → Type 0) (rs : List Recorded) (r : Reply A) → IsErrAnd o (λ y. y ≡ e) → Refuses s i p e rs r → Answers gives s i p o rs r
+pub handed : {D A : Type 0} (s : Source) (i : Interpretation) (p : Cursor) (e : ParseFault) (o : Result D ParseFault) (gives : D → (A → Type 0) → Type 0) (rs : List Recorded) (r : Reply A) → IsErrAnd o (λ y. y ≡ e) → Refuses s i p e rs r → Answers gives s i p o rs r
 handed s i p e o gives rs r h k =
     let x = err_from_is_err_and o h in
     subst (λ y. Answers gives s i p y rs r) (ap Err (sym x.2) ∙ sym x.1) k

@@ -64,12 +64,12 @@ pub struct Pending {
 
 /// The place of the present token, and the bodies that were passed over.
 #[derive(Drop)]
-pub struct Place {
+pub struct Cursor {
     pub at: u32,
     pub pending: Vec<Pending>,
 }
 
-impl Place {
+impl Cursor {
     /// The present token; after the last one, a token that ends all.
     pub fn token(&self, source: &Source) -> Token
         requires { IsSource source.now }

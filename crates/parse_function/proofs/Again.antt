@@ -19,7 +19,7 @@ use Rattle.parse_exprs.specs.declared.place.ParseFault.TheVariants as faults
 use Rattle.parse_exprs.specs.Env.{body_at}
 use Rattle.parse_exprs.specs.Source.{IsScanned}
 use Rattle.parse_parts.specs.Parts.{fill_inside}
-use Rattle.parse_track.specs.declared.region.Known.{Known}
+use Rattle.parse_track.specs.declared.region.WellKnownAtoms.{WellKnownAtoms}
 use Rattle.grammar_start_laws.specs.Own.{TokensRise}
 use Rattle.grammar_start_laws.proofs.Rising.{lexemes_rise}
 use Rattle.scope_analysis.specs.FunctionTree.{HasBody}
@@ -68,7 +68,7 @@ module _ (file : List ℕ) (extent : Extent) (f : FuncForm) (inside : List Exten
 
     -- ---- the tokens
 
-    module _ (before texts : List (List ℕ)) (known : Known) (words : KnowsAccessors before known) (keeps : Keeps before texts) (apart : AreWithoutEquals texts)
+    module _ (before texts : List (List ℕ)) (known : WellKnownAtoms) (words : KnowsAccessors before known) (keeps : Keeps before texts) (apart : AreWithoutEquals texts)
         (scanned ts : List Token) (same : ts ≡ scanned) (stand : StandFor texts scanned (tokens ps extent.start extent.end)) where
       as_function : AreFunction (map (lexeme_of known.get known.set texts) ts) f (hollow_inside there.chosen (nameless d.inner.func))
       as_function =

@@ -32,7 +32,7 @@ mod parsing;
 mod points;
 
 use parse_exprs::place::ParseFault;
-use parse_track::region::Known;
+use parse_track::region::WellKnownAtoms;
 use parser_atoms::Atoms;
 use script_grammar::token::FuncForm;
 use script_grammar::tree::Func;
@@ -53,7 +53,7 @@ pub fn read_function(
     extent: Extent,
     inside: &[Extent],
     form: FuncForm,
-    known: Known,
+    known: WellKnownAtoms,
     mut atoms: Atoms,
 ) -> Result<(Func, Vec<Text>), AllocError>
     requires size { length file.now ≤ 16777215 }

@@ -6,12 +6,12 @@ ghost use Rattle.script_grammar.specs.Lexeme.{lexeme_of};
 ghost use Rattle.parse_exprs.specs.Source.{IsScanned};
 ghost use Rattle.parse_function.specs.Alone.{IsReadAlone};
 
-use parse_exprs::place::{ParseFault, Place};
+use parse_exprs::place::{Cursor, ParseFault};
 use parse_exprs::source::Source;
 use parse_exprs::state::State;
 use parse_handlers::Full;
 use parse_parts::functions::alone;
-use parse_track::region::Known;
+use parse_track::region::WellKnownAtoms;
 use script_grammar::brackets::Brackets;
 use script_grammar::token::{FuncForm, Token};
 use script_grammar::tree::Func;
@@ -23,7 +23,7 @@ pub(crate) fn function_of(
     alloc: Global,
     tokens: &[Token],
     form: FuncForm,
-    known: Known,
+    known: WellKnownAtoms,
 ) -> Result<Func, ParseFault>
     requires scanned { IsScanned tokens.now }
     requires some { 0 < length tokens.now }
@@ -33,7 +33,7 @@ pub(crate) fn function_of(
     let brackets = Brackets::of(alloc, tokens)?;
     let source = Source::new(tokens, &brackets, known.get, known.set);
     let mut state = State {
-        place: Place {
+        place: Cursor {
             at: 0,
             pending: Vec::new(alloc),
         },

@@ -18,8 +18,8 @@ use Rattle.script_grammar.specs.declared.token.FuncForm.{FuncForm}
 use Rattle.script_grammar.specs.Tree.{Named, Expr, Function, function, Params, no_params, more_params, no_expr, some_expr, BracedBody, ShortBody, Stmts}
 use Rattle.scope_analysis.specs.DeclaredNames.{Text}
 use Rattle.scope_analysis.specs.Functions.{Inner, inner_params, inner_function, params_around}
-use Rattle.parse_handlers.specs.declared.found.Found.{Found, out-Found}
-use Rattle.parse_handlers.specs.declared.found.Found.TheFolds.{fold_out-Found}
+use Rattle.parse_handlers.specs.declared.found.FoundFunction.{FoundFunction, out-FoundFunction}
+use Rattle.parse_handlers.specs.declared.found.FoundFunction.TheFolds.{fold_out-FoundFunction}
 use Rattle.parse_handlers.specs.FoundOf.{FoundAs, found_step, found_of, founds_before, HoldsBody}
 use Rattle.parse_handlers.specs.Inner.{Inner as FoundInner, no_inner, is_simple}
 use Rattle.parse_track.specs.declared.region.Early.{Early}
@@ -31,7 +31,7 @@ use Rattle.early_apart_laws.proofs.Sooner.{sooner_assoc, sooner_comm, sooner_non
 use Rattle.scope_listing_laws.specs.Listing.{Outline, outline_in, outline_of, outside_body, inside_body, Mirrors, bodies_before, own_before}
 use Rattle.scope_listing_laws.proofs.Laws.{mirrors_stmts, bodies_function, inner_function-split}
 use Rattle.parse_function_list.specs.declared.list.FoundBody.{FoundBody}
-use Rattle.parse_function_list.specs.declared.list.FoundFunction.{FoundFunction}
+use Rattle.parse_function_list.specs.declared.list.ListedFunction.{ListedFunction}
 use Rattle.parse_function_list.specs.declared.listing.Listing.{Listing}
 use Rattle.parse_function_list.specs.Placed.{Brief, Placed, AllPlaced, no_placed, more_placed, extent_of, extents_of, directly_in, brief_of, placed_of}
 use Rattle.parse_function_list.specs.Listing.{head_of, met, AtHand, StrictAtHand, late_in, body_late, Places, Lists, ListsOne, ListsInside, ListsBody}
@@ -42,24 +42,24 @@ use Rattle.parse_function_list.proofs.Placing.{longer_by, places_then, places_la
 -- ---- a function by what was found of it
 
 -- the outline of a function that was found
-abbrev found_outline : Interpretation → Found → Outline
+abbrev found_outline : Interpretation → FoundFunction → Outline
 found_outline i found = record {
-  start = (out-Found found).extent.start;
-  end = (out-Found found).extent.end;
-  kind = (out-Found found).kind;
-  name = option_map (text_of i) (out-Found found).name;
-  braced = (out-Found found).braced;
-  simple = (out-Found found).simple;
+  start = (out-FoundFunction found).extent.start;
+  end = (out-FoundFunction found).extent.end;
+  kind = (out-FoundFunction found).kind;
+  name = option_map (text_of i) (out-FoundFunction found).name;
+  braced = (out-FoundFunction found).braced;
+  simple = (out-FoundFunction found).simple;
 }
 
-record Outlined (i : Interpretation) (found : Found) (f : Inner) : Type 0 where
+record Outlined (i : Interpretation) (found : FoundFunction) (f : Inner) : Type 0 where
   outline : outline_of f ≡ found_outline i found
   proper : ProperFunction whole f.func
-  inner : Mirrors (founds_before i (out-Found found).inner.items no_inner) (outside_body f.kind f.name f.func)
+  inner : Mirrors (founds_before i (out-FoundFunction found).inner.items no_inner) (outside_body f.kind f.name f.func)
 
-outlined : (i : Interpretation) (found : Found) (f : Inner) → Mirrors (founds_before i (found ∷ []) no_inner) (f ∷ []) → Outlined i found f
+outlined : (i : Interpretation) (found : FoundFunction) (f : Inner) → Mirrors (founds_before i (found ∷ []) no_inner) (f ∷ []) → Outlined i found f
 outlined i found f h =
-    let is = fold_out-Found FoundAs (found_step i) found in
+    let is = fold_out-FoundFunction FoundAs (found_step i) found in
     let as_outline : FoundAs → Outline = λ o. record { start = o.start; end = o.end; kind = o.kind; name = o.name; braced = o.braced; simple = o.simple } in
     record {
       outline = h.0 ∙ ap as_outline is;
@@ -79,17 +79,17 @@ parts kind name (function form start end written ps comma bare body) = record { 
 abbrev brief_with : Extent → FuncKind → Option Text → List Extent → Brief
 brief_with extent kind name inner = record { extent = extent; kind = kind; name = name; inner = inner }
 
-same_extent : (i : Interpretation) (found : Found) (f : Inner) → outline_of f ≡ found_outline i found → extent_of f.func ≡ (out-Found found).extent
+same_extent : (i : Interpretation) (found : FoundFunction) (f : Inner) → outline_of f ≡ found_outline i found → extent_of f.func ≡ (out-FoundFunction found).extent
 same_extent i found f e = let p : Parts f.kind f.name f.func = parts f.kind f.name f.func in p.extent ∙ ap (λ (o : Outline). record { start = o.start; end = o.end }) e
 
-same_brief : (i : Interpretation) (found : Found) (f : Inner) (inner : List Extent) → outline_of f ≡ found_outline i found → inner ≡ extents_of (directly_in f)
-    → brief_with (out-Found found).extent (out-Found found).kind (option_map (text_of i) (out-Found found).name) inner ≡ brief_of f
+same_brief : (i : Interpretation) (found : FoundFunction) (f : Inner) (inner : List Extent) → outline_of f ≡ found_outline i found → inner ≡ extents_of (directly_in f)
+    → brief_with (out-FoundFunction found).extent (out-FoundFunction found).kind (option_map (text_of i) (out-FoundFunction found).name) inner ≡ brief_of f
 same_brief i found f inner e d =
     let p : Parts f.kind f.name f.func = parts f.kind f.name f.func in
-    let kind : f.kind ≡ (out-Found found).kind = p.kind_is ∙ ap (λ (o : Outline). o.kind) e in
-    let name : f.name ≡ option_map (text_of i) (out-Found found).name = p.name_is ∙ ap (λ (o : Outline). o.name) e in
-    ap (λ (x : Extent). brief_with x (out-Found found).kind (option_map (text_of i) (out-Found found).name) inner) (sym (same_extent i found f e))
-    ∙ (ap (λ (k : FuncKind). brief_with (extent_of f.func) k (option_map (text_of i) (out-Found found).name) inner) (sym kind)
+    let kind : f.kind ≡ (out-FoundFunction found).kind = p.kind_is ∙ ap (λ (o : Outline). o.kind) e in
+    let name : f.name ≡ option_map (text_of i) (out-FoundFunction found).name = p.name_is ∙ ap (λ (o : Outline). o.name) e in
+    ap (λ (x : Extent). brief_with x (out-FoundFunction found).kind (option_map (text_of i) (out-FoundFunction found).name) inner) (sym (same_extent i found f e))
+    ∙ (ap (λ (k : FuncKind). brief_with (extent_of f.func) k (option_map (text_of i) (out-FoundFunction found).name) inner) (sym kind)
     ∙ (ap (λ (n : Option Text). brief_with (extent_of f.func) f.kind n inner) (sym name) ∙ ap (brief_with (extent_of f.func) f.kind f.name) d))
 
 -- ---- the errors of rule 14
@@ -147,28 +147,28 @@ late_short kind name form start end written ps comma bare value =
 
 -- ---- one function
 
-module _ {i : Interpretation} {a m : Listing} {x y : List Extent} {around : ℕ} (found : Found) where
+module _ {i : Interpretation} {a m : Listing} {x y : List Extent} {around : ℕ} (found : FoundFunction) where
   braced_inside : {n : Listing} {z : List Extent} {taken : List Stmts} (kind : FuncKind) (name : Option Text) (f : Function) (others : List Stmts)
-      → outline_in kind name f ≡ found_outline i found → ProperFunction whole f → (out-Found found).braced ≡ true → ListsBody m n y z (out-Found found).simple around
+      → outline_in kind name f ≡ found_outline i found → ProperFunction whole f → (out-FoundFunction found).braced ≡ true → ListsBody m n y z (out-FoundFunction found).simple around
       → Places i a m x y (outside_body kind name f) around taken (own_before kind name f others) (late_in (outside_body kind name f))
       → Places i a n x z (inner_function kind name f) around taken others (late_function f)
   braced_inside {n = n} {z = z} {taken = taken} kind name (function form start end written ps comma bare (BracedBody items)) others e p b body h =
       let f = function form start end written ps comma bare (BracedBody items) in
       let inside = body.places i items (inside_body kind name f) others (mirrors_stmts items true _ _ p.4) h.left in
       subst (λ (fs : List Inner). Places i a n x z fs around taken others (late_function f)) (sym (inner_function-split kind name f))
-      (places_late (late_braced kind name form start end written ps comma bare items (out-Found found).simple (ap (λ (o : Outline). o.simple) e)) (places_then h inside))
+      (places_late (late_braced kind name form start end written ps comma bare items (out-FoundFunction found).simple (ap (λ (o : Outline). o.simple) e)) (places_then h inside))
   braced_inside kind name (function form start end written ps comma bare (ShortBody value)) others e p b body h = absurd (false≢true (ap (λ (o : Outline). o.braced) e ∙ b))
 
   short_inside : {taken : List Stmts} (kind : FuncKind) (name : Option Text) (f : Function) (others : List Stmts)
-      → outline_in kind name f ≡ found_outline i found → (out-Found found).braced ≡ false
+      → outline_in kind name f ≡ found_outline i found → (out-FoundFunction found).braced ≡ false
       → Places i a m x y (outside_body kind name f) around taken (own_before kind name f others) (late_in (outside_body kind name f))
       → Places i a m x y (inner_function kind name f) around taken others (late_function f)
   short_inside kind name (function form start end written ps comma bare (BracedBody items)) others e b h = absurd (false≢true (sym b ∙ sym (ap (λ (o : Outline). o.braced) e)))
   short_inside kind name (function form start end written ps comma bare (ShortBody value)) others e b h = places_late (late_short kind name form start end written ps comma bare value) h
 
 -- what is outside a function's body in braces
-outside_placed : {i : Interpretation} {a m : Listing} {x y : List Extent} {around : ℕ} (found : Found) (f : Inner) (others : List Stmts)
-    → Lists a m x y (out-Found found).inner.items around → Outlined i found f → AtHand i a.bodies.items (bodies_before (f ∷ []) others)
+outside_placed : {i : Interpretation} {a m : Listing} {x y : List Extent} {around : ℕ} (found : FoundFunction) (f : Inner) (others : List Stmts)
+    → Lists a m x y (out-FoundFunction found).inner.items around → Outlined i found f → AtHand i a.bodies.items (bodies_before (f ∷ []) others)
     → Places i a m x y (outside_body f.kind f.name f.func) around (bodies_before (f ∷ []) others) (own_before f.kind f.name f.func others) (late_in (outside_body f.kind f.name f.func))
 outside_placed {i = i} {a = a} {m = m} {x = x} {y = y} {around = around} found f others all o hand =
     let outside = outside_body f.kind f.name f.func in
@@ -177,16 +177,16 @@ outside_placed {i = i} {a = a} {m = m} {x = x} {y = y} {around = around} found f
     subst (λ (taken : List Stmts). Places i a m x y outside around taken own (late_in outside)) (sym e)
     (all.places i outside own o.inner (subst (λ (taken : List Stmts). AtHand i a.bodies.items taken) e hand))
 
-pub inside_braced : {a m n : Listing} {x y z : List Extent} {around : ℕ} (found : Found) → (out-Found found).braced ≡ true
-    → Lists a m x y (out-Found found).inner.items around → ListsBody m n y z (out-Found found).simple around → ListsInside a n x z found around
+pub inside_braced : {a m n : Listing} {x y z : List Extent} {around : ℕ} (found : FoundFunction) → (out-FoundFunction found).braced ≡ true
+    → Lists a m x y (out-FoundFunction found).inner.items around → ListsBody m n y z (out-FoundFunction found).simple around → ListsInside a n x z found around
 inside_braced found b all body = record {
   places = λ i f others h hand.
       let o : Outlined i found f = outlined i found f h in
       braced_inside found f.kind f.name f.func others o.outline o.proper b body (outside_placed found f others all o hand);
 }
 
-pub inside_short : {a m : Listing} {x y : List Extent} {around : ℕ} (found : Found) → (out-Found found).braced ≡ false
-    → Lists a m x y (out-Found found).inner.items around → ListsInside a m x y found around
+pub inside_short : {a m : Listing} {x y : List Extent} {around : ℕ} (found : FoundFunction) → (out-FoundFunction found).braced ≡ false
+    → Lists a m x y (out-FoundFunction found).inner.items around → ListsInside a m x y found around
 inside_short found b all = record {
   places = λ i f others h hand.
       let o : Outlined i found f = outlined i found f h in
@@ -232,8 +232,8 @@ body_listed {a = a} {b = b} {c = c} {y = y} {z = z} {around = around} simple bod
       let p = all.places i fs others (subst (λ (r : FoundInner). Mirrors r fs) (sym (shown.0 no_inner)) m) shown.1 in
       record {
         all = p.all;
-        placed = subst (λ (ls : List FoundFunction). AllPlaced around (length y) (suc (length ls)) fs p.all) functions p.placed;
-        listed = p.listed ∙ ap (λ (ls : List FoundFunction). map (placed_of i) ls ++ p.all) functions;
+        placed = subst (λ (ls : List ListedFunction). AllPlaced around (length y) (suc (length ls)) fs p.all) functions p.placed;
+        listed = p.listed ∙ ap (λ (ls : List ListedFunction). map (placed_of i) ls ++ p.all) functions;
         extents = p.extents;
         left = p.left;
         meets = λ s.
@@ -255,21 +255,21 @@ no_body_listed {a = a} simple e = record {
 
 -- ---- a function with all in it
 
-pub one_listed : {a b n d : Listing} {empty x z : List Extent} {around number : ℕ} (found : Found) (unfilled : FoundFunction) (inner : Vec Extent Global)
+pub one_listed : {a b n d : Listing} {empty x z : List Extent} {around number : ℕ} (found : FoundFunction) (unfilled : ListedFunction) (inner : Vec Extent Global)
     → b.functions.items ≡ a.functions.items ++ unfilled ∷ [] → b.bodies.items ≡ a.bodies.items → b.strict ≡ a.strict
     → number ≡ suc (length a.functions.items) → empty ≡ [] → ListsInside b n empty inner.items found number
     → d.functions.items ≡ set n.functions.items (length a.functions.items) (head_of found around (length x) inner) → d.bodies.items ≡ n.bodies.items → d.strict ≡ n.strict
-    → z ≡ x ++ (out-Found found).extent ∷ [] → ListsOne a d x z found around
+    → z ≡ x ++ (out-FoundFunction found).extent ∷ [] → ListsOne a d x z found around
 one_listed {a = a} {b = b} {n = n} {d = d} {empty = empty} {x = x} {z = z} {around = around} {number = number} found unfilled inner pushed bodies strict is none inside put left met_is extents = record {
   places = λ i f others h hand.
       let o : Outlined i found f = outlined i found f h in
       let taken = bodies_before (f ∷ []) others in
       let p = (subst (λ (es : List Extent). ListsInside b n es inner.items found number) none inside).places i f others h (subst (λ (bs : List FoundBody). AtHand i bs taken) (sym bodies) hand) in
-      let head : FoundFunction = head_of found around (length x) inner in
+      let head : ListedFunction = head_of found around (length x) inner in
       let here : Placed = record { brief = brief_of f; around = around; place = length x } in
       let head_is : placed_of i head ≡ here =
       ap (λ (brief : Brief). record { brief = brief; around = around; place = length x }) (same_brief i found f inner.items o.outline p.extents) in
-      let longer : length b.functions.items ≡ length a.functions.items + 1 = ap (λ (ls : List FoundFunction). length ls) pushed ∙ length-append a.functions.items (unfilled ∷ []) in
+      let longer : length b.functions.items ≡ length a.functions.items + 1 = ap (λ (ls : List ListedFunction). length ls) pushed ∙ length-append a.functions.items (unfilled ∷ []) in
       record {
         all = here ∷ (p.all ++ []);
         placed = more_placed around (length x) (suc (length a.functions.items)) f [] p.all []
@@ -277,10 +277,10 @@ one_listed {a = a} {b = b} {n = n} {d = d} {empty = empty} {x = x} {z = z} {arou
             (subst (λ (k : ℕ). AllPlaced number 0 k (directly_in f) p.all) (omega (arith, longer)) p.placed))
             (no_placed around _ _);
         listed =
-            ap (λ (ls : List FoundFunction). map (placed_of i) ls) put
+            ap (λ (ls : List ListedFunction). map (placed_of i) ls) put
             ∙ (map-set (placed_of i) n.functions.items (length a.functions.items) head
             ∙ (ap (λ (ps : List Placed). set ps (length a.functions.items) (placed_of i head))
-            (p.listed ∙ (ap (λ (ps : List Placed). ps ++ p.all) (ap (λ (ls : List FoundFunction). map (placed_of i) ls) pushed ∙ map-append (placed_of i) a.functions.items (unfilled ∷ []))
+            (p.listed ∙ (ap (λ (ps : List Placed). ps ++ p.all) (ap (λ (ls : List ListedFunction). map (placed_of i) ls) pushed ∙ map-append (placed_of i) a.functions.items (unfilled ∷ []))
             ∙ append_assoc (map (placed_of i) a.functions.items) (placed_of i unfilled ∷ []) p.all))
             ∙ (ap (λ (k : ℕ). set (map (placed_of i) a.functions.items ++ placed_of i unfilled ∷ p.all) k (placed_of i head)) (sym (length-map a.functions.items (placed_of i)))
             ∙ (set-append_seam (map (placed_of i) a.functions.items) (placed_of i unfilled) p.all (placed_of i head)

@@ -10,7 +10,7 @@ use Rattle.parse_track.specs.declared.region.Early.{Early}
 use Rattle.parse_track.specs.EarlyErrors.{sooner, error_of}
 use Rattle.parse_track.specs.Notes.{first_note}
 use Rattle.early_apart_laws.proofs.Sooner.{sooner_assoc, sooner_none, first_note-append}
-use Rattle.parse_function_list.specs.declared.list.FoundFunction.{FoundFunction}
+use Rattle.parse_function_list.specs.declared.list.ListedFunction.{ListedFunction}
 use Rattle.parse_function_list.specs.declared.listing.Listing.{Listing}
 use Rattle.parse_function_list.specs.Placed.{Placed, AllPlaced, no_placed, more_placed, extent_of, extents_of, directly_in, brief_of, placed_of}
 use Rattle.parse_function_list.specs.Listing.{AtHand, StrictAtHand, Places}
@@ -29,7 +29,7 @@ placed_both around place at fs gs xs ys (more_placed _ _ _ f rest inside after h
     (more_placed around place at f (rest ++ gs) inside (after ++ ys) h (placed_both around (suc place) (suc at + length inside) rest gs after ys k moved))
 
 -- how many functions there are after these
-pub longer_by : (i : Interpretation) (old new : List FoundFunction) (all : List Placed) → map (placed_of i) new ≡ map (placed_of i) old ++ all → length new ≡ length old + length all
+pub longer_by : (i : Interpretation) (old new : List ListedFunction) (all : List Placed) → map (placed_of i) new ≡ map (placed_of i) old ++ all → length new ≡ length old + length all
 longer_by i old new all e =
     sym (length-map new (placed_of i)) ∙ (ap (λ (ps : List Placed). length ps) e ∙ (length-append (map (placed_of i) old) all ∙ ap (λ (n : ℕ). n + length all) (length-map old (placed_of i))))
 

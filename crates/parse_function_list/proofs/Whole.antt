@@ -19,7 +19,7 @@ use Rattle.early_apart_laws.specs.Late.{late_stmts}
 use Rattle.scope_listing_laws.specs.Listing.{Mirrors, bodies_before}
 use Rattle.scope_listing_laws.proofs.Laws.{mirrors_stmts, bodies_stmts}
 use Rattle.parse_function_list.specs.declared.list.FoundBody.{FoundBody}
-use Rattle.parse_function_list.specs.declared.list.FoundFunction.{FoundFunction}
+use Rattle.parse_function_list.specs.declared.list.ListedFunction.{ListedFunction}
 use Rattle.parse_function_list.specs.declared.listing.Listing.{Listing}
 use Rattle.parse_function_list.specs.Placed.{Placed, AllPlaced, ArePlaced, placed_of}
 use Rattle.parse_function_list.specs.Listing.{AtHand, late_in, Places, Lists}
@@ -53,8 +53,8 @@ module _ {a b : Listing} {before after : List Extent} {bodies : List FoundBody} 
       let p = script_places i items proper holds shown in (
         p.all,
         subst (λ (es : List Extent). AllPlaced 0 (length es) 1 (inner_script items) p.all) begins.extents
-            (subst (λ (fs : List FoundFunction). AllPlaced 0 (length before) (suc (length fs)) (inner_script items) p.all) begins.functions p.placed),
-        subst (λ (fs : List FoundFunction). map (placed_of i) b.functions.items ≡ map (placed_of i) fs ++ p.all) begins.functions p.listed,
+            (subst (λ (fs : List ListedFunction). AllPlaced 0 (length before) (suc (length fs)) (inner_script items) p.all) begins.functions p.placed),
+        subst (λ (fs : List ListedFunction). map (placed_of i) b.functions.items ≡ map (placed_of i) fs ++ p.all) begins.functions p.listed,
       )
 
   pub script_late : (i : Interpretation) (items : Stmts) → ProperStmts whole false items → HoldsBody i top items → ShowAll (λ (x : FoundBody). HoldsBody i x.found) bodies (braced_all items)

@@ -7,7 +7,7 @@ use Rattle.script_grammar.specs.Interpretation.{Interpretation}
 use Rattle.script_grammar.specs.Shows.{ShowAll}
 use Rattle.script_grammar.specs.Tree.{Stmts}
 use Rattle.scope_analysis.specs.Functions.{Inner}
-use Rattle.parse_handlers.specs.declared.found.Found.{Found, out-Found}
+use Rattle.parse_handlers.specs.declared.found.FoundFunction.{FoundFunction, out-FoundFunction}
 use Rattle.parse_handlers.specs.FoundOf.{HoldsBody, founds_before}
 use Rattle.parse_handlers.specs.Inner.{no_inner, in_stmts}
 use Rattle.scope_listing_laws.specs.Listing.{Mirrors, bodies_before}
@@ -16,17 +16,17 @@ use Rattle.parse_track.specs.EarlyErrors.{smaller, sooner, error_of}
 use Rattle.parse_track.specs.Notes.{first_note, strict_errors}
 use Rattle.early_apart_laws.specs.Late.{late_function}
 use Rattle.parse_function_list.specs.declared.list.FoundBody.{FoundBody}
-use Rattle.parse_function_list.specs.declared.list.FoundFunction.{FoundFunction}
+use Rattle.parse_function_list.specs.declared.list.ListedFunction.{ListedFunction}
 use Rattle.parse_function_list.specs.declared.listing.Listing.{Listing}
 use Rattle.parse_function_list.specs.Placed.{Placed, AllPlaced, extents_of, directly_in, placed_of}
 use Rattle.parse_function_list.specs.Strict.{HasStrict}
 
 -- a function that was found, where it stands, with these directly in it
-abbrev pub head_of : Found → (around place : ℕ) → Vec Extent Global → FoundFunction
+abbrev pub head_of : FoundFunction → (around place : ℕ) → Vec Extent Global → ListedFunction
 head_of found around place inner = record {
-  extent = (out-Found found).extent;
-  kind = (out-Found found).kind;
-  name = (out-Found found).name;
+  extent = (out-FoundFunction found).extent;
+  kind = (out-FoundFunction found).kind;
+  name = (out-FoundFunction found).name;
   inner = inner;
   around = around;
   place = place;
@@ -67,17 +67,17 @@ pub record Places (i : Interpretation) (old new : Listing) (before after : List 
   pub meets : StrictAtHand old.bodies.items taken → StrictAtHand new.bodies.items others × (error_of 14 new.strict ≡ sooner (error_of 14 old.strict) (first_note late))
 
 -- What was found is listed, where the bodies at hand are those of these functions and then others.
-pub record Lists (old new : Listing) (before after : List Extent) (found : List Found) (around : ℕ) : Type 0 where
+pub record Lists (old new : Listing) (before after : List Extent) (found : List FoundFunction) (around : ℕ) : Type 0 where
   pub places : (i : Interpretation) (fs : List Inner) (others : List Stmts) → Mirrors (founds_before i found no_inner) fs
       → AtHand i old.bodies.items (bodies_before fs others) → Places i old new before after fs around (bodies_before fs others) others (late_in fs)
 
 -- So is one function.
-pub record ListsOne (old new : Listing) (before after : List Extent) (found : Found) (around : ℕ) : Type 0 where
+pub record ListsOne (old new : Listing) (before after : List Extent) (found : FoundFunction) (around : ℕ) : Type 0 where
   pub places : (i : Interpretation) (f : Inner) (others : List Stmts) → Mirrors (founds_before i (found ∷ []) no_inner) (f ∷ [])
       → AtHand i old.bodies.items (bodies_before (f ∷ []) others) → Places i old new before after (f ∷ []) around (bodies_before (f ∷ []) others) others (late_function f.func)
 
 -- So is what is in one function.
-pub record ListsInside (old new : Listing) (before after : List Extent) (found : Found) (around : ℕ) : Type 0 where
+pub record ListsInside (old new : Listing) (before after : List Extent) (found : FoundFunction) (around : ℕ) : Type 0 where
   pub places : (i : Interpretation) (f : Inner) (others : List Stmts) → Mirrors (founds_before i (found ∷ []) no_inner) (f ∷ [])
       → AtHand i old.bodies.items (bodies_before (f ∷ []) others) → Places i old new before after (directly_in f) around (bodies_before (f ∷ []) others) others (late_function f.func)
 

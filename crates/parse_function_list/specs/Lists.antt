@@ -13,12 +13,12 @@ use Rattle.parse_track.specs.Notes.{first_note}
 use Rattle.early_apart_laws.specs.Late.{late_stmts}
 use Rattle.scope_analysis.specs.Functions.{inner_script}
 use Rattle.parse_function_list.specs.declared.list.FoundBody.{FoundBody}
-use Rattle.parse_function_list.specs.declared.list.FoundFunction.{FoundFunction}
+use Rattle.parse_function_list.specs.declared.list.ListedFunction.{ListedFunction}
 use Rattle.parse_function_list.specs.Placed.{ArePlaced}
 use Rattle.parse_function_list.specs.Strict.{HasStrict}
 
 -- they are the functions of the script
-abbrev pub ListsFunctions : SyntaxBody → List FoundBody → List FoundFunction → Type 0
+abbrev pub ListsFunctions : SyntaxBody → List FoundBody → List ListedFunction → Type 0
 ListsFunctions top bodies functions =
     (i : Interpretation) (items : Stmts) → ProperStmts whole false items → HoldsBody i top items
     → ShowAll (λ b. HoldsBody i b.found) bodies (braced_all items) → ArePlaced i functions (inner_script items)

@@ -7,7 +7,7 @@ use Rattle.script_grammar.specs.Interpretation.{Interpretation, text_of}
 use Rattle.script_grammar.specs.Tree.{Function, function}
 use Rattle.scope_analysis.specs.DeclaredNames.{Text}
 use Rattle.scope_analysis.specs.Functions.{Inner, inner_function}
-use Rattle.parse_function_list.specs.declared.list.FoundFunction.{FoundFunction}
+use Rattle.parse_function_list.specs.declared.list.ListedFunction.{ListedFunction}
 
 -- a function in brief: what a record keeps of it, but for the names that it closes over
 pub record Brief : Type 0 where
@@ -44,7 +44,7 @@ pub data AllPlaced : (around place at : ℕ) → List Inner → List Placed → 
       → AllPlaced around place at (f ∷ rest) (record { brief = brief_of f; around = around; place = place } ∷ (inside ++ after))
 
 -- what was found of a function, by the texts of its atoms
-abbrev pub placed_of : Interpretation → FoundFunction → Placed
+abbrev pub placed_of : Interpretation → ListedFunction → Placed
 placed_of i f = record {
   brief = record { extent = f.extent; kind = f.kind; name = option_map (text_of i) f.name; inner = f.inner.items };
   around = f.around;
@@ -52,5 +52,5 @@ placed_of i f = record {
 }
 
 -- Those that were found are all functions of a script with these directly in it, in order of number, from 1.
-abbrev pub ArePlaced : Interpretation → List FoundFunction → List Inner → Type 0
+abbrev pub ArePlaced : Interpretation → List ListedFunction → List Inner → Type 0
 ArePlaced i found inner = (all : List Placed) × AllPlaced 0 0 1 inner all × (map (placed_of i) found ≡ all)

@@ -1,12 +1,12 @@
 -- How much there is to walk over in bodies: the measure by which a walk ends.
 use Rattle.std.specs.Prelude.{ℕ, ◌+◌, ◌*◌, max, List, [], ◌∷◌}
-use Rattle.parse_handlers.specs.declared.found.Found.{Found, size-Found}
+use Rattle.parse_handlers.specs.declared.found.FoundFunction.{FoundFunction, size-FoundFunction}
 use Rattle.parse_function_list.specs.declared.list.FoundBody.{FoundBody}
 
 -- the depth of the deepest function
-abbrev pub depth : List Found → ℕ
+abbrev pub depth : List FoundFunction → ℕ
 depth [] = 0
-depth (f ∷ fs) = max (size-Found f) (depth fs)
+depth (f ∷ fs) = max (size-FoundFunction f) (depth fs)
 
 abbrev pub weight : List FoundBody → ℕ
 weight [] = 0

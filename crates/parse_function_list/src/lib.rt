@@ -15,7 +15,7 @@
 pub mod list;
 mod listing;
 
-pub use list::{FoundBody, FoundFunction, ScriptFunctions, functions_of};
+pub use list::{FoundBody, ListedFunction, ScriptFunctions, functions_of};
 
 #[cfg(test)]
 mod tests;

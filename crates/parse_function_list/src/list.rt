@@ -16,7 +16,7 @@ const STRICT_RULE: u8 = 14;
 
 /// A function of a script.
 #[derive(Drop)]
-pub struct FoundFunction {
+pub struct ListedFunction {
     pub extent: Extent,
     pub kind: FuncKind,
     /// The atom of its name.
@@ -40,7 +40,7 @@ pub struct FoundBody {
 /// `use strict` in the body of a function with an initializer or a rest parameter (rule 14).
 #[derive(Drop)]
 pub struct ScriptFunctions {
-    pub functions: Vec<FoundFunction>,
+    pub functions: Vec<ListedFunction>,
     pub late: Option<Early>,
 }
 

@@ -5,8 +5,8 @@ ghost use Rattle.parse_track.specs.EarlyErrors.{smaller};
 ghost use Rattle.parse_function_list.specs.Listing.{Lists, ListsOne, ListsInside, ListsBody, head_of, met};
 ghost use Rattle.parse_function_list.specs.Weight.{weight};
 
-use crate::list::{FoundBody, FoundFunction};
-use parse_handlers::{Found, SyntaxBody};
+use crate::list::{FoundBody, ListedFunction};
+use parse_handlers::{FoundFunction, SyntaxBody};
 use std::alloc::{AllocError, Global};
 use stencil_data::Extent;
 
@@ -15,7 +15,7 @@ use stencil_data::Extent;
 pub struct Listing {
     pub alloc: Global,
     /// The functions so far, in order of number.
-    pub functions: Vec<FoundFunction>,
+    pub functions: Vec<ListedFunction>,
     /// The bodies that are still wanted, the next one last.
     pub bodies: Vec<FoundBody>,
     /// The smallest offset of a directive `use strict` in the body of a function with an initializer or a rest parameter.
@@ -23,10 +23,10 @@ pub struct Listing {
 }
 
 // A function that stands there, with these functions directly in it.
-fn listed(found: &Found, around: usize, place: usize, inner: Vec<Extent>) -> FoundFunction
+fn listed(found: &FoundFunction, around: usize, place: usize, inner: Vec<Extent>) -> ListedFunction
     ensures { result ≡ head_of found.now around place inner }
 {
-    FoundFunction {
+    ListedFunction {
         extent: found.extent,
         kind: found.kind,
         name: found.name,
@@ -80,7 +80,7 @@ impl Listing {
     #[cycle(listing)]
     pub fn list_all(
         &mut self,
-        found: &[Found],
+        found: &[FoundFunction],
         around: usize,
         directly: &mut Vec<Extent>,
     ) -> Result<(), AllocError>
@@ -98,7 +98,7 @@ impl Listing {
     #[cycle(listing)]
     fn list_one(
         &mut self,
-        found: &Found,
+        found: &FoundFunction,
         around: usize,
         directly: &mut Vec<Extent>,
     ) -> Result<(), AllocError>
@@ -121,7 +121,7 @@ impl Listing {
     #[cycle(listing)]
     fn list_inside(
         &mut self,
-        found: &Found,
+        found: &FoundFunction,
         around: usize,
         directly: &mut Vec<Extent>,
     ) -> Result<(), AllocError>

@@ -1,13 +1,13 @@
 //! The functions of a small script.
 
 use crate::list::{FoundBody, functions_of};
-use parse_handlers::{Found, SyntaxBody};
+use parse_handlers::{FoundFunction, SyntaxBody};
 use std::test::Fail;
 use stencil_data::{Extent, FuncKind};
 
 // A function with a body in braces, of this extent.
-fn found(start: u32, end: u32, simple: bool, inner: Vec<Found>) -> Found {
-    Found {
+fn found(start: u32, end: u32, simple: bool, inner: Vec<FoundFunction>) -> FoundFunction {
+    FoundFunction {
         extent: Extent { start, end },
         kind: FuncKind::Expression,
         name: Some(start),
@@ -18,7 +18,7 @@ fn found(start: u32, end: u32, simple: bool, inner: Vec<Found>) -> Found {
 }
 
 // A body with these functions directly in it.
-fn body(found: Vec<Found>, strict: Option<u32>) -> FoundBody {
+fn body(found: Vec<FoundFunction>, strict: Option<u32>) -> FoundBody {
     let found = SyntaxBody { found };
     FoundBody { found, strict }
 }

@@ -24,7 +24,7 @@ use Rattle.script_grammar.specs.Tree as model
 use Rattle.script_grammar.specs.TreeLists as part
 use Rattle.script_grammar.specs.TreeLists.{exprs_of, maybe_expr_of, items_of, maybe_args_of, operands_of, parts_of, tails_of, props_of, params_of, binds_of, clauses_of, stmts_of, maybe_stmt_of}
 use Rattle.script_grammar.specs.Shows.{ShowAll, ShowMaybe, MaybeOf, ShowArgs, ShowOperand, ShowPart, ShowTail, ShowKey, FuncBodyOf, ShowParam, ShowFunc, ShowBind, ShowInit, ShowEach, ShowClause}
-use Rattle.parse_handlers.specs.declared.found.Found.{Found}
+use Rattle.parse_handlers.specs.declared.found.FoundFunction.{FoundFunction}
 use Rattle.parse_handlers.specs.declared.found.SyntaxNode.{SyntaxNode}
 use Rattle.parse_handlers.specs.declared.found.SyntaxBody.{SyntaxBody}
 use Rattle.parse_handlers.specs.Inner.{Inner, no_inner, more_inner, kind_of, text_of_name, is_braced, has_no_value, is_simple, in_function, in_expr, in_exprs, in_maybe_expr, in_maybe_args, in_parts, in_items, in_operands, in_tail, in_tails, in_key, in_prop, in_props, in_params, in_body, in_binds, in_init, in_each, in_clauses, in_stmt, in_stmts, in_maybe_stmt}
@@ -32,7 +32,7 @@ use Rattle.parse_handlers.specs.FoundOf.{FoundAs, before, found_of, founds_befor
 use Rattle.parse_handlers.specs.Held.{held, held_maybe, held_args, held_operand, held_part, held_tail, held_key, held_body, has_braces, is_plain, held_param, held_bind, held_init, held_each, held_clause}
 
 -- Functions that put the functions of a part before these.
-abbrev pub Puts : Interpretation → List Found → (Inner → Inner) → Type 0
+abbrev pub Puts : Interpretation → List FoundFunction → (Inner → Inner) → Type 0
 Puts i fs put = (r : Inner) → founds_before i fs r ≡ put r
 
 -- one after the other
@@ -42,16 +42,16 @@ then_put f g r = f (g r)
 abbrev pub put_nothing : Inner → Inner
 put_nothing r = r
 
-pub puts-append : (i : Interpretation) (xs ys : List Found) (f g : Inner → Inner) → Puts i xs f → Puts i ys g → Puts i (xs ++ ys) (λ r. f (g r))
+pub puts-append : (i : Interpretation) (xs ys : List FoundFunction) (f g : Inner → Inner) → Puts i xs f → Puts i ys g → Puts i (xs ++ ys) (λ r. f (g r))
 puts-append i [] ys f g px py = λ r. py r ∙ px (g r)
 puts-append i (x ∷ xs) ys f g px py = λ r. ap (λ rest. before (found_of i x ∷ []) rest) (puts-append i xs ys (founds_before i xs) g (λ q. refl) py r) ∙ px (g r)
 
 -- a list that is equal
-pub puts-same : (i : Interpretation) (xs ys : List Found) (f : Inner → Inner) → xs ≡ ys → Puts i ys f → Puts i xs f
+pub puts-same : (i : Interpretation) (xs ys : List FoundFunction) (f : Inner → Inner) → xs ≡ ys → Puts i ys f → Puts i xs f
 puts-same i xs ys f e p = λ r. ap (λ l. founds_before i l r) e ∙ p r
 
 -- a list of parts
-pub puts-all : {N X : Type 0} (i : Interpretation) (R : N → X → Type 0) (hold : N → List Found) (one : X → Inner → Inner) (all : List X → Inner → Inner)
+pub puts-all : {N X : Type 0} (i : Interpretation) (R : N → X → Type 0) (hold : N → List FoundFunction) (one : X → Inner → Inner) (all : List X → Inner → Inner)
     → ((r : Inner) → all [] r ≡ r) → ((x : X) (xs : List X) (r : Inner) → all (x ∷ xs) r ≡ one x (all xs r))
     → ((n : N) (x : X) → R n x → Puts i (hold n) (one x)) → (ns : List N) (xs : List X) → ShowAll R ns xs → Puts i (flat_map hold ns) (all xs)
 puts-all i R hold one all none more each [] [] h = λ r. sym (none r)
@@ -61,7 +61,7 @@ puts-all i R hold one all none more each (n ∷ ns) (x ∷ xs) h =
     λ r. puts-append i (hold n) (flat_map hold ns) (one x) (all xs) (each n x h.0) (puts-all i R hold one all none more each ns xs h.1) r ∙ sym (more x xs r)
 
 -- an option of a part
-pub puts-maybe : {N X : Type 0} (i : Interpretation) (R : N → X → Type 0) (hold : N → List Found) (one : X → Inner → Inner) (opt : Option X → Inner → Inner)
+pub puts-maybe : {N X : Type 0} (i : Interpretation) (R : N → X → Type 0) (hold : N → List FoundFunction) (one : X → Inner → Inner) (opt : Option X → Inner → Inner)
     → ((r : Inner) → opt None r ≡ r) → ((x : X) (r : Inner) → opt (Some x) r ≡ one x r)
     → ((n : N) (x : X) → R n x → Puts i (hold n) (one x)) → (n : Option N) (x : Option X) → ShowMaybe R n x → Puts i (held_maybe hold n) (opt x)
 puts-maybe i R hold one opt none some each None None h = λ r. sym (none r)
@@ -158,11 +158,11 @@ puts-clause i n c h = clause-inside i c n.items.items n.test h
 pub puts-clauses : (i : Interpretation) (ns : List (NodeClause SyntaxNode SyntaxNode)) (cs : List part.Clause) → ShowAll (ShowClause (HoldsExpr i) (HoldsStmt i)) ns cs → Puts i (flat_map held_clause ns) (in_clauses (clauses_of cs))
 puts-clauses i = puts-all i (ShowClause (HoldsExpr i) (HoldsStmt i)) held_clause in_clause (λ cs. in_clauses (clauses_of cs)) (λ r. refl) (λ x xs r. refl) (puts-clause i)
 
-pub puts-nothing : (i : Interpretation) (xs : List Found) → xs ≡ [] → Puts i xs (λ r. r)
+pub puts-nothing : (i : Interpretation) (xs : List FoundFunction) → xs ≡ [] → Puts i xs (λ r. r)
 puts-nothing i xs e = λ r. ap (λ l. founds_before i l r) e
 
 -- what a call that gathers gives
-pub if_puts : {E : Type 0} (i : Interpretation) (result : Result SyntaxNode E) (xs : List Found) (f : Inner → Inner) → IfOk result (λ n. n.found.items ≡ xs) → Puts i xs f → IfOk result (λ n. Puts i n.found.items f)
+pub if_puts : {E : Type 0} (i : Interpretation) (result : Result SyntaxNode E) (xs : List FoundFunction) (f : Inner → Inner) → IfOk result (λ n. n.found.items ≡ xs) → Puts i xs f → IfOk result (λ n. Puts i n.found.items f)
 if_puts i (Ok n) xs f e p = puts-same i n.found.items xs f e p
 if_puts i (Err e) xs f h p = tt
 
@@ -187,7 +187,7 @@ body-inside i start F f (bodies.Short e) h = (model.ShortBody h.0, (h.2, refl, h
 body-inside i start F f (bodies.Passed) h = (model.BracedBody (i.bodies start), (h, refl, λ r. refl))
 
 -- a function, by its fields
-pub puts-function : (i : Interpretation) (declared : Bool) (n : NodeFunc SyntaxNode SyntaxBody) (f : model.Function) (x : FoundAs) (inner : List Found)
+pub puts-function : (i : Interpretation) (declared : Bool) (n : NodeFunc SyntaxNode SyntaxBody) (f : model.Function) (x : FoundAs) (inner : List FoundFunction)
     → ShowFunc i (HoldsExpr i) (HoldsBody i) n f
     → inner ≡ flat_map held_param n.params.items ++ held_body n.body
     → x ≡ record { start = n.start; end = n.end; kind = kind_of declared n.form; name = option_map text_of_name (maybe_named i n.name); braced = has_braces n.body; simple = list_all is_plain n.params.items; inner = founds_before i inner no_inner }

@@ -1,9 +1,9 @@
 -- What a list of functions that were found stands for, and the relations of the handler that keeps such lists.
 use Rattle.std.specs.Prelude.{Bool, ℕ, List, [], ◌∷◌, ◌≡◌, Option, option_map, map}
 use Rattle.stencil_data.specs.declared.functions.FuncKind.{FuncKind}
-use Rattle.parse_handlers.specs.declared.found.Found.{Found}
-use Rattle.parse_handlers.specs.declared.found.Found.TheOpen.{Found-F}
-use Rattle.parse_handlers.specs.declared.found.Found.TheFolds.{fold-Found}
+use Rattle.parse_handlers.specs.declared.found.FoundFunction.{FoundFunction}
+use Rattle.parse_handlers.specs.declared.found.FoundFunction.TheOpen.{FoundFunction-F}
+use Rattle.parse_handlers.specs.declared.found.FoundFunction.TheFolds.{fold-FoundFunction}
 use Rattle.parse_handlers.specs.declared.found.SyntaxNode.{SyntaxNode}
 use Rattle.parse_handlers.specs.declared.found.SyntaxBody.{SyntaxBody}
 use Rattle.script_grammar.specs.Interpretation.{Interpretation, text_of}
@@ -25,7 +25,7 @@ abbrev pub before : List FoundAs → Inner → Inner
 before [] r = r
 before (f ∷ fs) r = more_inner f.start f.end f.kind f.name f.braced f.simple f.inner (before fs r)
 
-abbrev pub found_step : Interpretation → Found-F FoundAs → FoundAs
+abbrev pub found_step : Interpretation → FoundFunction-F FoundAs → FoundAs
 found_step i row = record {
   start = row.extent.start;
   end = row.extent.end;
@@ -36,10 +36,10 @@ found_step i row = record {
   inner = before row.inner.items no_inner;
 }
 
-abbrev pub found_of : Interpretation → Found → FoundAs
-found_of i = fold-Found FoundAs (found_step i)
+abbrev pub found_of : Interpretation → FoundFunction → FoundAs
+found_of i = fold-FoundFunction FoundAs (found_step i)
 
-abbrev pub founds_before : Interpretation → List Found → Inner → Inner
+abbrev pub founds_before : Interpretation → List FoundFunction → Inner → Inner
 founds_before i fs = before (map (found_of i) fs)
 
 -- A node stands for the trees whose functions, directly in them, are the node's.

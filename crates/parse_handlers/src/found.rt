@@ -5,7 +5,7 @@ use stencil_data::{Extent, FuncKind};
 /// A function: its extent, its kind, the atom of its name, and the functions directly in it, which are those in its
 /// parameters' initializers and, where it is an arrow with an expression as body, those in that body.
 #[derive(Drop)]
-pub struct Found {
+pub struct FoundFunction {
     pub extent: Extent,
     pub kind: FuncKind,
     pub name: Option<u32>,
@@ -14,17 +14,17 @@ pub struct Found {
     /// None of its parameters has an initializer, and none is a rest parameter (ECMA-262, 15.1.3:
     /// IsSimpleParameterList).
     pub simple: bool,
-    pub inner: Vec<Found>,
+    pub inner: Vec<FoundFunction>,
 }
 
 /// The functions directly in an expression, a statement or a property, by rising start.
 #[derive(Drop)]
 pub struct SyntaxNode {
-    pub found: Vec<Found>,
+    pub found: Vec<FoundFunction>,
 }
 
 /// The functions directly in a body, by rising start.
 #[derive(Drop)]
 pub struct SyntaxBody {
-    pub found: Vec<Found>,
+    pub found: Vec<FoundFunction>,
 }

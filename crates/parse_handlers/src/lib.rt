@@ -12,6 +12,6 @@ mod gather;
 mod parts;
 pub mod syntax;
 
-pub use found::{Found, SyntaxBody, SyntaxNode};
+pub use found::{FoundFunction, SyntaxBody, SyntaxNode};
 pub use full::Full;
 pub use syntax::Syntax;

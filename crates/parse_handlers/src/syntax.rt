@@ -11,7 +11,7 @@ ghost use Rattle.parse_handlers.specs.Held.{has_braces, is_plain};
 ghost use Rattle.parse_handlers.specs.Inner.{Inner, no_inner, kind_of, in_function};
 ghost use Rattle.parse_handlers.specs.FoundOf.{FoundAs, found_of, founds_before, HoldsExpr, HoldsStmt, HoldsProp, HoldsBody, HoldsFunction};
 
-use crate::found::{Found, SyntaxBody, SyntaxNode};
+use crate::found::{FoundFunction, SyntaxBody, SyntaxNode};
 use crate::gather::{Gather, with};
 use script_grammar::handler::Handler;
 use script_grammar::node::{
@@ -89,11 +89,11 @@ fn found(
     name: Option<u32>,
     braced: bool,
     simple: bool,
-    inner: Vec<Found>,
-) -> Found
+    inner: Vec<FoundFunction>,
+) -> FoundFunction
     ensures { (i : Interpretation) → found_of i result ≡ record { start = extent.start; end = extent.end; kind = kind; name = option_map (text_of i) name; braced = braced; simple = simple; inner = founds_before i inner.items no_inner } }
 {
-    Found {
+    FoundFunction {
         extent,
         kind,
         name,

@@ -29,7 +29,7 @@ use Rattle.parse_pending_laws.proofs.RisesAll.{passed_alone_rises}
 use Rattle.parse_exprs.specs.declared.place.ParseFault.{ParseFault}
 use Rattle.parse_exprs.specs.declared.place.ParseFault.TheVariants as faults
 use Rattle.parse_exprs.specs.declared.place.Pending.{Pending}
-use Rattle.parse_exprs.specs.declared.place.Place.{Place}
+use Rattle.parse_exprs.specs.declared.place.Cursor.{Cursor}
 use Rattle.parse_exprs.specs.declared.source.Source.{Source}
 use Rattle.parse_exprs.specs.Answers.{Answers, Refuses, recorded, records}
 use Rattle.parse_exprs.specs.Env.{body_at, env_at}
@@ -108,7 +108,7 @@ module _ (s : Source) (h : IsSource s) (i : Interpretation) (f : FuncForm) (n : 
         are = sym (inside_same p.value) ∙ p.order;
       }
 
-  module _ (old p : Place) (none : old.pending.items ≡ []) (l : old.at < length s.tokens.now) where
+  module _ (old p : Cursor) (none : old.pending.items ≡ []) (l : old.at < length s.tokens.now) where
     passes_here : pure.alone_of (env_at i 0) f ≡ passes (body_at i) (given i) depth_limit f
     passes_here = ap (λ (v : Env). pure.alone_of v f) (env_here i 0)
 
@@ -132,7 +132,7 @@ module _ (s : Source) (h : IsSource s) (i : Interpretation) (f : FuncForm) (n : 
 
       -- the own body was passed over, taken from the list and read
 
-      module _ (o : Result (NodeFunc E B) ParseFault) (m : lacks_memory o ≡ false) (a : Passes s h i f n old.at l shows shows_body p o) (own : Pending) (kept : List Pending) (last : p.pending.items ≡ kept ++ own ∷ []) (st : Stood (body_at i) (given i) depth_limit f (front s i old.at) (recorded s i own)) (q : Place) where
+      module _ (o : Result (NodeFunc E B) ParseFault) (m : lacks_memory o ≡ false) (a : Passes s h i f n old.at l shows shows_body p o) (own : Pending) (kept : List Pending) (last : p.pending.items ≡ kept ++ own ∷ []) (st : Stood (body_at i) (given i) depth_limit f (front s i old.at) (recorded s i own)) (q : Cursor) where
         -- what is read there
         abbrev reply : Reply BodyRead
         reply = own_reply s h i f n old.at l shows shows_body own st q []

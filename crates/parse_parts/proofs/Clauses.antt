@@ -30,7 +30,7 @@ use Rattle.grammar_deferred_laws.proofs.PassedParts.{pass_env, pass_assign, pass
 use Rattle.parse_exprs.specs.declared.part.Ranked.{Ranked}
 use Rattle.parse_exprs.specs.declared.place.ParseFault.{ParseFault}
 use Rattle.parse_exprs.specs.declared.place.ParseFault.TheVariants as faults
-use Rattle.parse_exprs.specs.declared.place.Place.{Place}
+use Rattle.parse_exprs.specs.declared.place.Cursor.{Cursor}
 use Rattle.parse_exprs.specs.declared.source.Source.{Source}
 use Rattle.parse_exprs.specs.Answers.{Answers, Refuses, ReadAs}
 use Rattle.parse_exprs.specs.Env.{body_at, env_at}
@@ -64,7 +64,7 @@ Faults s i (faults.Unexpected k) r = r ≡ Bad [] (front s i k)
 Faults s i (faults.TooDeep k) r = r ≡ Deep [] (front s i k)
 Faults s i faults.NoMemory r = Unit {0}
 
-pub fault_bare : {A : Type 0} (s : Source) (i : Interpretation) (p : Place) (e : ParseFault) (rs : List Recorded) (r : Reply A) → Refuses s i p e rs r → Faults s i e (bare r)
+pub fault_bare : {A : Type 0} (s : Source) (i : Interpretation) (p : Cursor) (e : ParseFault) (rs : List Recorded) (r : Reply A) → Refuses s i p e rs r → Faults s i e (bare r)
 fault_bare s i p (faults.Unexpected k) rs r h = sym (bare_noted rs r) ∙ ap bare h.is
 fault_bare s i p (faults.TooDeep k) rs r h = sym (bare_noted rs r) ∙ ap bare h.is
 fault_bare s i p faults.NoMemory rs r h = tt
@@ -155,7 +155,7 @@ module _ (s : Source) (h : IsSource s) (i : Interpretation) where
   unread_is P f d o x start l (faults.TooDeep k) e = let r = deep_refused P f d (lexemes s i) start k e in (r, unread P f x start k r.not_before (inr e))
   unread_is P f d o x start l faults.NoMemory e = tt
 
-  module _ (d : ℕ) (low : d ≤ depth_limit) (start : ℕ) (l : start < length s.tokens.now) (p : Place) (rs : List Recorded) where
+  module _ (d : ℕ) (low : d ≤ depth_limit) (start : ℕ) (l : start < length s.tokens.now) (p : Cursor) (rs : List Recorded) where
     room : depth_limit - d + d ≡ depth_limit
     room = omega (arith, low)
 

@@ -12,7 +12,7 @@ use Rattle.grammar_parser_laws.proofs.Local.{left, left_noted}
 use Rattle.parse_exprs.specs.declared.place.ParseFault.{ParseFault}
 use Rattle.parse_exprs.specs.declared.place.ParseFault.TheVariants as faults
 use Rattle.parse_exprs.specs.declared.place.Pending.{Pending}
-use Rattle.parse_exprs.specs.declared.place.Place.{Place}
+use Rattle.parse_exprs.specs.declared.place.Cursor.{Cursor}
 use Rattle.parse_exprs.specs.declared.source.Source.{Source}
 use Rattle.parse_exprs.specs.Answers.{Refuses, ReadAs, recorded, records}
 use Rattle.parse_exprs.specs.Source.{lexemes, front}
@@ -76,7 +76,7 @@ module _ (s : Source) (i : Interpretation) where
       others : recorded s i p ∷ map (recorded s i) new ≡ recorded s i b ∷ (map (recorded s i) old ++ rest) → map (recorded s i) new ≡ map (recorded s i) old ++ rest
       others e = cc
 
-  pub gains : (old new : Place) (stop : ℕ) (gs : List Recorded) → records s i new ≡ records s i old ++ gs → Falls (suc (length (front s i old.at))) gs (length (front s i stop)) → Gains s old.at stop old.pending.items new.pending.items
+  pub gains : (old new : Cursor) (stop : ℕ) (gs : List Recorded) → records s i new ≡ records s i old ++ gs → Falls (suc (length (front s i old.at))) gs (length (front s i stop)) → Gains s old.at stop old.pending.items new.pending.items
   unfolding records
   gains old new stop gs e h = record {
     kept = λ l. kept_in_front old.pending.items new.pending.items gs l e;
@@ -88,7 +88,7 @@ module _ (s : Source) (i : Interpretation) where
   told rs r t e = (sym (ap agrees.records e) ∙ records_noted rs r, sym (left_noted rs r) ∙ ap left e)
 
   -- what was read, with what was gained
-  pub gained_read : {A : Type 0} (f : Parser A) (old new : Place) (a : A) → ReadAs (records s i old) (f (front s i old.at)) a (records s i new) (front s i new.at) → f (front s i old.at) ≡ Read a (map (recorded s i) (gained old.pending.items new.pending.items)) (front s i new.at)
+  pub gained_read : {A : Type 0} (f : Parser A) (old new : Cursor) (a : A) → ReadAs (records s i old) (f (front s i old.at)) a (records s i new) (front s i new.at) → f (front s i old.at) ≡ Read a (map (recorded s i) (gained old.pending.items new.pending.items)) (front s i new.at)
   unfolding records
   gained_read {A = A} f old new a h =
       let x = told (records s i old) (f (front s i old.at)) (Read a (records s i new) (front s i new.at)) h.is in
@@ -105,7 +105,7 @@ module _ (s : Source) (i : Interpretation) where
       by (Bad rs us) e = absurd (cc)
       by (Deep rs us) e = absurd (cc)
 
-  module _ {A : Type 0} (f : Parser A) (r : Rises f) (old new : Place) where
+  module _ {A : Type 0} (f : Parser A) (r : Rises f) (old new : Cursor) where
     falls_to : (stop : ℕ) → left (f (front s i old.at)) ≡ front s i stop → Falls (suc (length (front s i old.at))) (agrees.records (f (front s i old.at))) (length (front s i stop))
     falls_to stop e = subst (λ us. Falls (suc (length (front s i old.at))) (agrees.records (f (front s i old.at))) (length us)) e (r.at (front s i old.at))
 

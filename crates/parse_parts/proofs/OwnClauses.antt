@@ -24,7 +24,7 @@ use Rattle.grammar_deferred_laws.proofs.PassedFunctions.{pass_alone, function_de
 use Rattle.parse_exprs.specs.declared.place.ParseFault.{ParseFault}
 use Rattle.parse_exprs.specs.declared.place.ParseFault.TheVariants as faults
 use Rattle.parse_exprs.specs.declared.place.Pending.{Pending}
-use Rattle.parse_exprs.specs.declared.place.Place.{Place}
+use Rattle.parse_exprs.specs.declared.place.Cursor.{Cursor}
 use Rattle.parse_exprs.specs.declared.source.Source.{Source}
 use Rattle.parse_exprs.specs.Answers.{Answers, Refuses, recorded, records}
 use Rattle.parse_exprs.specs.Env.{body_at, env_at}
@@ -140,16 +140,16 @@ module _ (s : Source) (h : IsSource s) (i : Interpretation) (f : FuncForm) (n : 
     alone_is stop node x k e = let t = takes_alone i depth_limit 0 refl (front s i start) (front s i stop) shows shows_body f node x n k e in (taken_in s h i (FunctionPart passed f None 0) (function_balanced passed f None 0) start stop l t.taken, t)
 
     -- what the code answered that passes the own body over, with nothing recorded before
-    abbrev pub Passes : Place → Result (NodeFunc E B) ParseFault → Type 0
+    abbrev pub Passes : Cursor → Result (NodeFunc E B) ParseFault → Type 0
     Passes p o = Answers (FuncOf i shows shows_body) s i p o [] (pure.alone_of (env_at i 0) f (front s i start))
 
     -- as it is where nothing was pending
-    pub passes_alone : (old p : Place) (o : Result (NodeFunc E B) ParseFault) → old.pending.items ≡ [] → Answers (FuncOf i shows shows_body) s i p o (records s i old) (pure.alone_of (env_at i 0) f (front s i start)) → Passes p o
+    pub passes_alone : (old p : Cursor) (o : Result (NodeFunc E B) ParseFault) → old.pending.items ≡ [] → Answers (FuncOf i shows shows_body) s i p o (records s i old) (pure.alone_of (env_at i 0) f (front s i start)) → Passes p o
     unfolding records
     passes_alone old p o e a = subst (λ ps. Answers (FuncOf i shows shows_body) s i p o (map (recorded s i) ps) (pure.alone_of (env_at i 0) f (front s i start))) e a
 
     -- what it recorded is pending
-    pub all_pending : (p : Place) (o : Result (NodeFunc E B) ParseFault) → lacks_memory o ≡ false → Passes p o → agrees.records (passes (body_at i) (given i) depth_limit f (front s i start)) ≡ map (recorded s i) p.pending.items
+    pub all_pending : (p : Cursor) (o : Result (NodeFunc E B) ParseFault) → lacks_memory o ≡ false → Passes p o → agrees.records (passes (body_at i) (given i) depth_limit f (front s i start)) ≡ map (recorded s i) p.pending.items
     unfolding records
     all_pending p (Ok node) m a = let x = func_read i shows shows_body node a in ap (λ (g : Parser Function). agrees.records (g (front s i start))) (sym alone_here) ∙ ap agrees.records x.2.is
     all_pending p (Err (faults.Unexpected k)) m a = ap (λ (g : Parser Function). agrees.records (g (front s i start))) (sym alone_here) ∙ ap agrees.records a.is
@@ -158,7 +158,7 @@ module _ (s : Source) (h : IsSource s) (i : Interpretation) (f : FuncForm) (n : 
 
     -- no body of its own was passed over: what was read is the function
 
-    pub no_own : (p : Place) (o : Result (NodeFunc E B) ParseFault) → lacks_memory o ≡ false → IsOutermost p.pending.items None → Passes p o → passes (body_at i) (given i) depth_limit f (front s i start) ≡ pass_alone (body_at i) (given i) depth_limit f (front s i start)
+    pub no_own : (p : Cursor) (o : Result (NodeFunc E B) ParseFault) → lacks_memory o ≡ false → IsOutermost p.pending.items None → Passes p o → passes (body_at i) (given i) depth_limit f (front s i start) ≡ pass_alone (body_at i) (given i) depth_limit f (front s i start)
     no_own p o m none a = none_own (body_at i) (given i) depth_limit f (front s i start) not_own
       where
         not_own : (rs : List Recorded) (b : Recorded) → agrees.records (passes (body_at i) (given i) depth_limit f (front s i start)) ≡ rs ++ b ∷ [] → b.room ≡ depth_limit → ⊥
@@ -169,7 +169,7 @@ module _ (s : Source) (h : IsSource s) (i : Interpretation) (f : FuncForm) (n : 
             outer : (y : Pending) → depth_limit - y.depth ≡ depth_limit → y.depth ≡ 0
             outer y e = omega (arith, e)
 
-    pub without_own : (p : Place) (o : Result (NodeFunc E B) ParseFault) → lacks_memory o ≡ false → IsOutermost p.pending.items None → Passes p o → IsAlone i shows shows_body s f start p.at o
+    pub without_own : (p : Cursor) (o : Result (NodeFunc E B) ParseFault) → lacks_memory o ≡ false → IsOutermost p.pending.items None → Passes p o → IsAlone i shows shows_body s f start p.at o
     without_own p o m none a = by o a (no_own p o m none a)
       where
         by : (o : Result (NodeFunc E B) ParseFault) → Passes p o → passes (body_at i) (given i) depth_limit f (front s i start) ≡ pass_alone (body_at i) (given i) depth_limit f (front s i start) → IsAlone i shows shows_body s f start p.at o
@@ -177,10 +177,10 @@ module _ (s : Source) (h : IsSource s) (i : Interpretation) (f : FuncForm) (n : 
         by (Err fault) a e = alone_refused shows shows_body p.at fault (subst (λ r. Faults s i fault (bare r)) e (subst (λ (g : Parser Function). Faults s i fault (bare (g (front s i start)))) alone_here (fault_bare s i p fault [] _ a)))
 
     -- its own body stands there
-    pub own_there : (p : Place) (o : Result (NodeFunc E B) ParseFault) → lacks_memory o ≡ false → (own : Pending) → IsOutermost p.pending.items (Some own) → Passes p o → Stood (body_at i) (given i) depth_limit f (front s i start) (recorded s i own)
+    pub own_there : (p : Cursor) (o : Result (NodeFunc E B) ParseFault) → lacks_memory o ≡ false → (own : Pending) → IsOutermost p.pending.items (Some own) → Passes p o → Stood (body_at i) (given i) depth_limit f (front s i start) (recorded s i own)
     own_there p o m own k a = own_stood (body_at i) (given i) depth_limit f (front s i start) (map (recorded s i) k.0) (recorded s i own) (all_pending p o m a ∙ ap (map (recorded s i)) k.1 ∙ map_last (recorded s i) k.0 own) (ap (λ d. depth_limit - d) k.2)
 
-    module _ (own : Pending) (st : Stood (body_at i) (given i) depth_limit f (front s i start) (recorded s i own)) (q : Place) (rs : List Recorded) where
+    module _ (own : Pending) (st : Stood (body_at i) (given i) depth_limit f (front s i start) (recorded s i own)) (q : Cursor) (rs : List Recorded) where
       -- the parser of its own body
       abbrev pub own_reply : Reply BodyRead
       own_reply = pure.reading (stmts_at i 0) f st.head.start (is_simple st.head.params) (front s i own.token)
@@ -200,7 +200,7 @@ module _ (s : Source) (h : IsSource s) (i : Interpretation) (f : FuncForm) (n : 
 
       -- the own body is read: after it the same is found as where it is passed over
 
-      module _ (p : Place) (b : BodyNode B) (a : Answers (BodyOf shows_body) s i q (Ok b) rs own_reply) where
+      module _ (p : Cursor) (b : BodyNode B) (a : Answers (BodyOf shows_body) s i q (Ok b) rs own_reply) where
         here : (bare (pass_alone (body_at i) (given i) depth_limit f (front s i start)) ≡ bare (end_of (function_case f None st.head (record { body = BracedBody a.0; end = b.end })) (front s i q.at)))
             × (bare (passes (body_at i) (given i) depth_limit f (front s i start)) ≡ bare (end_of (function_case f None st.head (passed_body (body_at i st.head.start) b.end)) (front s i q.at)))
         here = own_read (body_at i) (given i) depth_limit f 0 refl (front s i start) (front s i q.at) (recorded s i own) st (record { body = BracedBody a.0; end = b.end }) (ap bare (sym own_here) ∙ read_bare a.2)

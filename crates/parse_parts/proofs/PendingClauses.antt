@@ -16,7 +16,7 @@ use Rattle.parse_pending_laws.proofs.Rises.{Rises}
 use Rattle.parse_pending_laws.proofs.RisesAll.{assign_rises, expression_rises, headed_rises, own_rises}
 use Rattle.parse_exprs.specs.declared.part.Ranked.{Ranked}
 use Rattle.parse_exprs.specs.declared.place.ParseFault.{ParseFault}
-use Rattle.parse_exprs.specs.declared.place.Place.{Place}
+use Rattle.parse_exprs.specs.declared.place.Cursor.{Cursor}
 use Rattle.parse_exprs.specs.declared.source.Source.{Source}
 use Rattle.parse_exprs.specs.Answers.{Answers, Refuses, records}
 use Rattle.parse_exprs.specs.Env.{body_at, env_at}
@@ -37,7 +37,7 @@ use Rattle.parse_parts.proofs.Takes.{given}
 pub nothing : Interpretation
 nothing = record { texts = []; bodies = λ start. no_stmts }
 
-module _ (s : Source) (i : Interpretation) (d : ℕ) (old new : Place) where
+module _ (s : Source) (i : Interpretation) (d : ℕ) (old new : Cursor) where
   -- an AssignmentExpression
 
   module _ {E : Type 0} (shows : E → Expr → Type 0) (w : Bool) where

@@ -19,7 +19,7 @@ use Rattle.grammar_parser_specs.specs.Filling.{fill, fill_stmts, fill_function}
 use Rattle.parse_exprs.specs.declared.place.ParseFault.{ParseFault}
 use Rattle.parse_exprs.specs.declared.place.ParseFault.TheVariants as faults
 use Rattle.parse_exprs.specs.declared.place.Pending.{Pending}
-use Rattle.parse_exprs.specs.declared.place.Place.{Place}
+use Rattle.parse_exprs.specs.declared.place.Cursor.{Cursor}
 use Rattle.parse_exprs.specs.declared.source.Source.{Source}
 use Rattle.parse_exprs.specs.Env.{body_at}
 use Rattle.parse_exprs.specs.Source.{front}
@@ -50,7 +50,7 @@ pub record Gains (s : Source) (start stop : ℕ) (old new : List Pending) : Type
   pub rise : Rise start stop (gained old new)
 
 -- The bodies stand in front of the place that is reached, or of the fault's token. Nothing is said where memory ran out.
-abbrev pub IsGained : {A : Type 0} → Source → Place → Place → Result A ParseFault → Type 0
+abbrev pub IsGained : {A : Type 0} → Source → Cursor → Cursor → Result A ParseFault → Type 0
 IsGained s old new (Ok _) = Gains s old.at new.at old.pending.items new.pending.items
 IsGained s old new (Err (faults.Unexpected token)) = Gains s old.at token old.pending.items new.pending.items
 IsGained s old new (Err (faults.TooDeep token)) = Gains s old.at token old.pending.items new.pending.items
@@ -119,22 +119,22 @@ pub record WholeAlone {E B : Type 0} (i : Interpretation) (shows : E → Expr �
 
 -- so after Ok of each call
 
-abbrev pub CompletesAssignment : {E : Type 0} → Interpretation → (E → Expr → Type 0) → Source → (with_in : Bool) → (depth : ℕ) → Place → Place → Result E ParseFault → Type 0
+abbrev pub CompletesAssignment : {E : Type 0} → Interpretation → (E → Expr → Type 0) → Source → (with_in : Bool) → (depth : ℕ) → Cursor → Cursor → Result E ParseFault → Type 0
 CompletesAssignment i shows s with_in depth old new (Ok node) = (bodies : List Stmts) → HaveStatements i s (gained old.pending.items new.pending.items) bodies → WholeAssign i shows with_in depth (front s i old.at) (front s i new.at) node bodies
 CompletesAssignment i shows s with_in depth old new (Err _) = Unit {0}
 
-abbrev pub CompletesExpression : {E : Type 0} → Interpretation → (E → Expr → Type 0) → Source → (with_in : Bool) → (depth : ℕ) → Place → Place → Result E ParseFault → Type 0
+abbrev pub CompletesExpression : {E : Type 0} → Interpretation → (E → Expr → Type 0) → Source → (with_in : Bool) → (depth : ℕ) → Cursor → Cursor → Result E ParseFault → Type 0
 CompletesExpression i shows s with_in depth old new (Ok node) = (bodies : List Stmts) → HaveStatements i s (gained old.pending.items new.pending.items) bodies → WholeExpression i shows with_in depth (front s i old.at) (front s i new.at) node bodies
 CompletesExpression i shows s with_in depth old new (Err _) = Unit {0}
 
-abbrev pub CompletesHead : {E B : Type 0} → Interpretation → (E → Expr → Type 0) → (B → Stmts → Type 0) → Source → FuncForm → Option Named → (depth : ℕ) → Place → Place → Result (NodeFunc E B) ParseFault → Type 0
+abbrev pub CompletesHead : {E B : Type 0} → Interpretation → (E → Expr → Type 0) → (B → Stmts → Type 0) → Source → FuncForm → Option Named → (depth : ℕ) → Cursor → Cursor → Result (NodeFunc E B) ParseFault → Type 0
 CompletesHead i shows shows_body s form name depth old new (Ok node) = (bodies : List Stmts) → HaveStatements i s (gained old.pending.items new.pending.items) bodies → WholeHead i shows shows_body form name depth (front s i old.at) (front s i new.at) node bodies
 CompletesHead i shows shows_body s form name depth old new (Err _) = Unit {0}
 
-abbrev pub CompletesBody : {B : Type 0} → Interpretation → (B → Stmts → Type 0) → Source → (depth : ℕ) → Place → Place → Result (BodyNode B) ParseFault → Type 0
+abbrev pub CompletesBody : {B : Type 0} → Interpretation → (B → Stmts → Type 0) → Source → (depth : ℕ) → Cursor → Cursor → Result (BodyNode B) ParseFault → Type 0
 CompletesBody i shows s depth old new (Ok read) = (bodies : List Stmts) → HaveStatements i s (gained old.pending.items new.pending.items) bodies → WholeBody i shows depth read.end (front s i old.at) (front s i new.at) read.node bodies
 CompletesBody i shows s depth old new (Err _) = Unit {0}
 
-abbrev pub CompletesAlone : {E B : Type 0} → Interpretation → (E → Expr → Type 0) → (B → Stmts → Type 0) → Source → FuncForm → Place → Place → Result (NodeFunc E B) ParseFault → Type 0
+abbrev pub CompletesAlone : {E B : Type 0} → Interpretation → (E → Expr → Type 0) → (B → Stmts → Type 0) → Source → FuncForm → Cursor → Cursor → Result (NodeFunc E B) ParseFault → Type 0
 CompletesAlone i shows shows_body s form old new (Ok node) = (bodies : List Stmts) → HaveStatements i s (gained old.pending.items new.pending.items) bodies → WholeAlone i shows shows_body form 0 (front s i old.at) (front s i new.at) node bodies
 CompletesAlone i shows shows_body s form old new (Err _) = Unit {0}

@@ -8,7 +8,7 @@ use Rattle.script_scanner.specs.Stands.{GainsOnly}
 use Rattle.script_scanner.specs.Tokens.{tokens}
 use Rattle.scan_laws.proofs.Gained.{gained_small}
 use Rattle.bytecode_buf.specs.InRange.{TextsSmall}
-use Rattle.parse_track.specs.declared.region.Known.{Known}
+use Rattle.parse_track.specs.declared.region.WellKnownAtoms.{WellKnownAtoms}
 use Rattle.track_atoms.specs.Known.{HasWords, known_atoms}
 
 -- the known words, in the order of their atoms
@@ -34,14 +34,14 @@ word_at texts h (suc (suc (suc (suc (suc (suc zero)))))) text e = h.strict ∙ e
 word_at texts h (suc (suc (suc (suc (suc (suc (suc k))))))) text e = absurd (cc)
 
 -- seven texts at most, with all known words
-words_only : (texts : List (List ℕ)) (known : Known) → HasWords texts known → known ≡ known_atoms → length texts ≤ 7 → texts ≡ known_texts
+words_only : (texts : List (List ℕ)) (known : WellKnownAtoms) → HasWords texts known → known ≡ known_atoms → length texts ≤ 7 → texts ≡ known_texts
 words_only texts known h fixed few = same_texts texts known_texts (word_at texts (subst (HasWords texts) fixed h)) few
 
 known_small : TextsSmall known_texts
 known_small = (omega arith, (omega arith, (omega arith, (omega arith, (omega arith, (omega arith, (omega arith, tt)))))))
 
 -- what a scan of a file leaves that began with the known words alone
-pub file_texts_small : (bytes : List ℕ) (ps : List Point) (first after made : List (List ℕ)) (known : Known) → ps ≡ points bytes → HasWords first known → known ≡ known_atoms → length first ≤ 7
+pub file_texts_small : (bytes : List ℕ) (ps : List Point) (first after made : List (List ℕ)) (known : WellKnownAtoms) → ps ≡ points bytes → HasWords first known → known ≡ known_atoms → length first ≤ 7
     → GainsOnly first after (tokens ps 0 (length bytes)) → made ≡ after → length bytes ≤ 16777215 → TextsSmall made
 file_texts_small bytes ps first after made known decoded words fixed few gains same short =
     let gained : GainsOnly first after (tokens (points bytes) 0 (length bytes)) = subst (λ (qs : List Point). GainsOnly first after (tokens qs 0 (length bytes))) decoded gains in

@@ -6,7 +6,7 @@ ghost use Rattle.unit_text.specs.Faults.{IsFaultOf};
 ghost use Rattle.script_scanner.specs.Lexemes.{lexemes};
 ghost use Rattle.parse_script.specs.Tokens.{tokens_in, IsSound};
 
-use parse_track::region::Known;
+use parse_track::region::WellKnownAtoms;
 use parser_atoms::Atoms;
 use script_grammar::token::Token;
 use script_scanner::scan;
@@ -20,7 +20,7 @@ use unit_text::{DecodeFault, decode};
 pub struct FileTokens {
     pub tokens: Vec<Token>,
     pub texts: Vec<Text>,
-    pub known: Known,
+    pub known: WellKnownAtoms,
 }
 
 /// The tokens of a file, the last of them End or Bad. Takes time and memory in proportion to the bytes.

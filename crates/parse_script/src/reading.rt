@@ -7,7 +7,7 @@ ghost use Rattle.parse_script.specs.Tokens.{tokens_in, IsSound};
 
 use crate::file_tokens::FileTokens;
 use parse_bodies::whole::{Script, whole};
-use parse_exprs::place::{ParseFault, Place};
+use parse_exprs::place::{Cursor, ParseFault};
 use parse_exprs::source::Source;
 use parse_exprs::state::State;
 use script_grammar::brackets::Brackets;
@@ -27,7 +27,7 @@ pub fn read_script<H: Handler + Drop>(
     let brackets = Brackets::of(alloc, &file.tokens)?;
     let source = Source::new(&file.tokens, &brackets, file.known.get, file.known.set);
     let mut state = State {
-        place: Place {
+        place: Cursor {
             at: 0,
             pending: Vec::new(alloc),
         },

@@ -2,7 +2,7 @@
 use Rattle.std.specs.Prelude.{◌≡◌, ℕ, List, [], ◌++◌}
 use Rattle.script_grammar.specs.Interpretation.{Interpretation, text_of}
 use Rattle.parse_track.specs.Tells.{tells_use}
-use Rattle.parse_handlers.specs.declared.found.Found.{Found}
+use Rattle.parse_handlers.specs.declared.found.FoundFunction.{FoundFunction}
 use Rattle.parse_handlers.specs.FoundOf.{founds_before}
 use Rattle.parse_handlers.specs.Inner.{Inner}
 use Rattle.parse_track_handler.specs.Pieces.{Rest, telling, pieces_say}
@@ -19,7 +19,7 @@ told_says i told.Nothing rest = rest
 told_says i (told.Used atom) rest = use_says i atom rest
 told_says i (told.Parts parts) rest = pieces_say i parts.value.pieces.items rest
 
-abbrev pub told_found : Told → List Found
+abbrev pub told_found : Told → List FoundFunction
 told_found told.Nothing = []
 told_found (told.Used atom) = []
 told_found (told.Parts parts) = parts.value.found.items
@@ -34,6 +34,6 @@ pub record ArePartsOf (told : Told) (parts : Parts) : Type 0 where
   pub found : parts.found.items ≡ told_found told
 
 -- What is told after `old` says this, and these functions were found after those of `old`.
-pub record Tells (old new : Told) (more : Interpretation → Rest → Rest) (others : List Found) : Type 0 where
+pub record Tells (old new : Told) (more : Interpretation → Rest → Rest) (others : List FoundFunction) : Type 0 where
   pub says : (i : Interpretation) (rest : Rest) → told_says i new rest ≡ told_says i old (more i rest)
   pub found : told_found new ≡ told_found old ++ others

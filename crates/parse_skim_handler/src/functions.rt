@@ -16,7 +16,7 @@ use crate::told::{Parts, parts_of, with_function};
 use parse_early_handler::early::{error_of, sooner};
 use parse_early_handler::limits::many_params;
 use parse_early_handler::parts::are_more;
-use parse_handlers::Found;
+use parse_handlers::FoundFunction;
 use parse_track::region::{Declare, Early, Region};
 use parse_track_handler::Piece;
 use script_grammar::node::{NodeFunc, NodeFuncBody, NodeParam};
@@ -188,11 +188,11 @@ fn found(
     name: Option<u32>,
     braced: bool,
     simple: bool,
-    inner: Vec<Found>,
-) -> Found
+    inner: Vec<FoundFunction>,
+) -> FoundFunction
     ensures { (i : Interpretation) → found_of i result ≡ record { start = extent.start; end = extent.end; kind = kind; name = option_map (text_of i) name; braced = braced; simple = simple; inner = founds_before i inner.items no_inner } }
 {
-    Found {
+    FoundFunction {
         extent,
         kind,
         name,

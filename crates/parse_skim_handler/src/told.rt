@@ -8,7 +8,7 @@ ghost use Rattle.parse_track_handler.specs.Pieces.{piece_says, pieces_say, says_
 ghost use Rattle.parse_track_handler.specs.Parts.{Appends};
 ghost use Rattle.parse_skim_handler.specs.Telling.{ArePartsOf, Tells, told_found, told_says, use_says};
 
-use parse_handlers::Found;
+use parse_handlers::FoundFunction;
 use parse_track::region::Region;
 use parse_track_handler::Piece;
 use std::alloc::{AllocError, Global};
@@ -17,7 +17,7 @@ use std::alloc::{AllocError, Global};
 #[derive(Drop)]
 pub struct Parts {
     pub pieces: Vec<Piece>,
-    pub found: Vec<Found>,
+    pub found: Vec<FoundFunction>,
 }
 
 /// What a part of a script tells, and the functions in it. Most parts tell nothing or use one name, and take no memory.
@@ -77,7 +77,7 @@ fn push(parts: &mut Parts, piece: Piece) -> Result<(), AllocError>
 }
 
 /// A function after the functions that are there.
-fn find(parts: &mut Parts, found: Found) -> Result<(), AllocError>
+fn find(parts: &mut Parts, found: FoundFunction) -> Result<(), AllocError>
     ensures pieces { OnOk result (parts.new.pieces.items ≡ parts.old.pieces.items) }
     ensures found { OnOk result (parts.new.found.items ≡ parts.old.found.items ++ (found ∷ [])) }
 {
@@ -86,7 +86,7 @@ fn find(parts: &mut Parts, found: Found) -> Result<(), AllocError>
 }
 
 /// Functions after the functions that are there.
-fn find_all(parts: &mut Parts, mut found: Vec<Found>) -> Result<(), AllocError>
+fn find_all(parts: &mut Parts, mut found: Vec<FoundFunction>) -> Result<(), AllocError>
     ensures pieces { OnOk result (parts.new.pieces.items ≡ parts.old.pieces.items) }
     ensures found { OnOk result (parts.new.found.items ≡ parts.old.found.items ++ found.items) }
 {
@@ -180,7 +180,7 @@ pub(crate) fn with_function(
     kind: Region,
     at: u32,
     pieces: Vec<Piece>,
-    found: Found,
+    found: FoundFunction,
 ) -> Result<Told, AllocError>
     ensures { IfOk result (λ new. Tells told new (λ i. says_region (region_text i (region_of kind)) at (pieces_say i pieces.items)) (found ∷ [])) }
 {

@@ -21,7 +21,7 @@ use Rattle.grammar_script_laws.proofs.Closed.{Closed, open_front, not_both}
 use Rattle.grammar_script_laws.proofs.PassedLaws.{pass_script, script_is_passed}
 use Rattle.parse_exprs.specs.declared.place.ParseFault.{ParseFault}
 use Rattle.parse_exprs.specs.declared.place.ParseFault.TheVariants as faults
-use Rattle.parse_exprs.specs.declared.place.Place.{Place}
+use Rattle.parse_exprs.specs.declared.place.Cursor.{Cursor}
 use Rattle.parse_exprs.specs.declared.source.Source.{Source}
 use Rattle.parse_exprs.specs.Answers.{Answers, Reads, recorded, records}
 use Rattle.parse_exprs.specs.Env.{body_at}
@@ -71,7 +71,7 @@ script_passes i s items t =
     record { passed = p.passed; left = t.end ∷ []; is = passes_here i (front s i 0) ∙ ap (pass_script (body_at i) (braced_at i)) (from_first i s) ∙ p.reads }
 
 -- What the code answers that reads so.
-module _ {B : Type 0} (shows : Interpretation → B → Stmts → Type 0) (i : Interpretation) (s : Source) (old new : Place) (start : old.at ≡ 0) (none : old.pending.items ≡ []) where
+module _ {B : Type 0} (shows : Interpretation → B → Stmts → Type 0) (i : Interpretation) (s : Source) (old new : Cursor) (start : old.at ≡ 0) (none : old.pending.items ≡ []) where
   none_before : records s i old ≡ []
   unfolding records
   none_before = ap (map (recorded s i)) none

@@ -9,7 +9,7 @@ ghost use Rattle.parse_script.specs.Tokens.{tokens_in, IsSound};
 ghost use Rattle.parse_top.specs.Top.{AreAScript, IsTopOf, ShowsTop};
 
 use parse_bodies::scripts::script;
-use parse_exprs::place::{ParseFault, Place};
+use parse_exprs::place::{Cursor, ParseFault};
 use parse_exprs::source::Source;
 use parse_exprs::state::State;
 use parse_script::FileTokens;
@@ -40,7 +40,7 @@ fn top_in<H: Handler + Drop>(
     let brackets = Brackets::of(alloc, &file.tokens)?;
     let source = Source::new(&file.tokens, &brackets, file.known.get, file.known.set);
     let mut state = State {
-        place: Place {
+        place: Cursor {
             at: 0,
             pending: Vec::new(alloc),
         },

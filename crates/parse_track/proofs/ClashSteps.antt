@@ -8,7 +8,7 @@ use Rattle.parse_track.specs.EarlyErrors.{has, smaller}
 use Rattle.parse_track.specs.ClosedNames.{names_of}
 use Rattle.parse_track.specs.Log as log
 use Rattle.parse_track.specs.Log.{Part, Item, name_of, kind_of, told_items, told_region}
-use Rattle.parse_track.specs.declared.track.Row.{Row}
+use Rattle.parse_track.specs.declared.track.RegionRow.{RegionRow}
 use Rattle.parse_track.specs.Rows.{item_of, row_of, items_at}
 use Rattle.parse_track.specs.Clashes.{Firsts, no_firsts, put_first, open_all, clash_at, clash_all, opens, base, opened, clashes, IsClash}
 use Rattle.parse_track.proofs.Items.{region_tells}
@@ -122,7 +122,7 @@ outer_cons : (heads : Bool) (f : Firsts) (parts : List Part) (inside : ℕ → T
 outer_cons heads f parts inside n None xs = clashes_cons heads f parts inside (log.Inner n) xs
 outer_cons heads f parts inside n (Some _) xs = refl
 
-pub outer_clash_step : (heads : Bool) (parts : List Part) (inside : ℕ → Told ℕ) (rows : List Row) (index : ℕ) (x : Row) (first here now all : Option ℕ)
+pub outer_clash_step : (heads : Bool) (parts : List Part) (inside : ℕ → Told ℕ) (rows : List RegionRow) (index : ℕ) (x : RegionRow) (first here now all : Option ℕ)
     → drop index rows ≡ x ∷ drop (index + 1) rows
     → here ≡ clashes heads no_firsts (told_items parts inside (log.outermost_if index x.around)) → now ≡ smaller first here
     → smaller first (clashes heads no_firsts (told_items parts inside (log.outermost index (map row_of (drop index rows))))) ≡ all
@@ -133,5 +133,5 @@ outer_clash_step heads parts inside rows index x first here now all d e n h =
     ∙ (sym (smaller_assoc first here (clashes heads no_firsts (told_items parts inside rest)))
     ∙ (ap (λ (o : Option ℕ). smaller first (smaller o (clashes heads no_firsts (told_items parts inside rest)))) e
     ∙ (ap (smaller first) (sym (outer_cons heads no_firsts parts inside index x.around rest)
-    ∙ ap (λ (ys : List Row). clashes heads no_firsts (told_items parts inside (log.outermost index (map row_of ys)))) (sym d))
+    ∙ ap (λ (ys : List RegionRow). clashes heads no_firsts (told_items parts inside (log.outermost index (map row_of ys)))) (sym d))
     ∙ h)))

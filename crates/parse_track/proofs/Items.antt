@@ -11,7 +11,7 @@ use Rattle.parse_track.specs.ClosedNames.{has_body, names_of}
 use Rattle.parse_track.specs.Log as log
 use Rattle.parse_track.specs.Log.{Part, Item, name_of, kind_of, at_of, items_of, told_items, told_region}
 use Rattle.parse_track.specs.Rows.{item_of, items_at}
-use Rattle.parse_track.specs.declared.track.Item as Row
+use Rattle.parse_track.specs.declared.track.Item as RegionRow
 
 -- a region tells what its items tell, with a room less
 pub region_tells : (room : ℕ) (parts : List Part) (n : ℕ) → told_region room parts n ≡ told_items parts (told_region (room - 1) parts) (items_at room parts n)
@@ -26,12 +26,12 @@ vars_cons parts inside (log.Inner m) xs =
     sym (append_assoc (cond (stops_vars (kind_of (slice_get parts m))) [] (vars (inside m))) [] (vars (told_items parts inside xs)))
 
 -- a loop over the items of a region has come to its end
-pub vars_done : (parts : List Part) (room n : ℕ) (old now : List (Name ℕ)) (items left : List Row.Item) → left ≡ []
+pub vars_done : (parts : List Part) (room n : ℕ) (old now : List (Name ℕ)) (items left : List RegionRow.Item) → left ≡ []
     → now ++ vars (told_items parts (told_region (room - 1) parts) (map item_of left)) ≡ old ++ vars (told_items parts (told_region (room - 1) parts) (map item_of items))
     → map item_of items ≡ items_at room parts n → now ≡ old ++ vars (told_region room parts n)
 vars_done parts room n old now items left e h f =
     sym (append-nil now)
-    ∙ (ap (λ (is : List Row.Item). now ++ vars (told_items parts (told_region (room - 1) parts) (map item_of is))) (sym e)
+    ∙ (ap (λ (is : List RegionRow.Item). now ++ vars (told_items parts (told_region (room - 1) parts) (map item_of is))) (sym e)
     ∙ (h ∙ (ap (λ (is : List Item). old ++ vars (told_items parts (told_region (room - 1) parts) is)) f
     ∙ ap (λ (t : Told ℕ). old ++ vars t) (sym (region_tells room parts n)))))
 
@@ -45,7 +45,7 @@ declared_case true name told found e = ap (λ (xs : List (Name ℕ)). name_of na
 declared_case false name told found e = e
 
 -- the names that a region declares itself
-pub names_filtered : (parts : List Part) (inside : ℕ → Told ℕ) (a : Asked) (items : List Row.Item)
+pub names_filtered : (parts : List Part) (inside : ℕ → Told ℕ) (a : Asked) (items : List RegionRow.Item)
     → directly (asks a) (told_items parts inside (map item_of items)) ≡ map name_of (filter_map (asked_in a) items)
 names_filtered parts inside a [] = refl
 names_filtered parts inside a (row.Declared how name ∷ items) =
@@ -54,14 +54,14 @@ names_filtered parts inside a (row.Used _ ∷ items) = names_filtered parts insi
 names_filtered parts inside a (row.Jumped _ _ _ ∷ items) = names_filtered parts inside a items
 names_filtered parts inside a (row.Inner _ ∷ items) = names_filtered parts inside a items
 
-pub directly_filtered : (parts : List Part) (room n : ℕ) (a : Asked) (items : List Row.Item) → map item_of items ≡ items_at room parts n
+pub directly_filtered : (parts : List Part) (room n : ℕ) (a : Asked) (items : List RegionRow.Item) → map item_of items ≡ items_at room parts n
     → directly (asks a) (told_region room parts n) ≡ map name_of (filter_map (asked_in a) items)
 directly_filtered parts room n a items e =
     ap (directly (asks a)) (region_tells room parts n ∙ ap (told_items parts (told_region (room - 1) parts)) (sym e))
     ∙ names_filtered parts (told_region (room - 1) parts) a items
 
 -- whether a body of its own is among items
-pub body_any : (parts : List Part) (inside : ℕ → Told ℕ) (items : List Row.Item)
+pub body_any : (parts : List Part) (inside : ℕ → Told ℕ) (items : List RegionRow.Item)
     → has_body (told_items parts inside (map item_of items)) ≡ list_any (λ item. has_body (told_items parts (λ _. nothing) (item_of item ∷ []))) items
 body_any parts inside [] = refl
 body_any parts inside (row.Declared _ _ ∷ items) = body_any parts inside items
@@ -71,7 +71,7 @@ body_any parts inside (row.Inner m ∷ items) =
     ap (λ (b : Bool). is_body (kind_of (slice_get parts m)) || b) (body_any parts inside items)
     ∙ ap (λ (b : Bool). b || list_any (λ item. has_body (told_items parts (λ _. nothing) (item_of item ∷ []))) items) (sym (or_false (is_body (kind_of (slice_get parts m)))))
 
-pub body_found : (parts : List Part) (room n : ℕ) (items : List Row.Item) → map item_of items ≡ items_at room parts n
+pub body_found : (parts : List Part) (room n : ℕ) (items : List RegionRow.Item) → map item_of items ≡ items_at room parts n
     → has_body (told_region room parts n) ≡ list_any (λ item. has_body (told_items parts (λ _. nothing) (item_of item ∷ []))) items
 body_found parts room n items e =
     ap has_body (region_tells room parts n ∙ ap (told_items parts (told_region (room - 1) parts)) (sym e)) ∙ body_any parts (told_region (room - 1) parts) items
@@ -80,7 +80,7 @@ pub names_atoms : (names : List Ident) → names_of (map name_of names) ≡ map 
 names_atoms [] = refl
 names_atoms (name ∷ names) = ap (λ (xs : List ℕ). name.atom ∷ xs) (names_atoms names)
 
-pub direct_atoms_are : (parts : List Part) (room n : ℕ) (a : Asked) (items : List Row.Item) (names : List Ident) (atoms : List ℕ)
+pub direct_atoms_are : (parts : List Part) (room n : ℕ) (a : Asked) (items : List RegionRow.Item) (names : List Ident) (atoms : List ℕ)
     → map item_of items ≡ items_at room parts n → names ≡ filter_map (asked_in a) items → atoms ≡ map (λ (name : Ident). name.atom) names
     → atoms ≡ names_of (directly (asks a) (told_region room parts n))
 direct_atoms_are parts room n a items names atoms e f g =
@@ -91,12 +91,12 @@ pub var_atoms_are : (parts : List Part) (room n : ℕ) (names : List Ident) (ato
 var_atoms_are parts room n names atoms e f = f ∙ (sym (names_atoms names) ∙ ap names_of e)
 
 -- a loop over the items of a region has come to its end
-pub list_done : (F : Told ℕ → List (Name ℕ)) (parts : List Part) (room n : ℕ) (old now : List (Name ℕ)) (items left : List Row.Item) → left ≡ [] → F nothing ≡ []
+pub list_done : (F : Told ℕ → List (Name ℕ)) (parts : List Part) (room n : ℕ) (old now : List (Name ℕ)) (items left : List RegionRow.Item) → left ≡ [] → F nothing ≡ []
     → now ++ F (told_items parts (told_region (room - 1) parts) (map item_of left)) ≡ old ++ F (told_items parts (told_region (room - 1) parts) (map item_of items))
     → map item_of items ≡ items_at room parts n → now ≡ old ++ F (told_region room parts n)
 list_done F parts room n old now items left e z h f =
     sym (append-nil now)
     ∙ (ap (λ (xs : List (Name ℕ)). now ++ xs) (sym z)
-    ∙ (ap (λ (is : List Row.Item). now ++ F (told_items parts (told_region (room - 1) parts) (map item_of is))) (sym e)
+    ∙ (ap (λ (is : List RegionRow.Item). now ++ F (told_items parts (told_region (room - 1) parts) (map item_of is))) (sym e)
     ∙ (h ∙ (ap (λ (is : List Item). old ++ F (told_items parts (told_region (room - 1) parts) is)) f
     ∙ ap (λ (t : Told ℕ). old ++ F t) (sym (region_tells room parts n))))))

@@ -1,6 +1,6 @@
 -- The smallest offset of a rule over all regions, found item by item.
 use Rattle.std.proofs.Common.{◌≡◌, ℕ, ◌+◌, ◌-◌, Option, None, Some, List, [], ◌∷◌, ◌++◌, map, drop, slice_get, refl, sym, ap, ◌∙◌, append-nil, append_assoc}
-use Rattle.parse_track.specs.declared.track.Row.{Row}
+use Rattle.parse_track.specs.declared.track.RegionRow.{RegionRow}
 use Rattle.parse_track.specs.declared.track.Item as row
 use Rattle.parse_track.specs.Told.{Region, Told}
 use Rattle.parse_track.specs.EarlyErrors.{smaller, smallest, at_regions}
@@ -58,7 +58,7 @@ outer_cons : (rule : Rule) (parts : List Part) (inside : ℕ → Told ℕ) (n : 
 outer_cons rule parts inside n None xs = regions_cons rule parts inside (log.Inner n) xs
 outer_cons rule parts inside n (Some _) xs = refl
 
-pub seek_outer_step : (rule : Rule) (parts : List Part) (inside : ℕ → Told ℕ) (rows : List Row) (index : ℕ) (x : Row) (first here now all : Option ℕ)
+pub seek_outer_step : (rule : Rule) (parts : List Part) (inside : ℕ → Told ℕ) (rows : List RegionRow) (index : ℕ) (x : RegionRow) (first here now all : Option ℕ)
     → drop index rows ≡ x ∷ drop (index + 1) rows
     → here ≡ smallest (at_regions rule (told_items parts inside (log.outermost_if index x.around))) → now ≡ smaller first here
     → smaller first (smallest (at_regions rule (told_items parts inside (log.outermost index (map row_of (drop index rows)))))) ≡ all
@@ -69,5 +69,5 @@ seek_outer_step rule parts inside rows index x first here now all d e n h =
     (ap (λ (o : Option ℕ). smaller first (smaller o (smallest (at_regions rule (told_items parts inside rest))))) e
     ∙ (ap (smaller first) (sym (smallest-append (at_regions rule (told_items parts inside (log.outermost_if index x.around))) (at_regions rule (told_items parts inside rest)))
     ∙ (ap smallest (sym (outer_cons rule parts inside index x.around rest))
-    ∙ ap (λ (ys : List Row). smallest (at_regions rule (told_items parts inside (log.outermost index (map row_of ys))))) (sym d)))
+    ∙ ap (λ (ys : List RegionRow). smallest (at_regions rule (told_items parts inside (log.outermost index (map row_of ys))))) (sym d)))
     ∙ h))

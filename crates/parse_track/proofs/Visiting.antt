@@ -10,7 +10,7 @@ use Rattle.parse_track.specs.EarlyErrors.{has}
 use Rattle.parse_track.specs.ClosedNames.{scopes, names, joined, begins, first_at, at_of, Bound, bound_in, bound_by, bindings, scope_count}
 use Rattle.parse_track.specs.Log as log
 use Rattle.parse_track.specs.Log.{Part, Item, kind_of, told_items, told_region}
-use Rattle.parse_track.specs.declared.track.Row.{Row}
+use Rattle.parse_track.specs.declared.track.RegionRow.{RegionRow}
 use Rattle.parse_track.specs.Rows.{item_of, row_of, items_at}
 use Rattle.parse_track.specs.Walk.{Tops, put, bind_all, hit, deeper, size, walk}
 use Rattle.parse_track.specs.Visited.{Stand, Visits}
@@ -242,19 +242,19 @@ outer_then : (known : KnownNames ℕ) (named : Bool) (func : Option ℕ) (depth 
 outer_then known named func depth a b c parts inside n None xs v w = visits_cons known named func depth a b c parts inside (log.Inner n) xs v w
 outer_then known named func depth a b c parts inside n (Some _) xs v w = leaf_behind known named func depth a b c (told_items parts inside xs) v w
 
-pub outer_step : (known : KnownNames ℕ) (named : Bool) (func : Option ℕ) (depth : ℕ) (parts : List Part) (inside : ℕ → Told ℕ) (start now next : Stand) (rows : List Row) (index : ℕ) (x : Row)
+pub outer_step : (known : KnownNames ℕ) (named : Bool) (func : Option ℕ) (depth : ℕ) (parts : List Part) (inside : ℕ → Told ℕ) (start now next : Stand) (rows : List RegionRow) (index : ℕ) (x : RegionRow)
     → drop index rows ≡ x ∷ drop (index + 1) rows
     → ((last : Stand) → Visits known named func depth now last (told_items parts inside (log.outermost index (map row_of (drop index rows)))) → Visits known named func depth start last (told_items parts inside (log.outermost 0 (map row_of rows))))
     → Visits known named func depth now next (told_items parts inside (log.outermost_if index x.around))
     → (last : Stand) → Visits known named func depth next last (told_items parts inside (log.outermost (index + 1) (map row_of (drop (index + 1) rows)))) → Visits known named func depth start last (told_items parts inside (log.outermost 0 (map row_of rows)))
 outer_step known named func depth parts inside start now next rows index x d inv v last w =
-    inv last (subst (λ (xs : List Row). Visits known named func depth now last (told_items parts inside (log.outermost index (map row_of xs)))) (sym d)
+    inv last (subst (λ (xs : List RegionRow). Visits known named func depth now last (told_items parts inside (log.outermost index (map row_of xs)))) (sym d)
     (outer_then known named func depth now next last parts inside index x.around (log.outermost (index + 1) (map row_of (drop (index + 1) rows))) v w))
 
-pub outer_end : (known : KnownNames ℕ) (rows left : List Row) (start now : Stand) (index : ℕ) → left ≡ []
+pub outer_end : (known : KnownNames ℕ) (rows left : List RegionRow) (start now : Stand) (index : ℕ) → left ≡ []
     → ((last : Stand) → Visits known false None 0 now last (told_items (map row_of rows) (told_region (length rows) (map row_of rows)) (log.outermost index (map row_of left)))
     → Visits known false None 0 start last (told_items (map row_of rows) (told_region (length rows) (map row_of rows)) (log.outermost 0 (map row_of rows))))
     → Visits known false None 0 start now (log.told_of (map row_of rows))
 outer_end known rows left start now index e inv =
     subst (λ (n : ℕ). Visits known false None 0 start now (told_items (map row_of rows) (told_region n (map row_of rows)) (log.outermost 0 (map row_of rows)))) (sym (length-map rows row_of))
-    (inv now (subst (λ (xs : List Row). Visits known false None 0 now now (told_items (map row_of rows) (told_region (length rows) (map row_of rows)) (log.outermost index (map row_of xs)))) (sym e) (visits_none known false None 0 now)))
+    (inv now (subst (λ (xs : List RegionRow). Visits known false None 0 now now (told_items (map row_of rows) (told_region (length rows) (map row_of rows)) (log.outermost index (map row_of xs)))) (sym e) (visits_none known false None 0 now)))

@@ -80,13 +80,13 @@ binds_reserved same known k i = reserved same known (lambda_name k ++ directly (
 
 -- What a jump finds around it in its function: whether a loop, whether a loop or a switch, the labels, and those
 -- of them that label a loop.
-pub record Around (A : Type 0) : Type 0 where
+pub record JumpContext (A : Type 0) : Type 0 where
   pub loop : Bool
   pub leaves : Bool
   pub labels : List A
   pub loops : List A
 
-abbrev pub nothing_around : {A : Type 0} → Around A
+abbrev pub nothing_around : {A : Type 0} → JumpContext A
 nothing_around = record { loop = false; leaves = false; labels = []; loops = [] }
 
 -- a label labels a loop where the statement after it is one, also through further labels: LabelSet of ECMA-262, 14.13.4
@@ -98,7 +98,7 @@ is_loop (inner (Label _) _ i _) = is_loop i
 is_loop (inner _ _ _ _) = false
 
 -- what is around inside a region
-abbrev pub within : {A : Type 0} → Region A → Told A → Around A → Around A
+abbrev pub within : {A : Type 0} → Region A → Told A → JumpContext A → JumpContext A
 within Script i around = nothing_around
 within Function i around = nothing_around
 within Arrow i around = nothing_around
@@ -114,7 +114,7 @@ within VarBody i around = around
 -- Rule 11: at the keyword, a `break` without a label outside loop and switch, and a `continue` outside a loop; at the
 -- label's name, a `break` whose label is not around and a `continue` whose label is that of no loop around; and a label
 -- inside the same label, at the inner name. ECMA-262, 14.8.1, 14.9.1, 14.13.1.
-abbrev pub wrong_jump : {A : Type 0} → (A → A → Bool) → Around A → Leaf A → List ℕ
+abbrev pub wrong_jump : {A : Type 0} → (A → A → Bool) → JumpContext A → Leaf A → List ℕ
 wrong_jump same around (Declared _ _) = []
 wrong_jump same around (Used _) = []
 wrong_jump same around (Jumped Break at None) = cond around.leaves [] (at ∷ [])
@@ -122,11 +122,11 @@ wrong_jump same around (Jumped Continue at None) = cond around.loop [] (at ∷ [
 wrong_jump same around (Jumped Break at (Some label)) = cond (has same label.name around.labels) [] (label.at ∷ [])
 wrong_jump same around (Jumped Continue at (Some label)) = cond around.loop [] (at ∷ []) ++ cond (has same label.name around.loops) [] (label.at ∷ [])
 
-abbrev pub wrong_label : {A : Type 0} → (A → A → Bool) → Around A → Region A → List ℕ
+abbrev pub wrong_label : {A : Type 0} → (A → A → Bool) → JumpContext A → Region A → List ℕ
 wrong_label same around (Label name) = cond (has same name.name around.labels) (name.at ∷ []) []
 wrong_label same around _ = []
 
-abbrev pub wrong_jumps : {A : Type 0} → (A → A → Bool) → Around A → Told A → List ℕ
+abbrev pub wrong_jumps : {A : Type 0} → (A → A → Bool) → JumpContext A → Told A → List ℕ
 wrong_jumps same around nothing = []
 wrong_jumps same around (leaf l t) = wrong_jump same around l ++ wrong_jumps same around t
 wrong_jumps same around (inner k at i t) =

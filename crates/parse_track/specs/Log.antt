@@ -1,7 +1,7 @@
 -- The log of a track: the regions by number, in the order of entering, each with what was told of it, and the present region.
 use Rattle.std.specs.Prelude.{ℕ, ◌+◌, Option, None, Some, List, [], ◌∷◌, ◌++◌, length, zero, suc, slice_get}
 use Rattle.script_grammar.specs.declared.tree.Ident.{Ident}
-use Rattle.parse_track.specs.declared.region.Known.{Known}
+use Rattle.parse_track.specs.declared.region.WellKnownAtoms.{WellKnownAtoms}
 use Rattle.parse_track.specs.declared.region.Region.{Region}
 use Rattle.parse_track.specs.declared.region.Region.TheVariants as region
 use Rattle.parse_track.specs.declared.region.Early.{Early}
@@ -21,7 +21,7 @@ pub record Part : Type 0 where
   pub items : List Item
 
 pub record Log : Type 0 where
-  pub known : Known
+  pub known : WellKnownAtoms
   pub parts : List Part
   pub present : Option ℕ
   pub noted : Option Early
@@ -84,7 +84,7 @@ abbrev pub noting : Log → Early → Log
 noting log early = record log { noted = sooner (Some early) log.noted }
 
 -- the names of the code that early errors and closed names ask for
-abbrev pub known_names : Known → told.KnownNames ℕ
+abbrev pub known_names : WellKnownAtoms → told.KnownNames ℕ
 known_names known = record { eval = known.eval; arguments = known.arguments; this = known.this }
 
 abbrev pub kind_of : Option Part → told.Region ℕ

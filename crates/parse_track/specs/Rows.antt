@@ -2,7 +2,7 @@
 use Rattle.std.specs.Prelude.{ℕ, zero, suc, ◌+◌, ◌<◌, ◌≤◌, ◌^◌, ◌-◌, Option, None, Some, List, [], ◌∷◌, length, slice_get, map, IfSome}
 use Rattle.parse_track.specs.declared.track.Item.{Item as Told}
 use Rattle.parse_track.specs.declared.track.Item.TheVariants as code
-use Rattle.parse_track.specs.declared.track.Row.{Row}
+use Rattle.parse_track.specs.declared.track.RegionRow.{RegionRow}
 use Rattle.parse_track.specs.Told as told
 use Rattle.parse_track.specs.Log.{Item, Leaf, Inner, Part, name_of, label_of, items_of}
 
@@ -12,7 +12,7 @@ item_of (code.Used atom) = Leaf (told.Used atom)
 item_of (code.Jumped word at label) = Leaf (told.Jumped word at (label_of label))
 item_of (code.Inner n) = Inner n
 
-abbrev pub row_of : Row → Part
+abbrev pub row_of : RegionRow → Part
 row_of row = record { kind = row.kind; at = row.at; around = row.around; items = map item_of row.items.items }
 
 -- A region inside has a higher number than the region around it, and is a region.

@@ -3,13 +3,13 @@ use Rattle.std.specs.Prelude.{ℕ, ◌≡◌, Bool, true, false, Option, None, S
 use Rattle.parse_track.specs.declared.jumps.Targets.{Targets}
 use Rattle.parse_track.specs.Log.{Item, Leaf, Inner}
 use Rattle.parse_track.specs.Told.{Region, Loop, Label, Told}
-use Rattle.parse_track.specs.EarlyErrors.{Around, smallest, is_loop, wrong_jumps}
+use Rattle.parse_track.specs.EarlyErrors.{JumpContext, smallest, is_loop, wrong_jumps}
 
-abbrev pub around_of : Targets → Around ℕ
+abbrev pub around_of : Targets → JumpContext ℕ
 around_of targets = record { loop = targets.in_loop; leaves = targets.leaves; labels = targets.labels.items; loops = targets.loops.items }
 
 -- what a visit of the code finds, with the targets as they were
-abbrev pub AreWrongJumps : Around ℕ → Around ℕ → Around ℕ → Told ℕ → Option ℕ → Type 0
+abbrev pub AreWrongJumps : JumpContext ℕ → JumpContext ℕ → JumpContext ℕ → Told ℕ → Option ℕ → Type 0
 AreWrongJumps inside before now t first = (first ≡ smallest (wrong_jumps nat_eq inside t)) × (now ≡ before)
 
 -- the region that stands first among items

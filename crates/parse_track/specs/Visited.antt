@@ -2,8 +2,8 @@
 use Rattle.std.specs.Prelude.{ℕ, ◌≡◌, ◌+◌, ◌++◌, Bool, Option, List, length, nat_eq}
 use Rattle.std.specs.Ordering.{nat_cmp}
 use Rattle.std.specs.BTreeMap.{get}
-use Rattle.parse_track.specs.declared.closed.Around.{Around}
-use Rattle.parse_track.specs.declared.closed.Found.{Found}
+use Rattle.parse_track.specs.declared.closed.RegionContext.{RegionContext}
+use Rattle.parse_track.specs.declared.closed.FoundClosed.{FoundClosed}
 use Rattle.parse_track.specs.Told.{Told, KnownNames}
 use Rattle.parse_track.specs.ClosedNames.{Bound, bindings, scope_count}
 use Rattle.parse_track.specs.Scopes.{bounds_of}
@@ -22,8 +22,8 @@ pub record Visits (known : KnownNames ℕ) (named : Bool) (func : Option ℕ) (d
   pub same : (y : ℕ) → now.tops y ≡ before.tops y
   pub next : now.scope ≡ before.scope + scope_count nat_eq known named t
 
-abbrev pub stand_of : Found → ℕ → Stand
+abbrev pub stand_of : FoundClosed → ℕ → Stand
 stand_of found scope = record { bound = bounds_of found.bound.items; hits = found.hits.items; tops = get nat_cmp found.env; scope = scope }
 
-abbrev pub IsVisited : KnownNames ℕ → Around → ℕ → Found → Found → ℕ → Told ℕ → Type 0
+abbrev pub IsVisited : KnownNames ℕ → RegionContext → ℕ → FoundClosed → FoundClosed → ℕ → Told ℕ → Type 0
 IsVisited known around scope before now next t = Visits known around.named around.func around.depth (stand_of before scope) (stand_of now next) t

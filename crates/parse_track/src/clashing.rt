@@ -15,7 +15,7 @@ use crate::offsets::lesser;
 use crate::region::{Declare, Region};
 use crate::rules::names_in;
 use crate::scopes::atoms_of;
-use crate::track::{Item, Row};
+use crate::track::{Item, RegionRow};
 use script_grammar::tree::Ident;
 use std::alloc::{AllocError, Global};
 use std::collections::BTreeMap;
@@ -76,7 +76,7 @@ fn open_names(firsts: &mut BTreeMap<u32, u32>, names: &[Ident]) -> Result<(), Al
 #[cycle(clashing)]
 fn clash_in_item(
     alloc: Global,
-    rows: &[Row],
+    rows: &[RegionRow],
     room: usize,
     heads: bool,
     item: Item,
@@ -105,7 +105,7 @@ fn clash_in_item(
 #[cycle(clashing)]
 fn clash_in_function(
     alloc: Global,
-    rows: &[Row],
+    rows: &[RegionRow],
     room: usize,
     heads: bool,
     kind: Region,
@@ -128,7 +128,7 @@ fn clash_in_function(
 #[cycle(clashing)]
 fn clash_in_open(
     alloc: Global,
-    rows: &[Row],
+    rows: &[RegionRow],
     room: usize,
     heads: bool,
     kind: Region,
@@ -153,7 +153,7 @@ fn clash_in_open(
 #[cycle(clashing)]
 fn clash_in(
     alloc: Global,
-    rows: &[Row],
+    rows: &[RegionRow],
     room: usize,
     heads: bool,
     region: u32,
@@ -173,7 +173,7 @@ fn clash_in(
 /// The first clash in an outermost region.
 fn clash_in_outermost(
     alloc: Global,
-    rows: &[Row],
+    rows: &[RegionRow],
     heads: bool,
     region: u32,
     around: Option<u32>,
@@ -198,7 +198,11 @@ fn clash_in_outermost(
 }
 
 /// The first clash of a var name with a name that the head of a `for` statement declares, or with another lexical name.
-pub fn first_clash(alloc: Global, rows: &[Row], heads: bool) -> Result<Option<u32>, AllocError>
+pub fn first_clash(
+    alloc: Global,
+    rows: &[RegionRow],
+    heads: bool,
+) -> Result<Option<u32>, AllocError>
     requires { length rows.now ≤ 2 ^ 32 - 2 }
     ensures { IfOk result (λ first. first ≡ clashes heads no_firsts (told_of (map row_of rows.now))) }
 {

@@ -15,9 +15,9 @@ ghost use Rattle.parse_track.specs.Walk.{bind_all, hit, deeper};
 ghost use Rattle.parse_track.specs.Visited.{IsVisited};
 
 use crate::names::items_at;
-use crate::region::{ClosedAt, Known, Region};
+use crate::region::{ClosedAt, Region, WellKnownAtoms};
 use crate::scopes::scopes_of;
-use crate::track::{Item, Row};
+use crate::track::{Item, RegionRow};
 use std::alloc::{AllocError, Global};
 use std::collections::BTreeMap;
 
@@ -135,20 +135,20 @@ fn push_scopes(
 /// What a walk has found: to what each name is bound at present, the bindings so far, and the places of those that
 /// inner functions close over.
 #[derive(Drop)]
-pub struct Found {
+pub struct FoundClosed {
     pub env: BTreeMap<u32, Top>,
     pub bound: Vec<ClosedAt>,
     pub hits: Vec<usize>,
 }
 
-impl Found {
+impl FoundClosed {
     /// Nothing is found yet.
-    pub fn new(alloc: Global) -> Found
+    pub fn new(alloc: Global) -> FoundClosed
         ensures env { (y : ℕ) → get nat_cmp result.env y ≡ None }
         ensures bound { result.bound.items ≡ [] }
         ensures hits { result.hits.items ≡ [] }
     {
-        Found {
+        FoundClosed {
             env: BTreeMap::new(alloc),
             bound: Vec::new(alloc),
             hits: Vec::new(alloc),
@@ -159,18 +159,18 @@ impl Found {
 /// What is around a region: whether it stands directly in that of its function's name, the offset where its function begins,
 /// None for the script, and how many functions are around it.
 #[derive(Clone, Copy, Debug)]
-pub struct Around {
+pub struct RegionContext {
     pub named: bool,
     pub func: Option<u32>,
     pub depth: usize,
 }
 
-impl Around {
+impl RegionContext {
     /// What is around an outermost region: nothing.
-    pub fn script() -> Around
+    pub fn script() -> RegionContext
         ensures { result ≡ record { named = false; func = None; depth = 0 } }
     {
-        Around {
+        RegionContext {
             named: false,
             func: None,
             depth: 0,
@@ -212,7 +212,7 @@ fn next_scope(from: u32, scopes: &[Vec<u32>]) -> Result<u32, AllocError>
 }
 
 /// A use of a name hits its innermost binding, where that is of a function further out.
-fn visit_use(found: &mut Found, name: u32, depth: usize) -> Result<(), AllocError>
+fn visit_use(found: &mut FoundClosed, name: u32, depth: usize) -> Result<(), AllocError>
     ensures hits { OnOk result (found.new.hits.items ≡ found.old.hits.items ++ hit (get nat_cmp found.old.env name) depth) }
     ensures env { found.new.env ≡ found.old.env }
     ensures bound { found.new.bound ≡ found.old.bound }
@@ -244,7 +244,7 @@ fn begins(named: bool, region: Region) -> bool
 }
 
 /// What a region of this number is.
-pub fn kind_at(rows: &[Row], region: u32) -> Region
+pub fn kind_at(rows: &[RegionRow], region: u32) -> Region
     ensures { region_of result ≡ kind_of (slice_get (map row_of rows.now) region) }
 {
     match rows.get(region as usize) {
@@ -254,7 +254,7 @@ pub fn kind_at(rows: &[Row], region: u32) -> Region
 }
 
 /// Where a region of this number begins.
-fn offset_of(rows: &[Row], region: u32) -> u32
+fn offset_of(rows: &[RegionRow], region: u32) -> u32
     ensures { result ≡ offset_of (slice_get (map row_of rows.now) region) }
 {
     match rows.get(region as usize) {
@@ -264,7 +264,7 @@ fn offset_of(rows: &[Row], region: u32) -> u32
 }
 
 /// Where the first region among these items begins, `at` where there is none.
-fn first_at(rows: &[Row], items: &[Item], at: u32) -> u32
+fn first_at(rows: &[RegionRow], items: &[Item], at: u32) -> u32
     ensures { (inside : ℕ → Told ℕ) → result ≡ first_at at (told_items (map row_of rows.now) inside (map item_of items.now)) }
 {
     for item in items {
@@ -276,7 +276,7 @@ fn first_at(rows: &[Row], items: &[Item], at: u32) -> u32
 }
 
 /// Where the function begins that begins at this region.
-fn function_at(rows: &[Row], room: usize, kind: Region, region: u32) -> u32
+fn function_at(rows: &[RegionRow], room: usize, kind: Region, region: u32) -> u32
     ensures { result ≡ at_of (region_of kind) (offset_of (slice_get (map row_of rows.now) region)) (told_region room (map row_of rows.now) region) }
 {
     let at = offset_of(rows, region);
@@ -288,7 +288,13 @@ fn function_at(rows: &[Row], room: usize, kind: Region, region: u32) -> u32
 }
 
 /// What is around the parts of a region.
-fn around_inside(rows: &[Row], room: usize, kind: Region, region: u32, around: Around) -> Around
+fn around_inside(
+    rows: &[RegionRow],
+    room: usize,
+    kind: Region,
+    region: u32,
+    around: RegionContext,
+) -> RegionContext
     requires { around.depth + room + 1 < 2 ^ 64 }
     ensures named { result.named ≡ is_lambda (region_of kind) }
     ensures func { result.func ≡ cond (begins around.named (region_of kind)) (Some (at_of (region_of kind) (offset_of (slice_get (map row_of rows.now) region)) (told_region room (map row_of rows.now) region))) around.func }
@@ -297,13 +303,13 @@ fn around_inside(rows: &[Row], room: usize, kind: Region, region: u32, around: A
     let named = is_lambda(kind);
     if begins(around.named, kind) {
         let func = function_at(rows, room, kind, region);
-        return Around {
+        return RegionContext {
             named,
             func: Some(func),
             depth: around.depth + 1,
         };
     }
-    Around {
+    RegionContext {
         named,
         func: around.func,
         depth: around.depth,
@@ -314,13 +320,13 @@ fn around_inside(rows: &[Row], room: usize, kind: Region, region: u32, around: A
 #[cycle(visiting)]
 fn visit_item(
     alloc: Global,
-    known: &Known,
-    rows: &[Row],
+    known: &WellKnownAtoms,
+    rows: &[RegionRow],
     room: usize,
     item: Item,
-    around: Around,
+    around: RegionContext,
     scope: u32,
-    found: &mut Found,
+    found: &mut FoundClosed,
 ) -> Result<u32, AllocError>
     requires { around.depth + room + 1 < 2 ^ 64 }
     ensures { IfOk result (λ next. IsVisited (known_names known.now) around scope found.old found.new next (told_items (map row_of rows.now) (told_region room (map row_of rows.now)) (item_of item ∷ []))) }
@@ -340,13 +346,13 @@ fn visit_item(
 #[cycle(visiting)]
 pub fn visit_inner(
     alloc: Global,
-    known: &Known,
-    rows: &[Row],
+    known: &WellKnownAtoms,
+    rows: &[RegionRow],
     room: usize,
     region: u32,
-    around: Around,
+    around: RegionContext,
     scope: u32,
-    found: &mut Found,
+    found: &mut FoundClosed,
 ) -> Result<u32, AllocError>
     requires { around.depth + room + 1 < 2 ^ 64 }
     ensures { IfOk result (λ next. IsVisited (known_names known.now) around scope found.old found.new next (told_items (map row_of rows.now) (told_region room (map row_of rows.now)) (Inner region ∷ []))) }
@@ -372,13 +378,13 @@ pub fn visit_inner(
 #[cycle(visiting)]
 fn visit(
     alloc: Global,
-    known: &Known,
-    rows: &[Row],
+    known: &WellKnownAtoms,
+    rows: &[RegionRow],
     room: usize,
     region: u32,
-    around: Around,
+    around: RegionContext,
     scope: u32,
-    found: &mut Found,
+    found: &mut FoundClosed,
 ) -> Result<u32, AllocError>
     requires { around.depth + room < 2 ^ 64 }
     ensures { IfOk result (λ next. IsVisited (known_names known.now) around scope found.old found.new next (told_region room (map row_of rows.now) region)) }

@@ -8,9 +8,9 @@ ghost use Rattle.parse_track.specs.Scopes.{bound_of, bounds_of};
 ghost use Rattle.parse_track.specs.Walk.{marks};
 ghost use Rattle.parse_track.specs.Visited.{Visits, stand_of};
 
-use crate::closed::{Around, Found, count, visit_inner};
-use crate::region::{ClosedAt, Known};
-use crate::track::Row;
+use crate::closed::{FoundClosed, RegionContext, count, visit_inner};
+use crate::region::{ClosedAt, WellKnownAtoms};
+use crate::track::RegionRow;
 use std::alloc::{AllocError, Global};
 
 /// No place is hit.
@@ -66,12 +66,12 @@ fn keep(alloc: Global, bound: &[ClosedAt], marked: &[bool]) -> Result<Vec<Closed
 /// The walk over a region of a script, where it is an outermost one.
 fn visit_outermost(
     alloc: Global,
-    known: &Known,
-    rows: &[Row],
+    known: &WellKnownAtoms,
+    rows: &[RegionRow],
     region: u32,
     around: Option<u32>,
     scope: u32,
-    found: &mut Found,
+    found: &mut FoundClosed,
 ) -> Result<u32, AllocError>
     requires { length rows.now ≤ 2 ^ 32 - 2 }
     ensures { IfOk result (λ next. Visits (known_names known.now) false None 0 (stand_of found.old scope) (stand_of found.new next) (told_items (map row_of rows.now) (told_region (length rows.now) (map row_of rows.now)) (outermost_if region around))) }
@@ -84,7 +84,7 @@ fn visit_outermost(
             rows,
             rows.len(),
             region,
-            Around::script(),
+            RegionContext::script(),
             scope,
             found,
         ),
@@ -94,9 +94,9 @@ fn visit_outermost(
 /// The walk over a script, from its outermost regions.
 fn visit_script(
     alloc: Global,
-    known: &Known,
-    rows: &[Row],
-    found: &mut Found,
+    known: &WellKnownAtoms,
+    rows: &[RegionRow],
+    found: &mut FoundClosed,
 ) -> Result<u32, AllocError>
     requires { length rows.now ≤ 2 ^ 32 - 2 }
     ensures { IfOk result (λ next. Visits (known_names known.now) false None 0 (stand_of found.old 0) (stand_of found.new next) (told_of (map row_of rows.now))) }
@@ -109,11 +109,15 @@ fn visit_script(
 }
 
 /// The names that inner functions close over, in the order of the source.
-pub fn closed_names(alloc: Global, known: &Known, rows: &[Row]) -> Result<Vec<ClosedAt>, AllocError>
+pub fn closed_names(
+    alloc: Global,
+    known: &WellKnownAtoms,
+    rows: &[RegionRow],
+) -> Result<Vec<ClosedAt>, AllocError>
     requires { length rows.now ≤ 2 ^ 32 - 2 }
     ensures { IfOk result (λ some. bounds_of some.items ≡ closed nat_eq (known_names known.now) (told_of (map row_of rows.now))) }
 {
-    let mut found = Found::new(alloc);
+    let mut found = FoundClosed::new(alloc);
     let _scopes = visit_script(alloc, known, rows, &mut found)?;
     let marked = mark(alloc, &found.hits, count(&found.bound))?;
     keep(alloc, &found.bound, &marked)

@@ -8,9 +8,9 @@ ghost use Rattle.parse_track.specs.Errors.{clash_error, rule_error};
 
 use crate::clashing::first_clash;
 use crate::jumps::first_wrong_jump;
-use crate::region::{Early, Known};
+use crate::region::{Early, WellKnownAtoms};
 use crate::rules::{RegionRule, first_of};
-use crate::track::Row;
+use crate::track::RegionRow;
 use std::alloc::{AllocError, Global};
 
 /// Of two early errors the first.
@@ -43,8 +43,8 @@ fn error_of(rule: u8, offset: Option<u32>) -> Option<Early>
 /// The first early error of a rule that looks at one region.
 fn error_of_rule(
     alloc: Global,
-    known: &Known,
-    rows: &[Row],
+    known: &WellKnownAtoms,
+    rows: &[RegionRow],
     rule: RegionRule,
 ) -> Result<Option<Early>, AllocError>
     requires { length rows.now ≤ 2 ^ 32 - 2 }
@@ -62,7 +62,11 @@ fn error_of_rule(
 }
 
 /// The first clash of a lexical and a var name, of heads of `for` statements or of other regions.
-fn error_of_clash(alloc: Global, rows: &[Row], heads: bool) -> Result<Option<Early>, AllocError>
+fn error_of_clash(
+    alloc: Global,
+    rows: &[RegionRow],
+    heads: bool,
+) -> Result<Option<Early>, AllocError>
     requires { length rows.now ≤ 2 ^ 32 - 2 }
     ensures { IfOk result (λ error. error ≡ clash_error heads (told_of (map row_of rows.now))) }
 {
@@ -77,8 +81,8 @@ fn error_of_clash(alloc: Global, rows: &[Row], heads: bool) -> Result<Option<Ear
 /// The first early error of all rules, where the first of those that were noted is `noted`.
 pub fn first_error(
     alloc: Global,
-    known: &Known,
-    rows: &[Row],
+    known: &WellKnownAtoms,
+    rows: &[RegionRow],
     noted: Option<Early>,
 ) -> Result<Option<Early>, AllocError>
     requires { length rows.now ≤ 2 ^ 32 - 2 }

@@ -12,7 +12,7 @@ use crate::closed::kind_at;
 use crate::names::items_at;
 use crate::offsets::lesser;
 use crate::region::{Jump, Region};
-use crate::track::{Item, Row};
+use crate::track::{Item, RegionRow};
 use script_grammar::tree::Ident;
 use std::alloc::{AllocError, Global};
 
@@ -122,7 +122,7 @@ fn first_inner(items: &[Item]) -> Option<u32>
 
 /// Whether a region is a loop, also after labels.
 #[cycle(loops)]
-fn is_loop_at(rows: &[Row], room: usize, region: u32) -> bool
+fn is_loop_at(rows: &[RegionRow], room: usize, region: u32) -> bool
     ensures { result ≡ loop_kind (kind_of (slice_get (map row_of rows.now) region)) (told_region room (map row_of rows.now) region) }
 {
     match kind_at(rows, region) {
@@ -142,7 +142,7 @@ fn is_loop_at(rows: &[Row], room: usize, region: u32) -> bool
 
 /// Whether what stands in a region is a loop, also after labels.
 #[cycle(loops)]
-fn is_loop(rows: &[Row], room: usize, region: u32) -> bool
+fn is_loop(rows: &[RegionRow], room: usize, region: u32) -> bool
     ensures { result ≡ is_loop (told_region room (map row_of rows.now) region) }
 {
     match first_inner(items_at(rows, room, region)) {
@@ -155,7 +155,7 @@ fn is_loop(rows: &[Row], room: usize, region: u32) -> bool
 #[cycle(jumping)]
 fn jumps_in_item(
     alloc: Global,
-    rows: &[Row],
+    rows: &[RegionRow],
     room: usize,
     item: Item,
     targets: &mut Targets,
@@ -180,7 +180,7 @@ fn jumps_in_item(
 #[cycle(jumping)]
 fn jumps_inside(
     alloc: Global,
-    rows: &[Row],
+    rows: &[RegionRow],
     room: usize,
     kind: Region,
     region: u32,
@@ -207,7 +207,7 @@ fn jumps_inside(
 #[cycle(jumping)]
 fn jumps_in_function(
     alloc: Global,
-    rows: &[Row],
+    rows: &[RegionRow],
     room: usize,
     region: u32,
 ) -> Result<Option<u32>, AllocError>
@@ -222,7 +222,7 @@ fn jumps_in_function(
 #[cycle(jumping)]
 fn jumps_in_loop(
     alloc: Global,
-    rows: &[Row],
+    rows: &[RegionRow],
     room: usize,
     region: u32,
     targets: &mut Targets,
@@ -243,7 +243,7 @@ fn jumps_in_loop(
 #[cycle(jumping)]
 fn jumps_in_switch(
     alloc: Global,
-    rows: &[Row],
+    rows: &[RegionRow],
     room: usize,
     region: u32,
     targets: &mut Targets,
@@ -261,7 +261,7 @@ fn jumps_in_switch(
 #[cycle(jumping)]
 fn jumps_in_label(
     alloc: Global,
-    rows: &[Row],
+    rows: &[RegionRow],
     room: usize,
     name: Ident,
     region: u32,
@@ -282,7 +282,7 @@ fn jumps_in_label(
 #[cycle(jumping)]
 fn jumps_in(
     alloc: Global,
-    rows: &[Row],
+    rows: &[RegionRow],
     room: usize,
     region: u32,
     targets: &mut Targets,
@@ -301,7 +301,7 @@ fn jumps_in(
 /// The first wrong jump in an outermost region.
 fn jumps_in_outermost(
     alloc: Global,
-    rows: &[Row],
+    rows: &[RegionRow],
     region: u32,
     around: Option<u32>,
 ) -> Result<Option<u32>, AllocError>
@@ -318,7 +318,7 @@ fn jumps_in_outermost(
 }
 
 /// The first jump without its target, or label inside the same label, in a script.
-pub fn first_wrong_jump(alloc: Global, rows: &[Row]) -> Result<Option<u32>, AllocError>
+pub fn first_wrong_jump(alloc: Global, rows: &[RegionRow]) -> Result<Option<u32>, AllocError>
     requires { length rows.now ≤ 2 ^ 32 - 2 }
     ensures { IfOk result (λ first. first ≡ smallest (wrong_jumps nat_eq nothing_around (told_of (map row_of rows.now)))) }
 {

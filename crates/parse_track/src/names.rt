@@ -7,7 +7,7 @@ ghost use Rattle.parse_track.specs.Rows.{item_of, row_of, items_at};
 ghost use Rattle.parse_track.specs.Asked.{asks, asked_in};
 
 use crate::region::{Declare, Region};
-use crate::track::{Item, Row};
+use crate::track::{Item, RegionRow};
 use script_grammar::tree::Ident;
 use std::alloc::{AllocError, Global};
 
@@ -63,7 +63,7 @@ pub fn direct_names(alloc: Global, asked: Asked, items: &[Item]) -> Result<Vec<I
 }
 
 /// What stands in a region, where n regions may stand one in another; nothing where there is no room or no region.
-pub fn items_at(rows: &[Row], room: usize, region: u32) -> &[Item]
+pub fn items_at(rows: &[RegionRow], room: usize, region: u32) -> &[Item]
     ensures items { map item_of result.now ≡ items_at room (map row_of rows.now) region }
     ensures room { 0 < length result.now → 0 < room }
 {
@@ -90,7 +90,7 @@ pub fn stops_vars(region: Region) -> bool
 }
 
 /// The region inside, where var names hoist out of it.
-fn open_region(rows: &[Row], region: u32) -> Option<u32>
+fn open_region(rows: &[RegionRow], region: u32) -> Option<u32>
     ensures { MatchOption result (stops_vars (kind_of (slice_get (map row_of rows.now) region)) ≡ true) (λ n. (n ≡ region) × (stops_vars (kind_of (slice_get (map row_of rows.now) region)) ≡ false)) }
 {
     match rows.get(region as usize) {
@@ -108,7 +108,7 @@ fn open_region(rows: &[Row], region: u32) -> Option<u32>
 /// The names of the `var` declarations of an item, and of a region inside those that hoist out of it.
 #[cycle(hoisting)]
 fn add_item_vars(
-    rows: &[Row],
+    rows: &[RegionRow],
     room: usize,
     item: Item,
     names: &mut Vec<Ident>,
@@ -135,7 +135,7 @@ fn add_item_vars(
 /// Adds the var names of a region.
 #[cycle(hoisting)]
 pub fn add_vars(
-    rows: &[Row],
+    rows: &[RegionRow],
     room: usize,
     region: u32,
     names: &mut Vec<Ident>,

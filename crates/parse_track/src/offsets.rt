@@ -6,7 +6,7 @@ ghost use Rattle.std.specs.BTreeSet.{contains};
 ghost use Rattle.parse_track.specs.EarlyErrors.{smaller, smallest, repeated, also_in, reserved, has_name};
 ghost use Rattle.parse_track.specs.Log.{name_of, known_names};
 
-use crate::region::Known;
+use crate::region::WellKnownAtoms;
 use script_grammar::tree::Ident;
 use std::alloc::{AllocError, Global};
 use std::collections::BTreeSet;
@@ -70,7 +70,7 @@ pub fn first_also(alloc: Global, xs: &[Ident], ys: &[Ident]) -> Result<Option<u3
 }
 
 /// The smallest offset of a name that may not be bound.
-pub fn first_reserved(known: &Known, names: &[Ident]) -> Option<u32>
+pub fn first_reserved(known: &WellKnownAtoms, names: &[Ident]) -> Option<u32>
     ensures { result ≡ smallest (reserved nat_eq (known_names known.now) (map name_of names.now)) }
 {
     let mut first = None;

@@ -4,7 +4,7 @@ use script_grammar::tree::Ident;
 
 /// The atoms of the names and texts that a parser knows by their spelling.
 #[derive(Clone, Copy, Debug)]
-pub struct Known {
+pub struct WellKnownAtoms {
     /// `eval`
     pub eval: u32,
     /// `arguments`

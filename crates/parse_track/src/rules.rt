@@ -12,8 +12,8 @@ ghost use Rattle.parse_track.specs.Rules.{rule_of, is_inner};
 use crate::closed::kind_at;
 use crate::names::{Asked, direct_names, items_at};
 use crate::offsets::{first_also, first_repeated, first_reserved, lesser};
-use crate::region::{Known, Region};
-use crate::track::{Item, Row};
+use crate::region::{Region, WellKnownAtoms};
+use crate::track::{Item, RegionRow};
 use script_grammar::tree::Ident;
 use std::alloc::{AllocError, Global};
 
@@ -47,7 +47,7 @@ fn is_inner(inner: InnerKind, kind: Region) -> bool
 /// The names that are declared so in a region itself.
 pub fn names_in(
     alloc: Global,
-    rows: &[Row],
+    rows: &[RegionRow],
     room: usize,
     region: u32,
     asked: Asked,
@@ -60,7 +60,7 @@ pub fn names_in(
 /// Adds the lexical names of a region inside, where it is of this kind.
 fn add_inner(
     alloc: Global,
-    rows: &[Row],
+    rows: &[RegionRow],
     room: usize,
     inner: InnerKind,
     item: Item,
@@ -85,7 +85,7 @@ fn add_inner(
 /// Adds the lexical names of the regions of this kind that are directly inside a region.
 fn add_inners(
     alloc: Global,
-    rows: &[Row],
+    rows: &[RegionRow],
     room: usize,
     inner: InnerKind,
     region: u32,
@@ -114,7 +114,7 @@ fn lambda_name(alloc: Global, kind: Region) -> Result<Vec<Ident>, AllocError>
 /// The first name that is declared so in a region and stands before it too.
 fn first_twice(
     alloc: Global,
-    rows: &[Row],
+    rows: &[RegionRow],
     room: usize,
     region: u32,
     asked: Asked,
@@ -128,7 +128,7 @@ fn first_twice(
 /// The first lexical name of the block of a catch clause that equals its parameter.
 fn first_catch(
     alloc: Global,
-    rows: &[Row],
+    rows: &[RegionRow],
     room: usize,
     region: u32,
 ) -> Result<Option<u32>, AllocError>
@@ -143,7 +143,7 @@ fn first_catch(
 /// The first lexical name of the body of a function that equals a parameter.
 fn first_param(
     alloc: Global,
-    rows: &[Row],
+    rows: &[RegionRow],
     room: usize,
     region: u32,
 ) -> Result<Option<u32>, AllocError>
@@ -158,8 +158,8 @@ fn first_param(
 /// The first name that a region binds and that may not be bound.
 fn first_bound_reserved(
     alloc: Global,
-    known: &Known,
-    rows: &[Row],
+    known: &WellKnownAtoms,
+    rows: &[RegionRow],
     room: usize,
     kind: Region,
     region: u32,
@@ -176,8 +176,8 @@ fn first_bound_reserved(
 /// The smallest offset of an early error of this rule at a region itself.
 fn first_at(
     alloc: Global,
-    known: &Known,
-    rows: &[Row],
+    known: &WellKnownAtoms,
+    rows: &[RegionRow],
     room: usize,
     rule: RegionRule,
     kind: Region,
@@ -198,8 +198,8 @@ fn first_at(
 #[cycle(seeking)]
 fn first_in_item(
     alloc: Global,
-    known: &Known,
-    rows: &[Row],
+    known: &WellKnownAtoms,
+    rows: &[RegionRow],
     room: usize,
     rule: RegionRule,
     item: Item,
@@ -231,8 +231,8 @@ fn first_in_item(
 #[cycle(seeking)]
 fn first_in(
     alloc: Global,
-    known: &Known,
-    rows: &[Row],
+    known: &WellKnownAtoms,
+    rows: &[RegionRow],
     room: usize,
     rule: RegionRule,
     region: u32,
@@ -251,8 +251,8 @@ fn first_in(
 /// The smallest offset of an early error of this rule in an outermost region.
 fn first_in_outermost(
     alloc: Global,
-    known: &Known,
-    rows: &[Row],
+    known: &WellKnownAtoms,
+    rows: &[RegionRow],
     rule: RegionRule,
     region: u32,
     around: Option<u32>,
@@ -268,8 +268,8 @@ fn first_in_outermost(
 /// The smallest offset of an early error of this rule in a script.
 pub fn first_of(
     alloc: Global,
-    known: &Known,
-    rows: &[Row],
+    known: &WellKnownAtoms,
+    rows: &[RegionRow],
     rule: RegionRule,
 ) -> Result<Option<u32>, AllocError>
     requires { length rows.now ≤ 2 ^ 32 - 2 }

@@ -11,8 +11,8 @@ ghost use Rattle.parse_track.specs.Asked.{asks, asked_in};
 ghost use Rattle.parse_track.specs.Scopes.{items_of_lists};
 
 use crate::names::{Asked, add_vars, direct_names, items_at};
-use crate::region::{Known, Region};
-use crate::track::{Item, Row};
+use crate::region::{Region, WellKnownAtoms};
+use crate::track::{Item, RegionRow};
 use script_grammar::tree::Ident;
 use std::alloc::{AllocError, Global};
 use std::collections::BTreeSet;
@@ -41,7 +41,7 @@ pub fn atoms_of(alloc: Global, names: &[Ident]) -> Result<Vec<u32>, AllocError>
 /// The atoms of the names that are declared so in a region itself.
 fn direct_atoms(
     alloc: Global,
-    rows: &[Row],
+    rows: &[RegionRow],
     room: usize,
     region: u32,
     asked: Asked,
@@ -53,7 +53,12 @@ fn direct_atoms(
 }
 
 /// The atoms of the var names that are declared in a region or hoist through it.
-fn var_atoms(alloc: Global, rows: &[Row], room: usize, region: u32) -> Result<Vec<u32>, AllocError>
+fn var_atoms(
+    alloc: Global,
+    rows: &[RegionRow],
+    room: usize,
+    region: u32,
+) -> Result<Vec<u32>, AllocError>
     ensures { IfOk result (λ atoms. atoms.items ≡ names_of (vars (told_region room (map row_of rows.now) region))) }
 {
     let mut names = Vec::new(alloc);
@@ -86,7 +91,7 @@ fn push_whole_scope(
 }
 
 /// Whether an item is a body of its own.
-fn is_body(rows: &[Row], item: Item) -> bool
+fn is_body(rows: &[RegionRow], item: Item) -> bool
     ensures { result ≡ has_body (told_items (map row_of rows.now) (λ _. nothing) (item_of item ∷ [])) }
 {
     match item {
@@ -101,14 +106,14 @@ fn is_body(rows: &[Row], item: Item) -> bool
 }
 
 /// Whether a body of its own is among these items.
-fn any_body(rows: &[Row], items: &[Item]) -> bool
+fn any_body(rows: &[RegionRow], items: &[Item]) -> bool
     ensures { result ≡ list_any (λ item. has_body (told_items (map row_of rows.now) (λ _. nothing) (item_of item ∷ []))) items.now }
 {
     items.iter().any(|item| is_body(rows, *item))
 }
 
 /// Whether a body of its own is directly inside a region.
-fn has_body(rows: &[Row], room: usize, region: u32) -> bool
+fn has_body(rows: &[RegionRow], room: usize, region: u32) -> bool
     ensures { result ≡ has_body (told_region room (map row_of rows.now) region) }
 {
     any_body(rows, items_at(rows, room, region))
@@ -119,7 +124,7 @@ fn has_body(rows: &[Row], room: usize, region: u32) -> bool
 fn function_scopes(
     alloc: Global,
     implicit: &[u32],
-    rows: &[Row],
+    rows: &[RegionRow],
     room: usize,
     region: u32,
 ) -> Result<Vec<Vec<u32>>, AllocError>
@@ -144,7 +149,7 @@ fn function_scopes(
 /// The one scope of the names that are declared so in a region, where there are any.
 fn one_scope(
     alloc: Global,
-    rows: &[Row],
+    rows: &[RegionRow],
     room: usize,
     region: u32,
     asked: Asked,
@@ -160,7 +165,7 @@ fn one_scope(
 /// The scope of a script.
 fn script_scopes(
     alloc: Global,
-    rows: &[Row],
+    rows: &[RegionRow],
     room: usize,
     region: u32,
 ) -> Result<Vec<Vec<u32>>, AllocError>
@@ -177,7 +182,7 @@ fn script_scopes(
 /// The scopes of a body that is a region of its own: its var names, and its lexical names.
 fn body_scopes(
     alloc: Global,
-    rows: &[Row],
+    rows: &[RegionRow],
     room: usize,
     region: u32,
 ) -> Result<Vec<Vec<u32>>, AllocError>
@@ -205,8 +210,8 @@ fn name_scope(alloc: Global, name: Ident) -> Result<Vec<Vec<u32>>, AllocError>
 /// The scopes of a region of this kind from the outermost in, each with the atoms of its names in the order of its bindings.
 pub fn scopes_of(
     alloc: Global,
-    known: &Known,
-    rows: &[Row],
+    known: &WellKnownAtoms,
+    rows: &[RegionRow],
     room: usize,
     kind: Region,
     region: u32,

@@ -12,7 +12,7 @@ ghost use Rattle.parse_track.specs.Rows.{item_of, row_of};
 
 use crate::closed_names::closed_names;
 use crate::errors::{first_error, sooner_early};
-use crate::region::{Declare, Early, Jump, Known, Region, Tracked};
+use crate::region::{Declare, Early, Jump, Region, Tracked, WellKnownAtoms};
 use script_grammar::tree::Ident;
 use std::alloc::{AllocError, Global};
 use std::marker::Model;
@@ -28,7 +28,7 @@ pub enum Item {
 
 /// A region by its number: what it is, where it begins, the region around it, and what stands in it.
 #[derive(Drop)]
-pub struct Row {
+pub struct RegionRow {
     pub kind: Region,
     pub at: u32,
     pub around: Option<u32>,
@@ -39,8 +39,8 @@ pub struct Row {
 #[derive(Drop)]
 pub struct Track {
     alloc: Global,
-    known: Known,
-    rows: Vec<Row>,
+    known: WellKnownAtoms,
+    rows: Vec<RegionRow>,
     present: Option<u32>,
     noted: Option<Early>,
 }
@@ -61,7 +61,7 @@ impl Model for Track {
 }
 
 /// The item joins what stands in the present region.
-fn add_item(rows: &mut Vec<Row>, present: Option<u32>, item: Item) -> Result<(), AllocError>
+fn add_item(rows: &mut Vec<RegionRow>, present: Option<u32>, item: Item) -> Result<(), AllocError>
     requires { IfSome present (λ n. n < length rows.old.items) }
     ensures told { OnOk result (map row_of rows.new.items ≡ tell present (item_of item) (map row_of rows.old.items)) }
     ensures either { (map row_of rows.new.items ≡ tell present (item_of item) (map row_of rows.old.items)) ⊎ (map row_of rows.new.items ≡ map row_of rows.old.items) }
@@ -75,7 +75,7 @@ fn add_item(rows: &mut Vec<Row>, present: Option<u32>, item: Item) -> Result<(),
 
 impl Track {
     /// A track that was told nothing. It takes no memory.
-    pub fn new(alloc: Global, known: Known) -> Track
+    pub fn new(alloc: Global, known: WellKnownAtoms) -> Track
         ensures { result ≡ record { known = known; parts = []; present = None; noted = None } }
     {
         Track {
@@ -88,7 +88,7 @@ impl Track {
     }
 
     /// The atoms of the known names.
-    pub fn known(&self) -> &Known
+    pub fn known(&self) -> &WellKnownAtoms
         ensures { result.now ≡ self.now.known }
     {
         &self.known
@@ -102,7 +102,7 @@ impl Track {
     {
         let number = next_number(&self.rows)?;
         let around = self.present;
-        self.rows.push(Row {
+        self.rows.push(RegionRow {
             kind: region,
             at,
             around,
@@ -195,7 +195,7 @@ fn is_function(kind: Region) -> bool
 }
 
 /// The number of the next region, where there may be one more.
-fn next_number(rows: &[Row]) -> Result<u32, AllocError>
+fn next_number(rows: &[RegionRow]) -> Result<u32, AllocError>
     ensures { IfOk result (λ n. (n ≡ length rows.now) × (n < 2 ^ 32 - 2)) }
 {
     let count = rows.len();
@@ -207,7 +207,7 @@ fn next_number(rows: &[Row]) -> Result<u32, AllocError>
 }
 
 /// The region around this one.
-fn around(rows: &[Row], region: Option<u32>) -> Option<u32>
+fn around(rows: &[RegionRow], region: Option<u32>) -> Option<u32>
     ensures { result ≡ around_at region (map row_of rows.now) }
 {
     match rows.get(region? as usize) {

@@ -9,7 +9,7 @@ use Rattle.script_grammar.specs.Shows.{ShowAll}
 use Rattle.script_grammar.specs.Braced.{in_stmts}
 use Rattle.script_grammar.specs.Tree.{Stmts}
 use Rattle.parse_track.specs.declared.region.Region.{Region}
-use Rattle.parse_track.specs.declared.region.Known.{Known}
+use Rattle.parse_track.specs.declared.region.WellKnownAtoms.{WellKnownAtoms}
 use Rattle.parse_track.specs.Told as told
 use Rattle.parse_track.specs.Told.{Told, nothing, leaf, inner}
 use Rattle.parse_track.specs.Log.{Log, with_leaf, entered, left, region_of, label_of}
@@ -57,7 +57,7 @@ popped_lighter (Some v) before xs e = let w : weight before ≡ weight xs + (6 *
 
 module _ (i : Interpretation) where
   pub knows_still : (a b : Log) → Stays a b → KnowsThis i a → KnowsThis i b
-  knows_still a b s k = ap (λ (known : Known). text_of i known.this) s.known ∙ k
+  knows_still a b s k = ap (λ (known : WellKnownAtoms). text_of i known.this) s.known ∙ k
 
   -- the same of what says the same
   pub walk_as : {a b : Log} {x y : List Piece} {f g : Rest → Rest} → ((rest : Rest) → f rest ≡ g rest) → Walks i a b x y g → Walks i a b x y f

@@ -3,20 +3,20 @@ use Rattle.std.proofs.Common.{◌≡◌, ℕ, List, Option, Some, None, IfSome, 
 use Rattle.compile_initial.specs.declared.InitialStencil.{InitialStencil}
 use Rattle.lazy_compile.specs.declared.Delazified.{Delazified}
 use Rattle.lazy_function.specs.Numbered.{IsCompiledFunction, around_in}
-use Rattle.relazy_board.specs.declared.place.Place.{Place}
+use Rattle.relazy_board.specs.declared.place.FunctionPlace.{FunctionPlace}
 use Rattle.relazy_board.specs.Results.{IsResultOf}
 
-pub result_of : (place : Place) (bytes : List ℕ) (number : ℕ) (made : Delazified) → place.bytes.now ≡ bytes → place.number ≡ number → IsCompiledFunction bytes number made → IsResultOf place made
+pub result_of : (place : FunctionPlace) (bytes : List ℕ) (number : ℕ) (made : Delazified) → place.bytes.now ≡ bytes → place.number ≡ number → IsCompiledFunction bytes number made → IsResultOf place made
 unfolding IsResultOf
 result_of place bytes number made of numbered is =
     subst (λ (n : ℕ). IsCompiledFunction place.bytes.now n made) (sym numbered) (subst (λ (bs : List ℕ). IsCompiledFunction bs number made) (sym of) is)
 
-compiled_of : (place : Place) (bytes : List ℕ) (number : ℕ) (made : Delazified) → place.bytes.now ≡ bytes → place.number ≡ number → IsResultOf place made → IsCompiledFunction bytes number made
+compiled_of : (place : FunctionPlace) (bytes : List ℕ) (number : ℕ) (made : Delazified) → place.bytes.now ≡ bytes → place.number ≡ number → IsResultOf place made → IsCompiledFunction bytes number made
 unfolding IsResultOf
 compiled_of place bytes number made of numbered is =
     subst (λ (n : ℕ). IsCompiledFunction bytes n made) numbered (subst (λ (bs : List ℕ). IsCompiledFunction bs place.number made) of is)
 
-pub compiled_if : (place : Place) (bytes : List ℕ) (number : ℕ) (made : Option Delazified) → place.bytes.now ≡ bytes → place.number ≡ number → IfSome made (IsResultOf place) → IfSome made (IsCompiledFunction bytes number)
+pub compiled_if : (place : FunctionPlace) (bytes : List ℕ) (number : ℕ) (made : Option Delazified) → place.bytes.now ≡ bytes → place.number ≡ number → IfSome made (IsResultOf place) → IfSome made (IsCompiledFunction bytes number)
 compiled_if place bytes number None of numbered is = is
 compiled_if place bytes number (Some made) of numbered is = compiled_of place bytes number made of numbered is
 

@@ -8,7 +8,7 @@ ghost use Rattle.lazy_function.specs.Numbered.{IsChainOf, IsCompiledFunction, Is
 ghost use Rattle.relazy_board.specs.Board.{AreSlotsOf};
 ghost use Rattle.relazy_board.specs.Depth.{depth_of};
 
-use crate::place::{Place, Slot};
+use crate::place::{FunctionPlace, Slot};
 use crate::reading::Reading;
 use crate::slot::{empty, enter, keep};
 use compile_initial::InitialStencil;
@@ -51,7 +51,7 @@ fn empty_slots<'a>(
 {
     let mut slots = Vec::new(alloc);
     for index in 0..count {
-        let place = Place {
+        let place = FunctionPlace {
             bytes,
             number: index + 1,
         };

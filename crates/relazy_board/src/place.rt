@@ -8,7 +8,7 @@ use std::sync::Arc;
 
 /// A function of a script, by the script's bytes and the function's number.
 #[derive(Drop)]
-pub(crate) struct Place<'a> {
+pub(crate) struct FunctionPlace<'a> {
     pub bytes: &'a [u8],
     pub number: usize,
 }
@@ -24,7 +24,7 @@ impl<'a> Fits for Kept<'a> {
     ghost use Rattle.std.specs.Arc.{arc_value};
     ghost use Rattle.relazy_board.specs.Results.{IsResultOf};
 
-    type Tag = Place<'a>;
+    type Tag = FunctionPlace<'a>;
 
     ghost fits = { λ place kept. IsResultOf place (arc_value kept.made) };
 }

@@ -24,7 +24,7 @@ use Rattle.stencil_data.specs.Slots.{Unplaced, slots, slots_from, slot_of, own_s
 use Rattle.stencil_data.specs.StandsFor.{named_bindings, named_scope}
 use Rattle.stencil_data.specs.Views.{ScopeView}
 use Rattle.scope_analysis.specs.declared.names.DeclaredName.{DeclaredName}
-use Rattle.scope_analysis.specs.declared.scoping.Around.{Around}
+use Rattle.scope_analysis.specs.declared.scoping.ScopePosition.{ScopePosition}
 use Rattle.scope_analysis.specs.DeclaredNames.{Text, Declaration}
 use Rattle.scope_analysis.specs.Scopes.{Within, unplaced, placed, scope_of, inside, behind, scope_around, scope_count, count_stmt, count_stmts, count_clauses, scopes_stmt, scopes_stmts, scopes_clauses}
 use Rattle.scope_analysis.specs.Closed.{closed_bindings, closed_from}
@@ -82,7 +82,7 @@ scope_with kind parent bindings env = record { kind = kind; parent = parent; bin
 abbrev place_with : Option ℕ → ℕ → ℕ → Within
 place_with parent next frame = record { parent = parent; next = next; frame = frame }
 
-pub pushed_opens : (texts : List (List ℕ)) (closed : List ClosedName) (old new : List ScopeView) (from to : ℕ) (kind : ScopeKind) (ds : List Declaration) (around : Around)
+pub pushed_opens : (texts : List (List ℕ)) (closed : List ClosedName) (old new : List ScopeView) (from to : ℕ) (kind : ScopeKind) (ds : List Declaration) (around : ScopePosition)
     (number env arg frame env_kept number_kept frame_kept : ℕ) (bindings : List Binding)
     → is_global kind ≡ false → number ≡ length old → around.frame < 2 ^ 32
     → ((inner : List Text) (later : List NamedScope) → Ready texts closed number inner later 0 0 around.frame from ds → Going texts closed number inner later around.frame ds (named_bindings texts bindings) env arg frame to [])
@@ -135,26 +135,26 @@ pushed_opens texts closed old new from to kind ds around number env arg frame en
 }
 
 -- a scope of some names
-pub opens_some : (texts : List (List ℕ)) (closed : List ClosedName) (old new : List ScopeView) (from to : ℕ) (kind : ScopeKind) (names : List DeclaredName) (around inside_it : Around)
+pub opens_some : (texts : List (List ℕ)) (closed : List ClosedName) (old new : List ScopeView) (from to : ℕ) (kind : ScopeKind) (names : List DeclaredName) (around inside_it : ScopePosition)
     → false ≡ nat_eq (length names) 0 → Opens texts closed old from new to kind (declarations_of texts names) around inside_it → OpensAny texts closed old from new to kind (declarations_of texts names) around inside_it
 opens_some texts closed old new from to kind [] around inside_it some o = cc
 opens_some texts closed old new from to kind (n ∷ ns) around inside_it some o = record { opened = o.opened; opens = o.opens }
 
-pub opens_none : (texts : List (List ℕ)) (closed : List ClosedName) (old : List ScopeView) (from : ℕ) (kind : ScopeKind) (names : List DeclaredName) (around : Around)
+pub opens_none : (texts : List (List ℕ)) (closed : List ClosedName) (old : List ScopeView) (from : ℕ) (kind : ScopeKind) (names : List DeclaredName) (around : ScopePosition)
     → true ≡ nat_eq (length names) 0 → OpensAny texts closed old from old from kind (declarations_of texts names) around around
 opens_none texts closed old from kind [] around none = record { opened = omega arith; opens = λ inner content final last added. added }
 opens_none texts closed old from kind (n ∷ ns) around none = let absurd_eq : true ≡ false = none ∙ eqb-suc-zero (length ns) in cc
 
-pub opens_at : (texts : List (List ℕ)) (closed : List ClosedName) (old new : List ScopeView) (from to : ℕ) (kind : ScopeKind) (ds es : List Declaration) (around inside_it : Around)
+pub opens_at : (texts : List (List ℕ)) (closed : List ClosedName) (old new : List ScopeView) (from to : ℕ) (kind : ScopeKind) (ds es : List Declaration) (around inside_it : ScopePosition)
     → ds ≡ es → OpensAny texts closed old from new to kind ds around inside_it → OpensAny texts closed old from new to kind es around inside_it
 opens_at texts closed old new from to kind ds es around inside_it same o = subst (λ (xs : List Declaration). OpensAny texts closed old from new to kind xs around inside_it) same o
 
 -- ---- parts where they stand
 
-pub scoped_none : (texts : List (List ℕ)) (closed : List ClosedName) (around : Around) (old : List ScopeView) (from : ℕ) → Scoped texts closed around old from old from 0 (λ w. [])
+pub scoped_none : (texts : List (List ℕ)) (closed : List ClosedName) (around : ScopePosition) (old : List ScopeView) (from : ℕ) → Scoped texts closed around old from old from 0 (λ w. [])
 scoped_none texts closed around old from = record { counted = omega arith; added = adds_none texts closed old from }
 
-pub scoped_both : (texts : List (List ℕ)) (closed : List ClosedName) (around : Around) (a b c : List ScopeView) (at_a at_b at_c n m : ℕ) (p q : Within → List NamedScope)
+pub scoped_both : (texts : List (List ℕ)) (closed : List ClosedName) (around : ScopePosition) (a b c : List ScopeView) (at_a at_b at_c n m : ℕ) (p q : Within → List NamedScope)
     → Scoped texts closed around a at_a b at_b n p → Scoped texts closed around b at_b c at_c m q → Scoped texts closed around a at_a c at_c (n + m) (λ w. p w ++ q (behind n w))
 scoped_both texts closed around a b c at_a at_b at_c n m p q first second = record {
   counted = omega (arith, first.counted, second.counted);
@@ -162,7 +162,7 @@ scoped_both texts closed around a b c at_a at_b at_c n m p q first second = reco
       (subst (λ (k : ℕ). Adds texts closed b at_b c at_c (q (within around k))) first.counted second.added);
 }
 
-pub scoped_inside : (texts : List (List ℕ)) (closed : List ClosedName) (around inside_it : Around) (a b c : List ScopeView) (at_a at_b at_c n : ℕ) (kind : ScopeKind) (ds : List Declaration) (inner : List Text) (content : Within → List NamedScope)
+pub scoped_inside : (texts : List (List ℕ)) (closed : List ClosedName) (around inside_it : ScopePosition) (a b c : List ScopeView) (at_a at_b at_c n : ℕ) (kind : ScopeKind) (ds : List Declaration) (inner : List Text) (content : Within → List NamedScope)
     → OpensAny texts closed a at_a b at_b kind ds around inside_it → Scoped texts closed inside_it b at_b c at_c n content
     → Scoped texts closed around a at_a c at_c (scope_count ds + n) (scope_around kind ds inner content)
 scoped_inside texts closed around inside_it a b c at_a at_b at_c n kind ds inner content o s = record {
@@ -172,7 +172,7 @@ scoped_inside texts closed around inside_it a b c at_a at_b at_c n kind ds inner
 
 -- ---- lists of statements, one after another
 
-pub stmts_turn : (texts : List (List ℕ)) (closed : List ClosedName) (around : Around) (a b c : List ScopeView) (at_a at_b at_c : ℕ) (i : Interpretation) (items : List Stmt) (k : ℕ) (item : Stmt)
+pub stmts_turn : (texts : List (List ℕ)) (closed : List ClosedName) (around : ScopePosition) (a b c : List ScopeView) (at_a at_b at_c : ℕ) (i : Interpretation) (items : List Stmt) (k : ℕ) (item : Stmt)
     → k < length items → item ≡ get_or items k item
     → Scoped texts closed around a at_a b at_b (count_stmt (stmt_of i item)) (scopes_stmt (stmt_of i item))
     → Scoped texts closed around b at_b c at_c (count_stmts (stmts_of (map (stmt_of i) (drop (k + 1) items)))) (scopes_stmts (stmts_of (map (stmt_of i) (drop (k + 1) items))))
@@ -184,7 +184,7 @@ stmts_turn texts closed around a b c at_a at_b at_c i items k item lt is first r
     subst (λ (xs : List Stmt). Scoped texts closed around a at_a c at_c (count_stmts (stmts_of (map (stmt_of i) xs))) (scopes_stmts (stmts_of (map (stmt_of i) xs)))) (sym split)
     (scoped_both texts closed around a b c at_a at_b at_c (count_stmt (stmt_of i item)) (count_stmts (stmts_of (map (stmt_of i) (drop (k + 1) items)))) (scopes_stmt (stmt_of i item)) (scopes_stmts (stmts_of (map (stmt_of i) (drop (k + 1) items)))) first rest)
 
-pub clauses_turn : (texts : List (List ℕ)) (closed : List ClosedName) (around : Around) (a b c : List ScopeView) (at_a at_b at_c : ℕ) (i : Interpretation) (clauses : List Clause) (k : ℕ) (clause : Clause) (items : List Stmt)
+pub clauses_turn : (texts : List (List ℕ)) (closed : List ClosedName) (around : ScopePosition) (a b c : List ScopeView) (at_a at_b at_c : ℕ) (i : Interpretation) (clauses : List Clause) (k : ℕ) (clause : Clause) (items : List Stmt)
     → k < length clauses → clause ≡ get_or clauses k clause → items ≡ clause.items.items
     → Scoped texts closed around a at_a b at_b (count_stmts (stmts_of (map (stmt_of i) items))) (scopes_stmts (stmts_of (map (stmt_of i) items)))
     → Scoped texts closed around b at_b c at_c (count_clauses (clauses_of (map (clause_of i) (drop (k + 1) clauses)))) (scopes_clauses (clauses_of (map (clause_of i) (drop (k + 1) clauses))))
@@ -200,15 +200,15 @@ clauses_turn texts closed around a b c at_a at_b at_c i clauses k clause items l
     subst (λ (xs : List Clause). Scoped texts closed around a at_a c at_c (count_clauses (clauses_of (map (clause_of i) xs))) (scopes_clauses (clauses_of (map (clause_of i) xs)))) (sym split)
     (scoped_both texts closed around a b c at_a at_b at_c (count_stmts (stmts_of (clause_of i clause).items)) (count_clauses (clauses_of (map (clause_of i) (drop (k + 1) clauses)))) (scopes_stmts (stmts_of (clause_of i clause).items)) (scopes_clauses (clauses_of (map (clause_of i) (drop (k + 1) clauses)))) here rest)
 
-pub stmts_end : (texts : List (List ℕ)) (closed : List ClosedName) (around : Around) (a : List ScopeView) (at_a : ℕ) (i : Interpretation) (items : List Stmt)
+pub stmts_end : (texts : List (List ℕ)) (closed : List ClosedName) (around : ScopePosition) (a : List ScopeView) (at_a : ℕ) (i : Interpretation) (items : List Stmt)
     → items ≡ [] → Scoped texts closed around a at_a a at_a (count_stmts (stmts_of (map (stmt_of i) items))) (scopes_stmts (stmts_of (map (stmt_of i) items)))
 stmts_end texts closed around a at_a i items none = subst (λ (xs : List Stmt). Scoped texts closed around a at_a a at_a (count_stmts (stmts_of (map (stmt_of i) xs))) (scopes_stmts (stmts_of (map (stmt_of i) xs)))) (sym none) (scoped_none texts closed around a at_a)
 
-pub clauses_end : (texts : List (List ℕ)) (closed : List ClosedName) (around : Around) (a : List ScopeView) (at_a : ℕ) (i : Interpretation) (clauses : List Clause)
+pub clauses_end : (texts : List (List ℕ)) (closed : List ClosedName) (around : ScopePosition) (a : List ScopeView) (at_a : ℕ) (i : Interpretation) (clauses : List Clause)
     → clauses ≡ [] → Scoped texts closed around a at_a a at_a (count_clauses (clauses_of (map (clause_of i) clauses))) (scopes_clauses (clauses_of (map (clause_of i) clauses)))
 clauses_end texts closed around a at_a i clauses none = subst (λ (xs : List Clause). Scoped texts closed around a at_a a at_a (count_clauses (clauses_of (map (clause_of i) xs))) (scopes_clauses (clauses_of (map (clause_of i) xs)))) (sym none) (scoped_none texts closed around a at_a)
 
 -- a statement of the model that a tree stands for
-pub scoped_at : (texts : List (List ℕ)) (closed : List ClosedName) (around : Around) (a b : List ScopeView) (at_a at_b : ℕ) (m n : model.Stmt)
+pub scoped_at : (texts : List (List ℕ)) (closed : List ClosedName) (around : ScopePosition) (a b : List ScopeView) (at_a at_b : ℕ) (m n : model.Stmt)
     → m ≡ n → Scoped texts closed around a at_a b at_b (count_stmt m) (scopes_stmt m) → Scoped texts closed around a at_a b at_b (count_stmt n) (scopes_stmt n)
 scoped_at texts closed around a b at_a at_b m n same s = subst (λ (x : model.Stmt). Scoped texts closed around a at_a b at_b (count_stmt x) (scopes_stmt x)) same s

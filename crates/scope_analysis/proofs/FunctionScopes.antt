@@ -23,7 +23,7 @@ use Rattle.stencil_data.specs.StandsFor.{named_scope, named_closed}
 use Rattle.stencil_data.specs.Views.{ScopeView}
 use Rattle.scope_analysis.specs.declared.functions.OwnUses.{OwnUses}
 use Rattle.scope_analysis.specs.declared.names.DeclaredName.{DeclaredName}
-use Rattle.scope_analysis.specs.declared.scoping.Around.{Around}
+use Rattle.scope_analysis.specs.declared.scoping.ScopePosition.{ScopePosition}
 use Rattle.scope_analysis.specs.Closed.{is_env, closed_bindings, closed_from, closed_over, has_closed}
 use Rattle.scope_analysis.specs.FunctionTree.{UsesItself, KnowsNames, specials}
 use Rattle.scope_analysis.specs.Kept.{declarations_of}
@@ -192,7 +192,7 @@ special_known form before u t own in_list is_own is_in bound =
 abbrev before_specials : Params → Body → List Declaration
 before_specials params body = declarations bind.Param (param_names params) ++ declarations bind.Var (texts_without (param_names params) (beside_params (has_initializer params) body))
 
-abbrev around_none : Around
+abbrev around_none : ScopePosition
 around_none = record { parent = None; frame = 0 }
 
 abbrev pub scopes_by : FuncKind → Option Text → FuncForm → Params → Body → List NamedScope
@@ -200,7 +200,7 @@ scopes_by kind name form params body =
     scope_around scope.StrictNamedLambda (callee_names kind name) (uses_without (texts_of (function_names form params body)) (function_uses params body)).inner
     (scope_and scope.Function (function_names form params body) (function_uses params body).inner (scopes_body (has_initializer params) body)) outermost
 
-pub function_made : (texts : List (List ℕ)) (closed : List ClosedName) (form : FuncForm) (kind : FuncKind) (name : Option Text) (params : Params) (body : Body) (own : OwnUses) (callee names : List DeclaredName) (named within_it : Around)
+pub function_made : (texts : List (List ℕ)) (closed : List ClosedName) (form : FuncForm) (kind : FuncKind) (name : Option Text) (params : Params) (body : Body) (own : OwnUses) (callee names : List DeclaredName) (named within_it : ScopePosition)
     (s1 s2 s3 : List ScopeView) (at1 at2 at3 number : ℕ)
     → KnowsNames texts → UsesItself own params body → declarations_of texts callee ≡ callee_names kind name → number ≡ length s1
     → OpensAny texts closed [] 0 s1 at1 scope.StrictNamedLambda (declarations_of texts callee) around_none named

@@ -6,7 +6,7 @@ use Rattle.stencil_data.specs.Fits.{NamesFit}
 use Rattle.stencil_data.specs.Named.{NamedScope}
 use Rattle.stencil_data.specs.StandsFor.{named_closed, named_scope}
 use Rattle.stencil_data.specs.Views.{ScopeView}
-use Rattle.scope_analysis.specs.declared.scoping.Around.{Around}
+use Rattle.scope_analysis.specs.declared.scoping.ScopePosition.{ScopePosition}
 use Rattle.scope_analysis.specs.DeclaredNames.{Text, Declaration}
 use Rattle.scope_analysis.specs.Scopes.{Within, scope_and, scope_around, scope_count}
 use Rattle.scope_analysis.specs.Closed.{closed_from, closed_over, named_left}
@@ -16,7 +16,7 @@ abbrev pub ScopesFit : List NamedScope → Type 0
 ScopesFit [] = Unit {0}
 ScopesFit (s ∷ ss) = NamesFit s.bindings × ScopesFit ss
 
-abbrev pub within : Around → ℕ → Within
+abbrev pub within : ScopePosition → ℕ → Within
 within around next = record { parent = around.parent; next = next; frame = around.frame }
 
 -- these scopes were added, and of the closed names those of the later scopes are left
@@ -29,19 +29,19 @@ pub record Adds (texts : List (List ℕ)) (closed : List ClosedName) (old : List
   pub adds : (later : List NamedScope) → ScopesFit part → length old + length part < 2 ^ 32 → named_left texts closed from ≡ closed_from (length old) (part ++ later) → Added texts closed old new to part later
 
 -- Where these scopes stand, n of them were added.
-pub record Scoped (texts : List (List ℕ)) (closed : List ClosedName) (around : Around) (old : List ScopeView) (from : ℕ) (new : List ScopeView) (to : ℕ) (count : ℕ) (part : Within → List NamedScope) : Type 0 where
+pub record Scoped (texts : List (List ℕ)) (closed : List ClosedName) (around : ScopePosition) (old : List ScopeView) (from : ℕ) (new : List ScopeView) (to : ℕ) (count : ℕ) (part : Within → List NamedScope) : Type 0 where
   pub counted : length new ≡ length old + count
   pub added : Adds texts closed old from new to (part (within around (length old)))
 
 -- with what is added inside, this scope and that is added
-pub record Opens (texts : List (List ℕ)) (closed : List ClosedName) (old : List ScopeView) (from : ℕ) (new : List ScopeView) (to : ℕ) (kind : ScopeKind) (ds : List Declaration) (around inside : Around) : Type 0 where
+pub record Opens (texts : List (List ℕ)) (closed : List ClosedName) (old : List ScopeView) (from : ℕ) (new : List ScopeView) (to : ℕ) (kind : ScopeKind) (ds : List Declaration) (around inside : ScopePosition) : Type 0 where
   pub opened : length new ≡ length old + 1
   pub opens : (inner : List Text) (content : Within → List NamedScope) (final : List ScopeView) (last : ℕ)
       → Adds texts closed new to final last (content (within inside (length new)))
       → Adds texts closed old from final last (scope_and kind ds inner content (within around (length old)))
 
 -- the same, where the scope is left out if nothing is declared
-pub record OpensAny (texts : List (List ℕ)) (closed : List ClosedName) (old : List ScopeView) (from : ℕ) (new : List ScopeView) (to : ℕ) (kind : ScopeKind) (ds : List Declaration) (around inside : Around) : Type 0 where
+pub record OpensAny (texts : List (List ℕ)) (closed : List ClosedName) (old : List ScopeView) (from : ℕ) (new : List ScopeView) (to : ℕ) (kind : ScopeKind) (ds : List Declaration) (around inside : ScopePosition) : Type 0 where
   pub opened : length new ≡ length old + scope_count ds
   pub opens : (inner : List Text) (content : Within → List NamedScope) (final : List ScopeView) (last : ℕ)
       → Adds texts closed new to final last (content (within inside (length new)))

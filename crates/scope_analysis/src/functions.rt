@@ -21,8 +21,8 @@ ghost use Rattle.scope_analysis.specs.Uses.{beside_params, arguments_text, this_
 ghost use Rattle.scope_analysis.specs.Walked.{within, Adds, OpensAny, AreScopes};
 
 use crate::names::{DeclaredName, push_top_lexical_names};
-use crate::place::{Known, narrow, same_units, units_of};
-use crate::scoping::{Around, Scoping, add_stmts, open_scope, push_scope};
+use crate::place::{ScopeContext, narrow, same_units, units_of};
+use crate::scoping::{ScopePosition, Scoping, add_stmts, open_scope, push_scope};
 use crate::special_names::{ARGUMENTS, THIS};
 use crate::texts::without;
 use crate::toplevel::{push_all, top_vars};
@@ -76,7 +76,7 @@ fn is_named(texts: &[Text], name: ClosedName, number: usize, units: &[u16]) -> b
 }
 
 // Whether functions inside close over this name of this scope.
-fn is_closed(known: &Known, number: usize, units: &[u16]) -> bool
+fn is_closed(known: &ScopeContext, number: usize, units: &[u16]) -> bool
     ensures { result ≡ has_closed number units.now (map (named_closed known.now.texts.now) known.now.closed.now) }
 {
     for name in known.closed {
@@ -122,7 +122,7 @@ fn push_if(
 
 // Appends `arguments` and `this`, where a function that is no arrow uses them, itself or through functions inside.
 fn push_specials(
-    known: &Known,
+    known: &ScopeContext,
     number: usize,
     form: FuncForm,
     own: OwnUses,
@@ -146,7 +146,11 @@ fn push_specials(
 }
 
 // The var names that stand beside the parameters.
-fn vars_beside(known: &Known, initialized: bool, body: &FuncBody) -> Result<Vec<u32>, AllocError>
+fn vars_beside(
+    known: &ScopeContext,
+    initialized: bool,
+    body: &FuncBody,
+) -> Result<Vec<u32>, AllocError>
     ensures { IfOk result (λ vars. (bodies : ℕ → Stmts) (b : model.Body) → body_of (under known.now.texts.now bodies) body.now ≡ Some b → map (text_at known.now.texts.now) vars.items ≡ beside_params initialized b) }
 {
     if initialized {
@@ -164,7 +168,7 @@ fn vars_beside(known: &Known, initialized: bool, body: &FuncBody) -> Result<Vec<
 
 // The parameters, and the var names beside them.
 fn own_names(
-    known: &Known,
+    known: &ScopeContext,
     params: &[Param],
     initialized: bool,
     body: &FuncBody,
@@ -196,7 +200,7 @@ fn callee(alloc: Global, kind: FuncKind, name: Option<u32>) -> Result<Vec<Declar
 }
 
 // The var names of a body.
-fn vars_of(known: &Known, items: &[Stmt]) -> Result<Vec<DeclaredName>, AllocError>
+fn vars_of(known: &ScopeContext, items: &[Stmt]) -> Result<Vec<DeclaredName>, AllocError>
     ensures { IfOk result (λ names. (bodies : ℕ → Stmts) → declarations_of known.now.texts.now names.items ≡ declarations bind_kind.Var (defined.top_var_names (stmts_of (map (stmt_of (under known.now.texts.now bodies)) items.now)))) }
 {
     let vars = top_vars(known.alloc, known.texts, items)?;
@@ -207,7 +211,7 @@ fn vars_of(known: &Known, items: &[Stmt]) -> Result<Vec<DeclaredName>, AllocErro
 
 // The var names of a body that has a scope of its own for them.
 fn body_vars(
-    known: &Known,
+    known: &ScopeContext,
     initialized: bool,
     items: &[Stmt],
 ) -> Result<Vec<DeclaredName>, AllocError>
@@ -222,12 +226,12 @@ fn body_vars(
 
 // Adds the scope of the var names of a body, where it has one.
 fn open_vars(
-    known: &Known,
+    known: &ScopeContext,
     made: &mut Scoping,
     initialized: bool,
     items: &[Stmt],
-    around: Around,
-) -> Result<Around, AllocError>
+    around: ScopePosition,
+) -> Result<ScopePosition, AllocError>
     ensures { IfOk result (λ inside. (bodies : ℕ → Stmts) → OpensAny known.now.texts.now known.now.closed.now made.old.scopes.items made.old.closed made.new.scopes.items made.new.closed scope_kind.FunctionBodyVar (body_var_names initialized (stmts_of (map (stmt_of (under known.now.texts.now bodies)) items.now))) around inside) }
 {
     let names = body_vars(known, initialized, items)?;
@@ -237,11 +241,11 @@ fn open_vars(
 
 // The lexical names of a body.
 fn open_lexical(
-    known: &Known,
+    known: &ScopeContext,
     made: &mut Scoping,
     items: &[Stmt],
-    around: Around,
-) -> Result<Around, AllocError>
+    around: ScopePosition,
+) -> Result<ScopePosition, AllocError>
     ensures { IfOk result (λ inside. (bodies : ℕ → Stmts) → OpensAny known.now.texts.now known.now.closed.now made.old.scopes.items made.old.closed made.new.scopes.items made.new.closed scope_kind.FunctionLexical (defined.top_lexical_names (stmts_of (map (stmt_of (under known.now.texts.now bodies)) items.now))) around inside) }
 {
     let mut names = Vec::new(known.alloc);
@@ -252,11 +256,11 @@ fn open_lexical(
 
 // Adds the scopes of a braced body.
 fn add_braced(
-    known: &Known,
+    known: &ScopeContext,
     made: &mut Scoping,
     initialized: bool,
     items: &[Stmt],
-    around: Around,
+    around: ScopePosition,
 ) -> Result<(), AllocError>
     ensures { OnOk result ((bodies : ℕ → Stmts) → Adds known.now.texts.now known.now.closed.now made.old.scopes.items made.old.closed made.new.scopes.items made.new.closed (scopes_body initialized (model.BracedBody (stmts_of (map (stmt_of (under known.now.texts.now bodies)) items.now))) (within around (length made.old.scopes.items)))) }
 {
@@ -268,11 +272,11 @@ fn add_braced(
 
 // Adds the scopes of a body.
 fn add_body(
-    known: &Known,
+    known: &ScopeContext,
     made: &mut Scoping,
     initialized: bool,
     body: &FuncBody,
-    around: Around,
+    around: ScopePosition,
 ) -> Result<(), AllocError>
     ensures { OnOk result ((bodies : ℕ → Stmts) (b : model.Body) → body_of (under known.now.texts.now bodies) body.now ≡ Some b → Adds known.now.texts.now known.now.closed.now made.old.scopes.items made.old.closed made.new.scopes.items made.new.closed (scopes_body initialized b (within around (length made.old.scopes.items)))) }
 {
@@ -297,7 +301,7 @@ pub fn scopes_using(
 ) -> Result<Vec<ScopeData>, AllocError>
     ensures { IfOk result (λ scopes. (bodies : ℕ → Stmts) (b : model.Body) → HasBody (under texts.now bodies) func.now b → KnowsNames texts.now → UsesItself own (params_in (under texts.now bodies) func.now) b → AreScopes texts.now closed.now scopes.items (function_scopes kind (option_map (text_at texts.now) name) (func_of (under texts.now bodies) func.now))) }
 {
-    let known = Known {
+    let known = ScopeContext {
         alloc,
         texts,
         closed,
@@ -306,7 +310,7 @@ pub fn scopes_using(
         scopes: Vec::new(alloc),
         closed: 0,
     };
-    let around = Around {
+    let around = ScopePosition {
         parent: None,
         frame: 0,
     };

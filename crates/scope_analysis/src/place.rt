@@ -19,7 +19,7 @@ use stencil_data::{BindKind, Binding, ClosedName, Slot, Text};
 /// What is known of a function or script: the texts of its atoms, and the names of its scopes that functions inside it
 /// close over, in order of scope and then of the scope's bindings.
 #[derive(Clone, Copy)]
-pub struct Known<'a> {
+pub struct ScopeContext<'a> {
     pub alloc: Global,
     pub texts: &'a [Text],
     pub closed: &'a [ClosedName],
@@ -70,7 +70,7 @@ pub fn same_units(one: &[u16], other: &[u16]) -> bool
 }
 
 // Whether the next closed name is this one of this scope.
-fn is_next(known: &Known, place: usize, number: usize, atom: u32) -> bool
+fn is_next(known: &ScopeContext, place: usize, number: usize, atom: u32) -> bool
     ensures is { result ≡ first_is number (stands.text_at known.now.texts.now atom) (named_left known.now.texts.now known.now.closed.now place) }
     ensures within { result ≡ true → place < length known.now.closed.now }
 {
@@ -151,7 +151,7 @@ fn after(next: NextSlots, kind: BindKind, closed: bool, slot: Slot) -> NextSlots
 /// Gives the names of a scope their slots, where the scopes around leave the frame free from `frame` on, and the closed
 /// names from `from` on are left.
 pub fn place(
-    known: &Known,
+    known: &ScopeContext,
     number: usize,
     frame: u32,
     from: usize,

@@ -18,7 +18,7 @@ use crate::names::{
     DeclaredName, push_catch_name, push_clauses_lexical_names, push_each_lexical_names,
     push_init_lexical_names, push_lexical_names,
 };
-use crate::place::{Known, Placed, narrow, place};
+use crate::place::{Placed, ScopeContext, narrow, place};
 use script_grammar::tree::{Clause, Each, Ident, Init, Stmt};
 use std::alloc::AllocError;
 use stencil_data::{ScopeData, ScopeKind};
@@ -32,19 +32,19 @@ pub struct Scoping {
 
 /// What is around a part of a tree in its function: the number of the innermost scope, and the first free frame slot.
 #[derive(Clone, Copy)]
-pub struct Around {
+pub struct ScopePosition {
     pub parent: Option<u32>,
     pub frame: u32,
 }
 
 /// Adds a scope of these names.
 pub fn push_scope(
-    known: &Known,
+    known: &ScopeContext,
     made: &mut Scoping,
     kind: ScopeKind,
     names: &[DeclaredName],
-    around: Around,
-) -> Result<Around, AllocError>
+    around: ScopePosition,
+) -> Result<ScopePosition, AllocError>
     requires { is_global kind ≡ false }
     ensures { IfOk result (λ inside. Opens known.now.texts.now known.now.closed.now made.old.scopes.items made.old.closed made.new.scopes.items made.new.closed kind (declarations_of known.now.texts.now names.now) around inside) }
 {
@@ -61,7 +61,7 @@ pub fn push_scope(
         env_slots: narrow(next.env),
     })?;
     made.closed = closed;
-    Ok(Around {
+    Ok(ScopePosition {
         parent: Some(narrow(number)),
         frame: narrow(next.frame),
     })
@@ -69,12 +69,12 @@ pub fn push_scope(
 
 /// Adds a scope of these names, where there are any.
 pub fn open_scope(
-    known: &Known,
+    known: &ScopeContext,
     made: &mut Scoping,
     kind: ScopeKind,
     names: &[DeclaredName],
-    around: Around,
-) -> Result<Around, AllocError>
+    around: ScopePosition,
+) -> Result<ScopePosition, AllocError>
     requires { is_global kind ≡ false }
     ensures { IfOk result (λ inside. OpensAny known.now.texts.now known.now.closed.now made.old.scopes.items made.old.closed made.new.scopes.items made.new.closed kind (declarations_of known.now.texts.now names.now) around inside) }
 {
@@ -87,11 +87,11 @@ pub fn open_scope(
 
 // Adds the scope of a block, where it declares names.
 fn open_block(
-    known: &Known,
+    known: &ScopeContext,
     made: &mut Scoping,
     items: &[Stmt],
-    around: Around,
-) -> Result<Around, AllocError>
+    around: ScopePosition,
+) -> Result<ScopePosition, AllocError>
     ensures { IfOk result (λ inside. (bodies : ℕ → Stmts) → OpensAny known.now.texts.now known.now.closed.now made.old.scopes.items made.old.closed made.new.scopes.items made.new.closed scope_kind.Lexical (lexical_names (stmts_of (map (stmt_of (under known.now.texts.now bodies)) items.now))) around inside) }
 {
     let mut names = Vec::new(known.alloc);
@@ -102,11 +102,11 @@ fn open_block(
 
 // Adds the scope of the clauses of a `switch`, where they declare names.
 fn open_switch(
-    known: &Known,
+    known: &ScopeContext,
     made: &mut Scoping,
     clauses: &[Clause],
-    around: Around,
-) -> Result<Around, AllocError>
+    around: ScopePosition,
+) -> Result<ScopePosition, AllocError>
     ensures { IfOk result (λ inside. (bodies : ℕ → Stmts) → OpensAny known.now.texts.now known.now.closed.now made.old.scopes.items made.old.closed made.new.scopes.items made.new.closed scope_kind.Lexical (clauses_lexical_names (clauses_of (map (clause_of (under known.now.texts.now bodies)) clauses.now))) around inside) }
 {
     let mut names = Vec::new(known.alloc);
@@ -117,11 +117,11 @@ fn open_switch(
 
 // Adds the scope of the head of a `for`, where it declares names.
 fn open_init(
-    known: &Known,
+    known: &ScopeContext,
     made: &mut Scoping,
     init: &Init,
-    around: Around,
-) -> Result<Around, AllocError>
+    around: ScopePosition,
+) -> Result<ScopePosition, AllocError>
     ensures { IfOk result (λ inside. (bodies : ℕ → Stmts) → OpensAny known.now.texts.now known.now.closed.now made.old.scopes.items made.old.closed made.new.scopes.items made.new.closed scope_kind.Lexical (init_lexical_names (init_of (under known.now.texts.now bodies) init.now)) around inside) }
 {
     let mut names = Vec::new(known.alloc);
@@ -132,11 +132,11 @@ fn open_init(
 
 // Adds the scope of the head of a `for` with `in`, where it declares a name.
 fn open_each(
-    known: &Known,
+    known: &ScopeContext,
     made: &mut Scoping,
     each: &Each,
-    around: Around,
-) -> Result<Around, AllocError>
+    around: ScopePosition,
+) -> Result<ScopePosition, AllocError>
     ensures { IfOk result (λ inside. (bodies : ℕ → Stmts) → OpensAny known.now.texts.now known.now.closed.now made.old.scopes.items made.old.closed made.new.scopes.items made.new.closed scope_kind.Lexical (each_lexical_names (each_of (under known.now.texts.now bodies) each.now)) around inside) }
 {
     let mut names = Vec::new(known.alloc);
@@ -147,11 +147,11 @@ fn open_each(
 
 // Adds the scope of a catch clause, where it has a parameter.
 fn open_catch(
-    known: &Known,
+    known: &ScopeContext,
     made: &mut Scoping,
     param: Option<Ident>,
-    around: Around,
-) -> Result<Around, AllocError>
+    around: ScopePosition,
+) -> Result<ScopePosition, AllocError>
     ensures { IfOk result (λ inside. (bodies : ℕ → Stmts) → OpensAny known.now.texts.now known.now.closed.now made.old.scopes.items made.old.closed made.new.scopes.items made.new.closed scope_kind.SimpleCatch (catch_names (maybe_named (under known.now.texts.now bodies) param)) around inside) }
 {
     let mut names = Vec::new(known.alloc);
@@ -163,10 +163,10 @@ fn open_catch(
 /// Adds the scopes of a statement.
 #[cycle(scoping)]
 fn add_stmt(
-    known: &Known,
+    known: &ScopeContext,
     made: &mut Scoping,
     stmt: &Stmt,
-    around: Around,
+    around: ScopePosition,
 ) -> Result<(), AllocError>
     ensures { OnOk result ((bodies : ℕ → Stmts) → Scoped known.now.texts.now known.now.closed.now around made.old.scopes.items made.old.closed made.new.scopes.items made.new.closed (count_stmt (stmt_of (under known.now.texts.now bodies) stmt.now)) (scopes_stmt (stmt_of (under known.now.texts.now bodies) stmt.now))) }
 {
@@ -215,10 +215,10 @@ fn add_stmt(
 
 #[cycle(scoping)]
 fn add_else(
-    known: &Known,
+    known: &ScopeContext,
     made: &mut Scoping,
     no: &Option<Box<Stmt>>,
-    around: Around,
+    around: ScopePosition,
 ) -> Result<(), AllocError>
     ensures { OnOk result ((bodies : ℕ → Stmts) → Scoped known.now.texts.now known.now.closed.now around made.old.scopes.items made.old.closed made.new.scopes.items made.new.closed (count_else (maybe_stmt_of (option_map (λ boxed. stmt_of (under known.now.texts.now bodies) boxed.value) no.now))) (scopes_else (maybe_stmt_of (option_map (λ boxed. stmt_of (under known.now.texts.now bodies) boxed.value) no.now)))) }
 {
@@ -231,10 +231,10 @@ fn add_else(
 // Adds the scope of a block, and those in it.
 #[cycle(scoping)]
 fn add_block(
-    known: &Known,
+    known: &ScopeContext,
     made: &mut Scoping,
     items: &[Stmt],
-    around: Around,
+    around: ScopePosition,
 ) -> Result<(), AllocError>
     ensures { OnOk result ((bodies : ℕ → Stmts) → let m = stmts_of (map (stmt_of (under known.now.texts.now bodies)) items.now) in Scoped known.now.texts.now known.now.closed.now around made.old.scopes.items made.old.closed made.new.scopes.items made.new.closed (scope_count (lexical_names m) + count_stmts m) (scope_around scope_kind.Lexical (lexical_names m) (block_inner m) (scopes_stmts m))) }
 {
@@ -246,10 +246,10 @@ fn add_block(
 // Adds the scope of a `switch`, and those in it.
 #[cycle(scoping)]
 fn add_switch(
-    known: &Known,
+    known: &ScopeContext,
     made: &mut Scoping,
     clauses: &[Clause],
-    around: Around,
+    around: ScopePosition,
 ) -> Result<(), AllocError>
     ensures { OnOk result ((bodies : ℕ → Stmts) → let m = clauses_of (map (clause_of (under known.now.texts.now bodies)) clauses.now) in Scoped known.now.texts.now known.now.closed.now around made.old.scopes.items made.old.closed made.new.scopes.items made.new.closed (scope_count (clauses_lexical_names m) + count_clauses m) (scope_around scope_kind.Lexical (clauses_lexical_names m) (uses_clauses m).inner (scopes_clauses m))) }
 {
@@ -261,10 +261,10 @@ fn add_switch(
 /// Adds the scopes of statements.
 #[cycle(scoping)]
 pub fn add_stmts(
-    known: &Known,
+    known: &ScopeContext,
     made: &mut Scoping,
     items: &[Stmt],
-    around: Around,
+    around: ScopePosition,
 ) -> Result<(), AllocError>
     ensures { OnOk result ((bodies : ℕ → Stmts) → Scoped known.now.texts.now known.now.closed.now around made.old.scopes.items made.old.closed made.new.scopes.items made.new.closed (count_stmts (stmts_of (map (stmt_of (under known.now.texts.now bodies)) items.now))) (scopes_stmts (stmts_of (map (stmt_of (under known.now.texts.now bodies)) items.now)))) }
 {
@@ -277,10 +277,10 @@ pub fn add_stmts(
 // Adds the scopes of the clauses of a `switch`.
 #[cycle(scoping)]
 fn add_clauses(
-    known: &Known,
+    known: &ScopeContext,
     made: &mut Scoping,
     clauses: &[Clause],
-    around: Around,
+    around: ScopePosition,
 ) -> Result<(), AllocError>
     ensures { OnOk result ((bodies : ℕ → Stmts) → Scoped known.now.texts.now known.now.closed.now around made.old.scopes.items made.old.closed made.new.scopes.items made.new.closed (count_clauses (clauses_of (map (clause_of (under known.now.texts.now bodies)) clauses.now))) (scopes_clauses (clauses_of (map (clause_of (under known.now.texts.now bodies)) clauses.now)))) }
 {

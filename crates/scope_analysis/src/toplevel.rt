@@ -15,8 +15,8 @@ ghost use Rattle.scope_analysis.specs.Scopes as defined;
 ghost use Rattle.scope_analysis.specs.Walked.{AreScopes};
 
 use crate::names::{DeclaredName, push_top_lexical_names, push_var_names};
-use crate::place::Known;
-use crate::scoping::{Around, Scoping, add_stmts};
+use crate::place::ScopeContext;
+use crate::scoping::{ScopePosition, Scoping, add_stmts};
 use crate::texts::first_ones;
 use script_grammar::tree::{Func, Stmt};
 use std::alloc::{AllocError, Global};
@@ -140,12 +140,12 @@ pub fn top_scopes(
         env_slots: 0,
     })?;
     let mut made = Scoping { scopes, closed: 0 };
-    let known = Known {
+    let known = ScopeContext {
         alloc,
         texts,
         closed: &inner,
     };
-    let around = Around {
+    let around = ScopePosition {
         parent: Some(0),
         frame: 0,
     };

@@ -4,14 +4,14 @@ use Rattle.stencil_data.specs.LinkView.{LinkView}
 use Rattle.stencil_data.specs.Named.{NamedScope}
 use Rattle.stencil_data.specs.StandsFor.{named_scope}
 use Rattle.emit_stmts.specs.Frames.{scope_at, chain_link}
-use Rattle.scope_inner.specs.declared.places.Place.{Place}
+use Rattle.scope_inner.specs.declared.places.InnerContext.{InnerContext}
 
 -- the scopes of the function, and the chain of those around
 pub record Spot : Type 0 where
   pub scopes : List NamedScope
   pub chain : List LinkView
 
-abbrev pub spot_of : Place → Spot
+abbrev pub spot_of : InnerContext → Spot
 spot_of p = record { scopes = map (named_scope p.texts.now) p.scopes.now; chain = p.chain.now }
 
 abbrev pub scope_in : Spot → ℕ → NamedScope

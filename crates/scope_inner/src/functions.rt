@@ -6,7 +6,7 @@ ghost use Rattle.scope_inner.specs.StmtFinds.{BodyFinds, BracedFinds};
 
 use crate::exprs::find_expr;
 use crate::parts::find_params;
-use crate::places::{Place, Walk, enter, is_of_name, is_of_top, is_of_vars, within};
+use crate::places::{InnerContext, Walk, enter, is_of_name, is_of_top, is_of_vars, within};
 use crate::sites::FunctionSite;
 use crate::stmts::find_stmts;
 use script_grammar::tree::{Func, FuncBody, Stmt};
@@ -24,7 +24,7 @@ pub fn script_sites<'a>(
     ensures { IfOk result (λ sites. AreScriptSites texts.now scopes.now items.now sites.items) }
 {
     let chain = Chain::global(alloc)?;
-    let place = Place {
+    let place = InnerContext {
         alloc,
         texts,
         scopes,
@@ -39,7 +39,11 @@ pub fn script_sites<'a>(
 }
 
 // In a body in braces, with the scopes of its var names and of the lexical names at its top.
-fn find_braced<'a>(out: &mut Walk<'a>, place: &Place, items: &'a [Stmt]) -> Result<(), AllocError>
+fn find_braced<'a>(
+    out: &mut Walk<'a>,
+    place: &InnerContext,
+    items: &'a [Stmt],
+) -> Result<(), AllocError>
     ensures { OnOk result (BracedFinds (spot_of place.now) out.old out.new items.now) }
 {
     let has_vars = is_of_vars(place, out.next);
@@ -53,7 +57,11 @@ fn find_braced<'a>(out: &mut Walk<'a>, place: &Place, items: &'a [Stmt]) -> Resu
 }
 
 // In the body of a function, where it was read.
-fn find_body<'a>(out: &mut Walk<'a>, place: &Place, body: &'a FuncBody) -> Result<(), AllocError>
+fn find_body<'a>(
+    out: &mut Walk<'a>,
+    place: &InnerContext,
+    body: &'a FuncBody,
+) -> Result<(), AllocError>
     ensures { OnOk result (BodyFinds (spot_of place.now) out.old out.new body.now) }
 {
     match body {
@@ -75,7 +83,7 @@ pub fn function_sites<'a>(
 ) -> Result<Vec<FunctionSite<'a>>, AllocError>
     ensures { IfOk result (λ sites. AreFunctionSites texts.now scopes.now chain.now func.now sites.items) }
 {
-    let outside = Place {
+    let outside = InnerContext {
         alloc,
         texts,
         scopes,

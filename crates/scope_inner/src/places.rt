@@ -10,7 +10,7 @@ use stencil_data::{Chain, ScopeData, ScopeKind, Text};
 
 /// The scopes of the function that is walked, the texts of all atoms, and the chain of the scopes around.
 #[derive(Clone, Copy)]
-pub struct Place<'a> {
+pub struct InnerContext<'a> {
     pub alloc: Global,
     pub texts: &'a [Text],
     pub scopes: &'a [ScopeData],
@@ -25,10 +25,10 @@ pub struct Walk<'a> {
 }
 
 /// The place inside a scope that was entered.
-pub fn within<'a, 'b: 'a>(place: &Place<'b>, chain: &'a Chain) -> Place<'a>
+pub fn within<'a, 'b: 'a>(place: &InnerContext<'b>, chain: &'a Chain) -> InnerContext<'a>
     ensures { spot_of result ≡ inside_spot chain.now (spot_of place.now) }
 {
-    Place {
+    InnerContext {
         alloc: place.alloc,
         texts: place.texts,
         scopes: place.scopes,
@@ -48,7 +48,7 @@ fn number_behind(number: usize, scopes: &[ScopeData]) -> usize
 }
 
 /// Enters the next scope, where there is one. Answers the chain inside.
-pub fn enter(next: &mut usize, place: &Place, is_there: bool) -> Result<Chain, AllocError>
+pub fn enter(next: &mut usize, place: &InnerContext, is_there: bool) -> Result<Chain, AllocError>
     ensures next { OnOk result (next.old + entered_count is_there ≤ length (spot_of place.now).scopes → next.new ≡ next.old + entered_count is_there) }
     ensures chain { IfOk result (λ chain. chain ≡ entered (spot_of place.now) next.old is_there) }
 {
@@ -63,7 +63,7 @@ pub fn enter(next: &mut usize, place: &Place, is_there: bool) -> Result<Chain, A
 }
 
 /// Whether the scope with this number is that of a function's name.
-pub fn is_of_name(place: &Place, number: usize) -> bool
+pub fn is_of_name(place: &InnerContext, number: usize) -> bool
     ensures { result ≡ own.is_of_name (scope_in (spot_of place.now) number).kind }
 {
     match place.scopes.get(number) {
@@ -73,7 +73,7 @@ pub fn is_of_name(place: &Place, number: usize) -> bool
 }
 
 /// Whether the scope with this number is that of the var names of a function's body.
-pub fn is_of_vars(place: &Place, number: usize) -> bool
+pub fn is_of_vars(place: &InnerContext, number: usize) -> bool
     ensures { result ≡ own.is_of_vars (scope_in (spot_of place.now) number).kind }
 {
     match place.scopes.get(number) {
@@ -83,7 +83,7 @@ pub fn is_of_vars(place: &Place, number: usize) -> bool
 }
 
 /// Whether the scope with this number is that of the lexical names at the top of a function's body.
-pub fn is_of_top(place: &Place, number: usize) -> bool
+pub fn is_of_top(place: &InnerContext, number: usize) -> bool
     ensures { result ≡ own.is_of_top (scope_in (spot_of place.now) number).kind }
 {
     match place.scopes.get(number) {

@@ -8,7 +8,7 @@ ghost use Rattle.scope_inner.specs.StmtFinds.{BlockFinds, ClausesFind, ElseFinds
 
 use crate::exprs::{find_expr, find_maybe, find_named};
 use crate::parts::{find_binds, find_each, find_init};
-use crate::places::{Place, Walk, enter, within};
+use crate::places::{InnerContext, Walk, enter, within};
 use emit_stmts::declares::{block_declares, clauses_declare, each_declares, init_declares};
 use script_grammar::tree::{Clause, Each, Expr, Ident, Init, Stmt};
 use std::alloc::AllocError;
@@ -16,7 +16,11 @@ use stencil_data::FuncKind;
 
 /// The functions directly in a statement, in the order of the source.
 #[cycle(stmts)]
-pub fn find_stmt<'a>(out: &mut Walk<'a>, place: &Place, tree: &'a Stmt) -> Result<(), AllocError>
+pub fn find_stmt<'a>(
+    out: &mut Walk<'a>,
+    place: &InnerContext,
+    tree: &'a Stmt,
+) -> Result<(), AllocError>
     ensures { OnOk result (StmtFinds (spot_of place.now) out.old out.new tree.now) }
 {
     match tree {
@@ -75,7 +79,7 @@ pub fn find_stmt<'a>(out: &mut Walk<'a>, place: &Place, tree: &'a Stmt) -> Resul
 #[cycle(stmts)]
 pub fn find_stmts<'a>(
     out: &mut Walk<'a>,
-    place: &Place,
+    place: &InnerContext,
     items: &'a [Stmt],
 ) -> Result<(), AllocError>
     ensures { OnOk result (StmtsFind (spot_of place.now) out.old out.new items.now) }
@@ -88,7 +92,11 @@ pub fn find_stmts<'a>(
 
 // In statements with the scope of the names that are declared among them.
 #[cycle(stmts)]
-fn find_block<'a>(out: &mut Walk<'a>, place: &Place, items: &'a [Stmt]) -> Result<(), AllocError>
+fn find_block<'a>(
+    out: &mut Walk<'a>,
+    place: &InnerContext,
+    items: &'a [Stmt],
+) -> Result<(), AllocError>
     ensures { OnOk result (BlockFinds (spot_of place.now) out.old out.new items.now) }
 {
     let chain = enter(&mut out.next, place, block_declares(items))?;
@@ -101,7 +109,7 @@ fn find_block<'a>(out: &mut Walk<'a>, place: &Place, items: &'a [Stmt]) -> Resul
 #[cycle(stmts)]
 fn find_else<'a>(
     out: &mut Walk<'a>,
-    place: &Place,
+    place: &InnerContext,
     other: &'a Option<Box<Stmt>>,
 ) -> Result<(), AllocError>
     ensures { OnOk result (ElseFinds (spot_of place.now) out.old out.new other.now) }
@@ -115,7 +123,7 @@ fn find_else<'a>(
 #[cycle(stmts)]
 fn find_for<'a>(
     out: &mut Walk<'a>,
-    place: &Place,
+    place: &InnerContext,
     body: &'a Stmt,
     init: &'a Init,
     test: &'a Option<Expr>,
@@ -135,7 +143,7 @@ fn find_for<'a>(
 #[cycle(stmts)]
 fn find_for_in<'a>(
     out: &mut Walk<'a>,
-    place: &Place,
+    place: &InnerContext,
     body: &'a Stmt,
     each: &'a Each,
     over: &'a Expr,
@@ -154,7 +162,7 @@ fn find_for_in<'a>(
 #[cycle(stmts)]
 fn find_switch<'a>(
     out: &mut Walk<'a>,
-    place: &Place,
+    place: &InnerContext,
     clauses: &'a [Clause],
 ) -> Result<(), AllocError>
     ensures { OnOk result (SwitchFinds (spot_of place.now) out.old out.new clauses.now) }
@@ -168,7 +176,7 @@ fn find_switch<'a>(
 #[cycle(stmts)]
 fn find_clauses<'a>(
     out: &mut Walk<'a>,
-    place: &Place,
+    place: &InnerContext,
     clauses: &'a [Clause],
 ) -> Result<(), AllocError>
     ensures { OnOk result (ClausesFind (spot_of place.now) out.old out.new clauses.now) }
@@ -184,7 +192,7 @@ fn find_clauses<'a>(
 #[cycle(stmts)]
 fn find_handler<'a>(
     out: &mut Walk<'a>,
-    place: &Place,
+    place: &InnerContext,
     items: &'a [Stmt],
     param: Option<Ident>,
 ) -> Result<(), AllocError>

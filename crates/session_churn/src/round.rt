@@ -7,7 +7,7 @@ ghost use Rattle.session_churn.specs.Visits.{CanBeVisited, IsVisitOf};
 use crate::count::count_instructions;
 use crate::hands::{Hand, idle_hands};
 use crate::order::rising_tasks;
-use crate::visits::{Found, Visit, found_by};
+use crate::visits::{RoundSum, Visit, found_by};
 use compile_tally::Sheet;
 use helper_tasks::{Gate, Job, run_tasks};
 use relazy_board::RelazyBoard;
@@ -72,7 +72,7 @@ pub(crate) fn visit_all<R: Threads + Wait + Sync, G: Gate>(
     functions: u32,
     workers: u32,
     gate: &G,
-) -> Result<Found, AllocError>
+) -> Result<RoundSum, AllocError>
     requires can { CanBeVisited board.now functions }
     requires workers { (1 ≤ workers) × (workers ≤ 16) }
     ensures instructions { IfOk result (λ found. HaveInstructions board.now.bytes found.instructions) }

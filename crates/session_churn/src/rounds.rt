@@ -5,7 +5,7 @@ ghost use Rattle.compile_initial.specs.Initial.{IsInitialOf};
 ghost use Rattle.session_churn.specs.Counts.{HaveInstructions};
 
 use crate::round::visit_all;
-use crate::visits::Found;
+use crate::visits::RoundSum;
 use compile_initial::InitialStencil;
 use helper_tasks::Gate;
 use relazy_board::RelazyBoard;
@@ -23,7 +23,7 @@ pub(crate) fn visit_in_rounds<R: Threads + Wait + Sync, G: Gate>(
     workers: u32,
     gate: &G,
     count: u32,
-) -> Result<Found, AllocError>
+) -> Result<RoundSum, AllocError>
     requires initial { IsInitialOf bytes.now initial.now }
     requires few { length initial.now.parts.records ≤ 2 ^ 19 }
     requires workers { (1 ≤ workers) × (workers ≤ 16) }
@@ -37,7 +37,7 @@ pub(crate) fn visit_in_rounds<R: Threads + Wait + Sync, G: Gate>(
     let mut found = visit_all(rt, alloc, &board, functions, workers, gate)?;
     for _ in 1..count {
         let again = visit_all(rt, alloc, &board, functions, workers, gate)?;
-        found = Found {
+        found = RoundSum {
             instructions: again.instructions,
             compiled: found.compiled + again.compiled,
         };

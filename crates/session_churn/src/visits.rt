@@ -14,20 +14,20 @@ pub struct Visit {
 
 /// What all visits of a round found together.
 #[derive(Clone, Copy, Debug)]
-pub struct Found {
+pub struct RoundSum {
     pub instructions: u128,
     pub compiled: u64,
 }
 
 /// What these visits found together.
-pub(crate) fn found_by(visits: &[Visit]) -> Found
+pub(crate) fn found_by(visits: &[Visit]) -> RoundSum
     requires few { length visits.now ≤ 2 ^ 19 }
     requires each { All IsFew visits.now }
     ensures instructions { result.instructions ≡ sum (map size_of visits.now) }
     ensures size { result.instructions ≤ 2 ^ 83 }
     ensures compiled { result.compiled ≤ 2 ^ 38 }
 {
-    let mut found = Found {
+    let mut found = RoundSum {
         instructions: 0,
         compiled: 0,
     };

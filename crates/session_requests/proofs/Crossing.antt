@@ -15,7 +15,7 @@ use Rattle.stencil_data.proofs.indexed_link.IndexedLink.TheSendSync as indexed
 use Rattle.stencil_data.proofs.stencils.FunctionStencil.TheSendSync as stencil
 use Rattle.stencil_data.proofs.stencils.InitialParts.TheSendSync as parts
 use Rattle.stencil_data.proofs.texts.Text.TheSendSync as text
-use Rattle.compile_initial.proofs.Around.TheSendSync as around
+use Rattle.compile_initial.proofs.Nesting.TheSendSync as around
 use Rattle.compile_initial.specs.contracts.InitialStencil as initial
 use Rattle.lazy_compile.specs.contracts.Delazified as made
 use Rattle.stencil_board.specs.declared.sources.Sources.{Ghosts}

@@ -2,7 +2,7 @@
 use Rattle.std.proofs.Common.{◌≡◌, ℕ, true, false, List, [], ◌∷◌, ◌++◌, length, refl, sym, ◌∙◌, ap, codes, inl, inr, arith}
 use Rattle.parser_atoms.specs.Places.{Interns}
 use Rattle.scope_analysis.specs.DeclaredNames.{has_text}
-use Rattle.parse_track.specs.declared.region.Known.{Known}
+use Rattle.parse_track.specs.declared.region.WellKnownAtoms.{WellKnownAtoms}
 use Rattle.track_atoms.specs.Known.{known_atoms}
 use Rattle.track_atoms.proofs.Found.{has_at}
 
@@ -43,11 +43,11 @@ five = codes "eval" ∷ codes "arguments" ∷ codes ".this" ∷ codes "__proto__
 abbrev six : List (List ℕ)
 six = codes "eval" ∷ codes "arguments" ∷ codes ".this" ∷ codes "__proto__" ∷ codes "get" ∷ codes "set" ∷ []
 
-abbrev made : (a b c d e f g : ℕ) → Known
+abbrev made : (a b c d e f g : ℕ) → WellKnownAtoms
 made a b c d e f g = record { eval = a; arguments = b; this = c; proto = d; get = e; set = f; strict = g }
 
 -- what has these seven numbers
-same : (known : Known) → known.eval ≡ 0 → known.arguments ≡ 1 → known.this ≡ 2 → known.proto ≡ 3 → known.get ≡ 4 → known.set ≡ 5 → known.strict ≡ 6 → known ≡ known_atoms
+same : (known : WellKnownAtoms) → known.eval ≡ 0 → known.arguments ≡ 1 → known.this ≡ 2 → known.proto ≡ 3 → known.get ≡ 4 → known.set ≡ 5 → known.strict ≡ 6 → known ≡ known_atoms
 same known a b c d e f g =
     ap (λ (n : ℕ). made n known.arguments known.this known.proto known.get known.set known.strict) a
     ∙ ap (λ (n : ℕ). made 0 n known.this known.proto known.get known.set known.strict) b
@@ -57,7 +57,7 @@ same known a b c d e f g =
     ∙ ap (λ (n : ℕ). made 0 1 2 3 4 n known.strict) f
     ∙ ap (λ (n : ℕ). made 0 1 2 3 4 5 n) g
 
-pub first_known : (t0 t1 t2 t3 t4 t5 t6 t7 : List (List ℕ)) (known : Known) → length t0 ≡ 0
+pub first_known : (t0 t1 t2 t3 t4 t5 t6 t7 : List (List ℕ)) (known : WellKnownAtoms) → length t0 ≡ 0
     → Interns t0 t1 (codes "eval") known.eval → Interns t1 t2 (codes "arguments") known.arguments → Interns t2 t3 (codes ".this") known.this
     → Interns t3 t4 (codes "__proto__") known.proto → Interns t4 t5 (codes "get") known.get → Interns t5 t6 (codes "set") known.set
     → Interns t6 t7 (codes "use strict") known.strict → known ≡ known_atoms

@@ -4,7 +4,7 @@ use Rattle.std.specs.Prelude.{◌||◌, ◌&&◌, slice_get}
 use Rattle.std.specs.Str.{bytes_eq}
 use Rattle.std.proofs.Math.Bool.{or-true}
 use Rattle.std.proofs.lemmas.Bool.{eq-eqb}
-use Rattle.parse_track.specs.declared.region.Known.{Known}
+use Rattle.parse_track.specs.declared.region.WellKnownAtoms.{WellKnownAtoms}
 use Rattle.scope_analysis.specs.DeclaredNames.{has_text}
 use Rattle.scope_analysis.specs.FunctionTree.{KnowsNames}
 use Rattle.track_atoms.specs.Known.{HasWords}
@@ -18,7 +18,7 @@ has_at [] k text h = absurd (cc)
 has_at (t ∷ ts) zero text h = ap (λ (x : List ℕ). bytes_eq x text || has_text ts text) (let e : t ≡ text = cc in e) ∙ ap (λ (b : Bool). b || has_text ts text) (text_same text)
 has_at (t ∷ ts) (suc k) text h = ap (λ (b : Bool). bytes_eq t text || b) (has_at ts k text h) ∙ or-true (bytes_eq t text)
 
-pub knows_names : (texts : List (List ℕ)) (known : Known) → length texts < 2 ^ 32 → HasWords texts known → KnowsNames texts
+pub knows_names : (texts : List (List ℕ)) (known : WellKnownAtoms) → length texts < 2 ^ 32 → HasWords texts known → KnowsNames texts
 knows_names texts known few h = record {
   few = few;
   arguments = has_at texts known.arguments (codes "arguments") h.arguments;

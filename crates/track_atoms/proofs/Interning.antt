@@ -4,7 +4,7 @@ use Rattle.std.proofs.lemmas.List.{append-nil}
 use Rattle.std.specs.Prelude.{Some, slice_get}
 use Rattle.bytecode_buf.specs.InRange.{TextsSmall}
 use Rattle.parser_atoms.specs.Places.{Interns}
-use Rattle.parse_track.specs.declared.region.Known.{Known}
+use Rattle.parse_track.specs.declared.region.WellKnownAtoms.{WellKnownAtoms}
 use Rattle.script_scanner.specs.Stands.{Keeps}
 use Rattle.track_atoms.specs.Known.{HasWords}
 
@@ -52,7 +52,7 @@ none_small [] h = tt
 none_small (t ∷ ts) h = absurd (omega (arith, h))
 
 -- the known words stay where other texts join
-pub words_kept : (before after : List (List ℕ)) (known : Known) → Keeps before after → HasWords before known → HasWords after known
+pub words_kept : (before after : List (List ℕ)) (known : WellKnownAtoms) → Keeps before after → HasWords before known → HasWords after known
 words_kept before after known k h = record {
   eval = still_kept before after _ known.eval k h.eval;
   arguments = still_kept before after _ known.arguments k h.arguments;

@@ -2,7 +2,7 @@
 //!
 //! It stands on parser_atoms, which names texts by atoms, and on parse_track, which says which words there are. Whoever
 //! scans texts begins its list of them here, so that each of these words has an atom whether or not it is written.
-//! [`known_words`] interns them first of all, so their atoms are 0 to 6; `specs/Known.antt` says which is which.
+//! [`known_words`] interns them first of all, so their atoms are 0 to 6; `specs/WellKnownAtoms.antt` says which is which.
 #![tactic(auto)]
 
 ghost use Rattle.std.specs.Prelude.{◌≡◌, ◌≤◌, length, IfOk, OnOk};
@@ -10,7 +10,7 @@ ghost use Rattle.bytecode_buf.specs.InRange.{TextsSmall};
 ghost use Rattle.parser_atoms.specs.Places.{AreWithoutEquals};
 ghost use Rattle.track_atoms.specs.Known.{HasWords, known_atoms};
 
-use parse_track::region::Known;
+use parse_track::region::WellKnownAtoms;
 use parser_atoms::Atoms;
 use scope_analysis::special_names::{ARGUMENTS, THIS};
 use std::alloc::{AllocError, Global};
@@ -31,7 +31,7 @@ const SET: [u16; 3] = [115, 101, 116];
 const STRICT: [u16; 10] = [117, 115, 101, 32, 115, 116, 114, 105, 99, 116];
 
 /// The atoms of the known words, in a list of texts that had none: 0 to 6, in the order of the fields. Only memory can fail.
-pub fn known_words(alloc: Global, atoms: &mut Atoms) -> Result<Known, AllocError>
+pub fn known_words(alloc: Global, atoms: &mut Atoms) -> Result<WellKnownAtoms, AllocError>
     requires { length atoms.old ≡ 0 }
     ensures fixed { IfOk result (λ known. known ≡ known_atoms) }
     ensures words { IfOk result (HasWords atoms.new) }
@@ -46,7 +46,7 @@ pub fn known_words(alloc: Global, atoms: &mut Atoms) -> Result<Known, AllocError
     let get = atoms.intern(alloc, &GET)?;
     let set = atoms.intern(alloc, &SET)?;
     let strict = atoms.intern(alloc, &STRICT)?;
-    Ok(Known {
+    Ok(WellKnownAtoms {
         eval,
         arguments,
         this,

@@ -1,5 +1,5 @@
 use Rattle.std.proofs.Common.{◌∙◌, ◌-◌, ◌<◌, length, sym, subst, arith}
-use Rattle.compile_initial.specs.declared.Around.{Around}
+use Rattle.compile_initial.specs.declared.Nesting.{Nesting}
 use Rattle.lazy_function.proofs.Numbered.{any_default, as_many_around, found_at}
 use Rattle.lazy_function.proofs.around_of.Goals as goal
 
@@ -21,4 +21,4 @@ returns-clause-is c =
 
 pub returns-clause-before : goal.returns-clause-before
 returns-clause-before c =
-    subst (λ (a : Around). a.number < c.args.number) (sym (returns-clause-is c)) (found_at c.requires.initial.0 c.args.initial.now c.requires.initial.1 c.args.number c.requires.number).around.before
+    subst (λ (a : Nesting). a.number < c.args.number) (sym (returns-clause-is c)) (found_at c.requires.initial.0 c.args.initial.now c.requires.initial.1 c.args.number c.requires.number).around.before

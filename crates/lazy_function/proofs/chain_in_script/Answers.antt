@@ -1,6 +1,6 @@
 use Rattle.std.proofs.Common.{◌∙◌, ◌<◌, length, get_or, sym, ap, subst, arith}
 use Rattle.std.proofs.lemmas.Option.{get_or_from_slice_get, slice_get_within}
-use Rattle.compile_initial.specs.declared.Around.{Around}
+use Rattle.compile_initial.specs.declared.Nesting.{Nesting}
 use Rattle.lazy_function.specs.Numbered.{around_in}
 use Rattle.lazy_function.proofs.Numbered.{found_at, is_chain, place_in_script}
 use Rattle.lazy_function.proofs.chain_in_script.Goals as goal
@@ -9,7 +9,7 @@ pub index-requires : goal.index-requires
 index-requires c =
     let made = c.args.initial.now in
     let lt : c.around_of-around.result.place < length made.chains.items =
-    subst (λ (a : Around). a.place < length made.chains.items) (sym c.around_of-around.ensures.is)
+    subst (λ (a : Nesting). a.place < length made.chains.items) (sym c.around_of-around.ensures.is)
     (slice_get_within made.chains.items (around_in made c.args.number).place (found_at c.requires.initial.0 made c.requires.initial.1 c.args.number c.requires.number).s.chain
     (place_in_script c.requires.initial.0 made c.requires.initial.1 c.args.number c.requires.number c.requires.script)) in
     omega (arith, lt)
@@ -19,6 +19,6 @@ returns c = λ bytes.
     let made = c.args.initial.now in
     is_chain bytes made c.args.number c.requires.number c.index.result.now
     (λ is.
-    c.index.ensures ∙ (ap (λ (a : Around). get_or made.chains.items a.place c.index.result.now) c.around_of-around.ensures.is
+    c.index.ensures ∙ (ap (λ (a : Nesting). get_or made.chains.items a.place c.index.result.now) c.around_of-around.ensures.is
     ∙ get_or_from_slice_get made.chains.items (around_in made c.args.number).place (found_at bytes made is c.args.number c.requires.number).s.chain c.index.result.now
     (place_in_script bytes made is c.args.number c.requires.number c.requires.script)))

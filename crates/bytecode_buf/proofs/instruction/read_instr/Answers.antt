@@ -1,5 +1,5 @@
 use Rattle.std.proofs.Common.{◌∙◌, ap}
-use Rattle.bytecode_buf.specs.declared.opcode.Row.{Row}
+use Rattle.bytecode_buf.specs.declared.opcode.OpRow.{OpRow}
 use Rattle.bytecode_buf.specs.Width.{first_width, second_width}
 use Rattle.bytecode_buf.proofs.Decode.{instr_is_decoded}
 use Rattle.bytecode_buf.proofs.instruction.read_instr.Goals as goal
@@ -7,6 +7,6 @@ use Rattle.bytecode_buf.proofs.instruction.read_instr.Goals as goal
 pub returns : goal.returns
 returns c =
     instr_is_decoded c.args.op c.args.at c.args.behind.now c.make_instr.result c.read_number-a.result c.read_number-b.result c.first_width-first.result c.second_width-second.result
-    (c.first_width-first.ensures ∙ ap (λ (r : Row). first_width r.shape) c.row.ensures)
-    (c.second_width-second.ensures ∙ ap (λ (r : Row). second_width r.shape) c.row-2.ensures)
+    (c.first_width-first.ensures ∙ ap (λ (r : OpRow). first_width r.shape) c.row.ensures)
+    (c.second_width-second.ensures ∙ ap (λ (r : OpRow). second_width r.shape) c.row-2.ensures)
     c.if-behind-first.false c.read_number-a.ensures c.read_number-b.ensures c.make_instr.ensures

@@ -1,5 +1,5 @@
 use Rattle.std.proofs.Common.{◌≡◌, List, ap, sym, ◌∙◌, subst, arith}
-use Rattle.bytecode_buf.specs.declared.opcode.Row.{Row}
+use Rattle.bytecode_buf.specs.declared.opcode.OpRow.{OpRow}
 use Rattle.bytecode_buf.specs.declared.opcode.Shape.TheVariants as shape
 use Rattle.bytecode_buf.specs.Width.{shape_of}
 use Rattle.stencil_xdr_specs.specs.Image.{Item}
@@ -15,7 +15,7 @@ part_of-requires-clause-inside g c = (stands c.args.code.now c.args.at c.args.in
 
 pub returns-in_ok-number-in-Atom : goal.returns-in_ok-number-in-Atom
 returns-in_ok-number-in-Atom g c =
-    let named : shape_of c.args.instr.op ≡ shape.Atom = sym (ap (λ (r : Row). r.shape) c.row.ensures) ∙ c.in-Atom.is in
+    let named : shape_of c.args.instr.op ≡ shape.Atom = sym (ap (λ (r : OpRow). r.shape) c.row.ensures) ∙ c.in-Atom.is in
     at_last c.atom.result c.atom.ensures (λ h. subst (λ (l : List Item). g.S.Sink.takes c.args.sink.now l c.atom.new.self)
     (items_named c.args.code.now c.args.at c.args.instr (stands c.args.code.now c.args.at c.args.instr (λ k. omega (arith, c.type_inv.code k)) c.requires) named)
     (g.met.S.Sink.takes_both _ _ _ _ _ (rw c.byte.ensures at c.in_ok-number-in-Atom.ensures) h))
@@ -23,4 +23,4 @@ returns-in_ok-number-in-Atom g c =
 pub returns-in_default : goal.returns-in_default
 returns-in_default g c =
     at_last c.bytes.result (rw c.part_of.ensures at c.bytes.ensures) (λ h. subst (λ (l : List Item). g.S.Sink.takes c.args.sink.now l c.bytes.new.self)
-    (items_plain c.args.code.now c.args.at c.args.instr (stands c.args.code.now c.args.at c.args.instr (λ k. omega (arith, c.type_inv.code k)) c.requires) (λ e. c.in_default.not-Atom (ap (λ (r : Row). r.shape) c.row.ensures ∙ e))) h)
+    (items_plain c.args.code.now c.args.at c.args.instr (stands c.args.code.now c.args.at c.args.instr (λ k. omega (arith, c.type_inv.code k)) c.requires) (λ e. c.in_default.not-Atom (ap (λ (r : OpRow). r.shape) c.row.ensures ∙ e))) h)

@@ -1,8 +1,8 @@
 use denote.Param.Weighed.{most}
 use Rattle.std.proofs.Common.{◌≡◌, ◌∙◌, ℕ, ◌+◌, ap, arith, drop, length, refl, suc}
 use Rattle.std.proofs.Math.ListN.{set}
-use Rattle.parse_handlers.specs.declared.found.Found.{size-Found}
-use Rattle.parse_function_list.specs.declared.list.FoundFunction.{FoundFunction}
+use Rattle.parse_handlers.specs.declared.found.FoundFunction.{size-FoundFunction}
+use Rattle.parse_function_list.specs.declared.list.ListedFunction.{ListedFunction}
 use Rattle.parse_function_list.specs.Listing.{head_of}
 use Rattle.parse_function_list.specs.Weight.{weight}
 use Rattle.parse_function_list.proofs.Depths.{most_depth, weight_push}
@@ -22,7 +22,7 @@ list_all-loop-function-preserved t c =
 pub list_body-list_all-requires : goal.list_body-list_all-requires
 list_body-list_all-requires t c =
     let e = ap weight c.in-Some.ensures.items ∙ weight_push _ c.in-Some.body in
-    let d = ap (most size-Found) c.deref.ensures.value ∙ most_depth c.in-Some.body.found.found.items in
+    let d = ap (most size-FoundFunction) c.deref.ensures.value ∙ most_depth c.in-Some.body.found.found.items in
     omega (arith, e, d, c.decreases)
 
 pub list_body-returns-in_ok-list_all-in-Some-clause-lighter : goal.list_body-returns-in_ok-list_all-in-Some-clause-lighter
@@ -52,5 +52,5 @@ list_one-returns-clause-lists t c =
     one_listed c.args.found.now c.listed-unfilled.result inner c.in_ok-push-2.ensures.items refl refl number c.new-inner.ensures.items
     c.in_ok-list_inside.ensures.lists
     (ap (λ (k : ℕ). set items k c.listed.result) before
-    ∙ ap (λ (f : FoundFunction). set items (length c.args.self.now.functions.items) f) (c.listed.ensures ∙ ap (λ (k : ℕ). head_of c.args.found.now c.args.around k inner) place))
+    ∙ ap (λ (f : ListedFunction). set items (length c.args.self.now.functions.items) f) (c.listed.ensures ∙ ap (λ (k : ℕ). head_of c.args.found.now c.args.around k inner) place))
     refl refl c.in_ok-push.ensures.items

@@ -2,7 +2,7 @@ use Rattle.std.proofs.Common.{rules, ◌≡◌, ◌∙◌, ◌+◌, ◌≤◌, l
 use Rattle.std.specs.Arc.{arc_value}
 use Rattle.std.proofs.lemmas.Result.{on_ok_weaker}
 use Rattle.lazy_compile.specs.declared.Delazified.{Delazified}
-use Rattle.compile_initial.specs.declared.Around.{Around}
+use Rattle.compile_initial.specs.declared.Nesting.{Nesting}
 use Rattle.compile_initial.specs.Initial.{IsInitialOf}
 use Rattle.lazy_function.specs.Numbered.{IsChainOf, IsCompiledFunction, around_in}
 use Rattle.stencil_board.specs.Files.{IsFilled, file_at}
@@ -106,7 +106,7 @@ chain_inside-chain-requires-clause-made g t c =
     let board = c.args.self.now in (
       board.bytes,
       subst (λ (b : BoardView). IsInitialOf board.bytes b.initial) (sym c.self.view_is) c.requires.board.initial,
-      subst (λ (a : Around). IsCompiledFunction board.bytes a.number c.deref.result.now) c.around_of-around.ensures.is
+      subst (λ (a : Nesting). IsCompiledFunction board.bytes a.number c.deref.result.now) c.around_of-around.ensures.is
           (subst (λ (d : Delazified). IsCompiledFunction board.bytes c.around_of-around.result.number d) (sym c.deref.ensures) c.in_ok-outer.ensures.compiled),
     )
 
@@ -115,7 +115,7 @@ fill-requires-2-clause-chain g t c =
     let board = c.args.self.now in
     subst (λ (b : BoardView). IsChainOf board.bytes b.initial c.args.number c.chain_inside-chain.result.now) c.self.view_is
     (c.chain_inside-chain.ensures board.bytes
-    (subst (λ (a : Around). IsCompiledFunction board.bytes a.number c.deref.result.now) c.around_of-around.ensures.is
+    (subst (λ (a : Nesting). IsCompiledFunction board.bytes a.number c.deref.result.now) c.around_of-around.ensures.is
     (subst (λ (d : Delazified). IsCompiledFunction board.bytes c.around_of-around.result.number d) (sym c.deref.ensures) c.in_ok-outer.ensures.compiled)))
 
 pub fill-requires-2-clause-room : goal.fill-requires-2-clause-room

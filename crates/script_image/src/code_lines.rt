@@ -8,37 +8,35 @@ ghost use Rattle.script_image.specs.CodeLines as lines;
 ghost use Rattle.script_image.specs.Listed.{listed_script};
 ghost use Rattle.script_image.specs.ReadLines.{read_as, read_operand};
 
+use crate::chunk::{Chunk, flush, put, put_byte};
 use crate::names::name_of;
-use crate::quoted::{append_decimal, append_padded, append_quoted, append_range, text_at};
+use crate::quoted::{append_decimal, append_range, put_decimal, put_padded, put_quoted, text_at};
 use bytecode_buf::{Instr, Shape, decode_at};
 use std::alloc::AllocError;
 use stencil_data::{FunctionStencil, Text, TryNote};
 
-/// Appends a blank and a number.
-fn append_number(out: &mut Vec<u8>, number: u64) -> Result<(), AllocError>
-    ensures { OnOk result (out.new.items ≡ out.old.items ++ ((32 ∷ []) ++ decimal number)) }
+/// Puts a blank and a number after a chunk.
+fn put_number(out: &mut Vec<u8>, chunk: &mut Chunk, number: u64) -> Result<(), AllocError>
+    ensures { OnOk result (out.new.items ++ chunk.new.items ≡ (out.old.items ++ chunk.old.items) ++ ((32 ∷ []) ++ decimal number)) }
 {
-    out.extend_from_slice(b" ")?;
-    append_decimal(out, number)?;
-    Ok(())
+    put_byte(out, chunk, b' ')?;
+    put_decimal(out, chunk, number)
 }
 
-/// Appends a blank and a text in quotes.
-fn append_text(out: &mut Vec<u8>, units: &[u16]) -> Result<(), AllocError>
-    ensures { OnOk result (out.new.items ≡ out.old.items ++ lines.operand_text (command.Text units.now)) }
+/// Puts a blank and a text in quotes after a chunk.
+fn put_text(out: &mut Vec<u8>, chunk: &mut Chunk, units: &[u16]) -> Result<(), AllocError>
+    ensures { OnOk result (out.new.items ++ chunk.new.items ≡ (out.old.items ++ chunk.old.items) ++ lines.operand_text (command.Text units.now)) }
 {
-    out.extend_from_slice(b" ")?;
-    append_quoted(out, units)?;
-    Ok(())
+    put_byte(out, chunk, b' ')?;
+    put_quoted(out, chunk, units)
 }
 
-/// Appends hops and a slot, a blank before each.
-fn append_aliased(out: &mut Vec<u8>, hops: u64, slot: u64) -> Result<(), AllocError>
-    ensures { OnOk result (out.new.items ≡ out.old.items ++ lines.operand_text (command.Aliased hops slot)) }
+/// Puts hops and a slot after a chunk, a blank before each.
+fn put_aliased(out: &mut Vec<u8>, chunk: &mut Chunk, hops: u64, slot: u64) -> Result<(), AllocError>
+    ensures { OnOk result (out.new.items ++ chunk.new.items ≡ (out.old.items ++ chunk.old.items) ++ lines.operand_text (command.Aliased hops slot)) }
 {
-    append_number(out, hops)?;
-    append_number(out, slot)?;
-    Ok(())
+    put_number(out, chunk, hops)?;
+    put_number(out, chunk, slot)
 }
 
 /// The offset to which a jump at an offset goes.
@@ -48,45 +46,73 @@ fn target_of(at: usize, distance: i64) -> u64
     (at as u64).wrapping_add(distance.cast_unsigned())
 }
 
-/// Appends the operands of an instruction of this shape that was read at an offset.
-fn append_operand(
+/// Puts the operands of an instruction of this shape that was read at an offset after a chunk.
+fn put_operand(
     out: &mut Vec<u8>,
+    chunk: &mut Chunk,
     at: usize,
     shape: Shape,
     instr: Instr,
     texts: &[Text],
 ) -> Result<(), AllocError>
-    ensures { OnOk result (out.new.items ≡ out.old.items ++ lines.operand_text (read_operand texts.now at shape instr)) }
+    ensures { OnOk result (out.new.items ++ chunk.new.items ≡ (out.old.items ++ chunk.old.items) ++ lines.operand_text (read_operand texts.now at shape instr)) }
 {
     match shape {
         Shape::Nothing => (),
-        Shape::Whole8 => append_number(out, instr.a)?,
-        Shape::Whole16 => append_number(out, instr.a)?,
-        Shape::Whole24 => append_number(out, instr.a)?,
-        Shape::Whole32 => append_number(out, instr.a)?,
-        Shape::Whole64 => append_number(out, instr.a)?,
-        Shape::Atom => append_text(out, text_at(texts, instr.a))?,
-        Shape::Arg => append_number(out, instr.a)?,
-        Shape::Slot => append_number(out, instr.a)?,
-        Shape::Aliased => append_aliased(out, instr.a, instr.b)?,
-        Shape::Num => append_number(out, instr.a)?,
-        Shape::Argc => append_number(out, instr.a)?,
-        Shape::Place => append_number(out, instr.a)?,
-        Shape::Jump => append_number(out, target_of(at, instr.to))?,
+        Shape::Whole8 => put_number(out, chunk, instr.a)?,
+        Shape::Whole16 => put_number(out, chunk, instr.a)?,
+        Shape::Whole24 => put_number(out, chunk, instr.a)?,
+        Shape::Whole32 => put_number(out, chunk, instr.a)?,
+        Shape::Whole64 => put_number(out, chunk, instr.a)?,
+        Shape::Atom => put_text(out, chunk, text_at(texts, instr.a))?,
+        Shape::Arg => put_number(out, chunk, instr.a)?,
+        Shape::Slot => put_number(out, chunk, instr.a)?,
+        Shape::Aliased => put_aliased(out, chunk, instr.a, instr.b)?,
+        Shape::Num => put_number(out, chunk, instr.a)?,
+        Shape::Argc => put_number(out, chunk, instr.a)?,
+        Shape::Place => put_number(out, chunk, instr.a)?,
+        Shape::Jump => put_number(out, chunk, target_of(at, instr.to))?,
     }
     Ok(())
 }
 
-/// Appends the line of an instruction that was read at an offset.
-fn append_line(out: &mut Vec<u8>, at: usize, instr: Instr, texts: &[Text]) -> Result<(), AllocError>
-    ensures { OnOk result (out.new.items ≡ out.old.items ++ lines.line (read_as texts.now at instr)) }
+/// Puts the line of an instruction that was read at an offset after a chunk.
+fn put_line(
+    out: &mut Vec<u8>,
+    chunk: &mut Chunk,
+    at: usize,
+    instr: Instr,
+    texts: &[Text],
+) -> Result<(), AllocError>
+    ensures { OnOk result (out.new.items ++ chunk.new.items ≡ (out.old.items ++ chunk.old.items) ++ lines.line (read_as texts.now at instr)) }
 {
-    out.extend_from_slice(b"  ")?;
-    append_padded(out, at as u64)?;
-    out.extend_from_slice(b" ")?;
-    out.extend_from_slice(name_of(instr.op).as_bytes())?;
-    append_operand(out, at, instr.op.row().shape, instr, texts)?;
-    out.extend_from_slice(b"\n")?;
+    put(out, chunk, b"  ")?;
+    put_padded(out, chunk, at as u64)?;
+    put_byte(out, chunk, b' ')?;
+    put(out, chunk, name_of(instr.op).as_bytes())?;
+    put_operand(out, chunk, at, instr.op.row().shape, instr, texts)?;
+    put_byte(out, chunk, b'\n')
+}
+
+/// Puts the lines of the whole instructions of a code after a chunk.
+fn put_instructions(
+    out: &mut Vec<u8>,
+    chunk: &mut Chunk,
+    code: &[u8],
+    texts: &[Text],
+) -> Result<(), AllocError>
+    ensures { OnOk result (out.new.items ++ chunk.new.items ≡ (out.old.items ++ chunk.old.items) ++ lines.listing (command.listed texts.now code.now)) }
+{
+    let mut at = 0;
+    for _ in 0..code.len() {
+        match decode_at(code, at) {
+            None => return Ok(()),
+            Some(instr) => {
+                put_line(out, chunk, at, instr, texts)?;
+                at = instr.next;
+            }
+        }
+    }
     Ok(())
 }
 
@@ -94,17 +120,9 @@ fn append_line(out: &mut Vec<u8>, at: usize, instr: Instr, texts: &[Text]) -> Re
 fn append_instructions(out: &mut Vec<u8>, code: &[u8], texts: &[Text]) -> Result<(), AllocError>
     ensures { OnOk result (out.new.items ≡ out.old.items ++ lines.listing (command.listed texts.now code.now)) }
 {
-    let mut at = 0;
-    for _ in 0..code.len() {
-        match decode_at(code, at) {
-            None => return Ok(()),
-            Some(instr) => {
-                append_line(out, at, instr, texts)?;
-                at = instr.next;
-            }
-        }
-    }
-    Ok(())
+    let mut chunk = Chunk::new();
+    put_instructions(out, &mut chunk, code, texts)?;
+    flush(out, &mut chunk)
 }
 
 /// Appends the line of a try note.

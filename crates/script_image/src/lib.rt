@@ -1,7 +1,7 @@
 //! The listings of whole scripts: of their code, and of their scopes.
 //!
 //! It stands above the data of stencils and their code (stencil_data, bytecode_buf), and below what prints the answer to a
-//! command. It reads a merged stencil and appends to a list of bytes; it builds no line apart and copies none.
+//! command. It reads a merged stencil and appends to a list of bytes, some hundred at a time.
 //!
 //! The main contract: what [`code_text`] and [`scope_text`] append is the listing, by the definitions, of the value with
 //! texts that the merged stencil stands for, and [`instructions`] counts that value's instructions. After want of memory
@@ -10,6 +10,7 @@
 //! are compiled, and the records of the others.
 #![tactic(auto)]
 
+mod chunk;
 mod code_lines;
 mod counts;
 mod names;

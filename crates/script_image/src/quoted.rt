@@ -5,6 +5,7 @@ ghost use Rattle.std.specs.Fmt.{decimal};
 ghost use Rattle.stencil_data.specs.StandsFor as stands;
 ghost use Rattle.script_image.specs.Quoted as printed;
 
+use crate::chunk::{Chunk, flush, put, put_byte};
 use itoa::Buffer;
 use std::alloc::AllocError;
 use stencil_data::{Extent, Text};
@@ -18,6 +19,18 @@ pub fn append_decimal(out: &mut Vec<u8>, number: u64) -> Result<(), AllocError>
     Ok(())
 }
 
+/// Puts the decimal digits of a number after a chunk.
+pub(crate) fn put_decimal(
+    out: &mut Vec<u8>,
+    chunk: &mut Chunk,
+    number: u64,
+) -> Result<(), AllocError>
+    ensures { OnOk result (out.new.items ++ chunk.new.items ≡ (out.old.items ++ chunk.old.items) ++ decimal number) }
+{
+    let mut buffer = Buffer::new();
+    put(out, chunk, buffer.format(number).as_bytes())
+}
+
 /// n digits 0, at most five.
 fn zeros(count: usize) -> &'static [u8]
     requires { count ≤ 5 }
@@ -26,15 +39,18 @@ fn zeros(count: usize) -> &'static [u8]
     &b"00000"[..count]
 }
 
-/// Appends the decimal digits of a number, at least five.
-pub(crate) fn append_padded(out: &mut Vec<u8>, number: u64) -> Result<(), AllocError>
-    ensures { OnOk result (out.new.items ≡ out.old.items ++ printed.padded number) }
+/// Puts the decimal digits of a number after a chunk, at least five.
+pub(crate) fn put_padded(
+    out: &mut Vec<u8>,
+    chunk: &mut Chunk,
+    number: u64,
+) -> Result<(), AllocError>
+    ensures { OnOk result (out.new.items ++ chunk.new.items ≡ (out.old.items ++ chunk.old.items) ++ printed.padded number) }
 {
     let mut buffer = Buffer::new();
     let digits = buffer.format(number).as_bytes();
-    out.extend_from_slice(zeros(5usize.saturating_sub(digits.len())))?;
-    out.extend_from_slice(digits)?;
-    Ok(())
+    put(out, chunk, zeros(5usize.saturating_sub(digits.len())))?;
+    put(out, chunk, digits)
 }
 
 fn hex_digit(value: u8) -> u8
@@ -63,34 +79,45 @@ fn escaped(unit: u16) -> [u8; 6]
     ]
 }
 
-fn append_unit(out: &mut Vec<u8>, unit: u16) -> Result<(), AllocError>
-    ensures { OnOk result (out.new.items ≡ out.old.items ++ printed.quoted_unit unit) }
+fn put_unit(out: &mut Vec<u8>, chunk: &mut Chunk, unit: u16) -> Result<(), AllocError>
+    ensures { OnOk result (out.new.items ++ chunk.new.items ≡ (out.old.items ++ chunk.old.items) ++ printed.quoted_unit unit) }
 {
     if is_plain(unit) {
-        out.push(unit as u8)?;
+        put_byte(out, chunk, unit as u8)
     } else {
-        out.extend_from_slice(&escaped(unit))?;
+        put(out, chunk, &escaped(unit))
+    }
+}
+
+fn put_units(out: &mut Vec<u8>, chunk: &mut Chunk, units: &[u16]) -> Result<(), AllocError>
+    ensures { OnOk result (out.new.items ++ chunk.new.items ≡ (out.old.items ++ chunk.old.items) ++ flat_map printed.quoted_unit units.now) }
+{
+    for unit in units {
+        put_unit(out, chunk, *unit)?;
     }
     Ok(())
 }
 
-fn append_units(out: &mut Vec<u8>, units: &[u16]) -> Result<(), AllocError>
-    ensures { OnOk result (out.new.items ≡ out.old.items ++ flat_map printed.quoted_unit units.now) }
+/// Puts a text between double quotes after a chunk.
+pub(crate) fn put_quoted(
+    out: &mut Vec<u8>,
+    chunk: &mut Chunk,
+    units: &[u16],
+) -> Result<(), AllocError>
+    ensures { OnOk result (out.new.items ++ chunk.new.items ≡ (out.old.items ++ chunk.old.items) ++ printed.quoted units.now) }
 {
-    for unit in units {
-        append_unit(out, *unit)?;
-    }
-    Ok(())
+    put_byte(out, chunk, b'"')?;
+    put_units(out, chunk, units)?;
+    put_byte(out, chunk, b'"')
 }
 
 /// Appends a text between double quotes.
 pub(crate) fn append_quoted(out: &mut Vec<u8>, units: &[u16]) -> Result<(), AllocError>
     ensures { OnOk result (out.new.items ≡ out.old.items ++ printed.quoted units.now) }
 {
-    out.extend_from_slice(b"\"")?;
-    append_units(out, units)?;
-    out.extend_from_slice(b"\"")?;
-    Ok(())
+    let mut chunk = Chunk::new();
+    put_quoted(out, &mut chunk, units)?;
+    flush(out, &mut chunk)
 }
 
 /// The text of an atom, the empty one where there is none.

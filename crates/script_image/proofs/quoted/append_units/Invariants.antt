@@ -1,6 +1,0 @@
-use Rattle.std.proofs.Common.{◌≡◌, ◌++◌, take, flat_map}
-use Rattle.script_image.specs.Quoted.{quoted_unit}
-use Rattle.script_image.proofs.quoted.append_units.Given as goal
-
-abbrev pub invariant-loop-unit : goal.invariant-loop-unit
-invariant-loop-unit l = l.out.items ≡ l.initial.out.items ++ flat_map quoted_unit (take l.unit-index l.units)

@@ -1,0 +1,1 @@
+{ { var a } let a }

@@ -1,0 +1,1 @@
+for (let i in o) { var i }

@@ -1,0 +1,1 @@
+for (let x of y) f(x);

@@ -1,0 +1,2 @@
+-- What the program shows of a text.
+pub mod Verdicts

@@ -1,0 +1,2 @@
+-- Lines and columns of a source text.
+pub mod Places

@@ -1,0 +1,2 @@
+-- Which verdicts count, and what the program ends with.
+pub mod Statuses

@@ -1,0 +1,54 @@
+//! Which command is done.
+
+use crate::check::check_all;
+use crate::explain::explain_all;
+use crate::status::Status;
+use crate::verdict::Judge;
+use holzikra_words::{Request, read_words};
+use std::io;
+use std::io::ErrorKind;
+use std::rt::Runtime;
+
+/// Does what was asked for.
+fn perform<R: Runtime + AllocGlobal, J: Judge>(
+    rt: &R,
+    judge: &J,
+    request: &Request,
+) -> io::Result<Status> {
+    match request {
+        Request::Check(options) => check_all(rt, judge, options),
+        Request::Explain(options) => explain_all(rt, options),
+    }
+}
+
+/// What the program ends with where a command ends so.
+fn status_of(done: io::Result<Status>) -> Status {
+    match done {
+        Ok(status) => status,
+        Err(error) => {
+            if error.kind() == ErrorKind::OutOfMemory {
+                Status::NoMemory
+            } else {
+                Status::Trouble
+            }
+        }
+    }
+}
+
+/// Does what the words behind the program's name ask for, with this judge. Help and the version go to standard output, what is wrong
+/// with the words to standard error.
+pub fn run<R: Runtime + AllocGlobal, J: Judge>(rt: &R, judge: &J, words: &[String]) -> Status {
+    match read_words(rt.alloc(), words) {
+        Ok(request) => status_of(perform(rt, judge, &request)),
+        Err(error) => {
+            let shown = error.print(rt);
+            if error.kind() == clap::error::ErrorKind::OutOfMemory {
+                Status::NoMemory
+            } else if error.use_stderr() {
+                Status::Trouble
+            } else {
+                status_of(shown.map(|_| Status::Fine))
+            }
+        }
+    }
+}

@@ -1,0 +1,101 @@
+//! Answers for a person.
+
+use crate::answer::{Refused, Said};
+use crate::status::Tally;
+use holzikra_places::{excerpt_at, push_shown_text};
+use holzikra_refusals::{entry_of, message};
+use std::alloc::{AllocError, Global};
+
+/// The place, what is wrong, and the line with a mark under the place.
+pub(crate) fn refusal_lines(alloc: Global, refused: Refused<'_>) -> Result<String, AllocError> {
+    let spot = refused.reason.spot();
+    let mut lines = String::new(alloc);
+    push_shown_text(&mut lines, refused.name)?;
+    if let Some(spot) = spot {
+        let line = spot.place.line;
+        let column = spot.place.column;
+        write!(lines, ":{line}:{column}")?;
+    }
+    let kind = if refused.code.is_unsupported() {
+        "unsupported"
+    } else {
+        "error"
+    };
+    let words = message(alloc, refused.code, refused.text, refused.reason.offset())?;
+    let code = entry_of(refused.code).code;
+    write!(lines, ": {kind}: {words} [{code}]\n")?;
+    if let Some(spot) = spot {
+        push_line(
+            alloc,
+            &mut lines,
+            refused.text,
+            spot.place.line,
+            spot.offset,
+        )?;
+    }
+    Ok(lines)
+}
+
+/// Appends the line of a place, and a mark under the place.
+fn push_line(
+    alloc: Global,
+    lines: &mut String,
+    text: &[u8],
+    line: usize,
+    offset: usize,
+) -> Result<(), AllocError> {
+    let excerpt = excerpt_at(alloc, text, offset)?;
+    let number = format!(in alloc; "{line:>3}")?;
+    lines.push_str(number.as_str())?;
+    lines.push_str(" | ")?;
+    lines.push_str(excerpt.shown.as_str())?;
+    lines.push('\n')?;
+    push_blanks(lines, number.len())?;
+    lines.push_str(" | ")?;
+    push_blanks(lines, excerpt.caret)?;
+    lines.push_str("^\n")
+}
+
+fn push_blanks(lines: &mut String, count: usize) -> Result<(), AllocError> {
+    for _ in 0..count {
+        lines.push(' ')?;
+    }
+    Ok(())
+}
+
+/// A count with its noun.
+fn push_count(lines: &mut String, count: u64, one: &str, many: &str) -> Result<(), AllocError> {
+    let noun = if count == 1 { one } else { many };
+    write!(lines, "{count} {noun}")
+}
+
+/// The counts of all files, and where to read on.
+pub(crate) fn summary(alloc: Global, tally: &Tally, said: &Said) -> Result<String, AllocError> {
+    let refusals = tally.errors.saturating_add(tally.outside);
+    let mut line = String::new(alloc);
+    push_count(
+        &mut line,
+        tally.scripts.saturating_add(refusals),
+        "file",
+        "files",
+    )?;
+    let scripts = tally.scripts;
+    let outside = tally.outside;
+    write!(line, ": {scripts} ok, ")?;
+    push_count(&mut line, tally.errors, "with an error", "with errors")?;
+    write!(line, ", {outside} unsupported")?;
+    if said.shown < refusals {
+        let hidden = refusals.saturating_sub(said.shown);
+        write!(line, ", {hidden} not shown")?;
+    }
+    if !said.codes.is_empty() {
+        line.push_str(" (`holzikra explain")?;
+        for code in &said.codes {
+            line.push(' ')?;
+            line.push_str(entry_of(*code).code)?;
+        }
+        line.push_str("`)")?;
+    }
+    line.push('\n')?;
+    Ok(line)
+}

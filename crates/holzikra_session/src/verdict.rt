@@ -1,0 +1,92 @@
+//! Verdicts on texts, and who gives them.
+
+ghost use Rattle.std.specs.Prelude.{ℕ, List, IfOk};
+ghost use Rattle.holzikra_session.specs.declared.verdict.Verdict.{Verdict};
+
+use holzikra_places::Place;
+use holzikra_refusals::{Code, Rule};
+use std::alloc::{AllocError, Global};
+
+/// A place in a text.
+#[derive(Debug, Clone, Copy, PartialEq, Eq)]
+pub struct Spot {
+    /// In bytes from 0.
+    pub offset: usize,
+    pub place: Place,
+}
+
+/// Why a text is refused.
+#[derive(Debug, Clone, Copy, PartialEq, Eq)]
+pub enum Reason {
+    /// It has too many bytes.
+    TooLong,
+    /// It is not UTF-8.
+    BadUtf8(Spot),
+    /// No script goes on with the token there.
+    Unexpected(Spot),
+    /// The token there is nested too deep.
+    TooDeep(Spot),
+    /// An early error, with the number of its rule, 1 to 14.
+    Early(Spot, u8),
+}
+
+/// What a text is.
+#[derive(Debug, Clone, Copy, PartialEq, Eq)]
+pub enum Verdict {
+    /// A script without errors that has so many functions.
+    Script(usize),
+    /// It is refused.
+    Refused(Reason),
+}
+
+/// Who gives verdicts on texts.
+pub trait Judge {
+    ghost judges: { Self → List ℕ → Verdict → Type 0 };
+
+    /// The verdict on this text. The one error is want of memory.
+    fn judge(&self, alloc: Global, text: &[u8]) -> Result<Verdict, AllocError>
+        ensures { IfOk result (judges self.now text.now) };
+}
+
+impl Reason {
+    /// Where the reason stands, if it has a place.
+    pub(crate) fn spot(self) -> Option<Spot> {
+        match self {
+            Reason::TooLong => None,
+            Reason::BadUtf8(spot)
+            | Reason::Unexpected(spot)
+            | Reason::TooDeep(spot)
+            | Reason::Early(spot, _) => Some(spot),
+        }
+    }
+
+    /// The offset of the place; 0 where there is none.
+    pub(crate) fn offset(self) -> usize {
+        match self.spot() {
+            None => 0,
+            Some(spot) => spot.offset,
+        }
+    }
+
+    /// The code of the reason itself, before any guess.
+    pub(crate) fn exact_code(self) -> Code {
+        match self {
+            Reason::TooLong => Code::TooLong,
+            Reason::BadUtf8(_) => Code::BadUtf8,
+            Reason::Unexpected(_) => Code::Unexpected,
+            Reason::TooDeep(_) => Code::TooDeep,
+            Reason::Early(_, rule) => Code::Early(Rule::numbered(rule)),
+        }
+    }
+
+    /// The name of the reason in JSON.
+    pub(crate) fn word(self) -> &'static str {
+        match self {
+            Reason::TooLong => "too_long",
+            Reason::BadUtf8(_) => "not_utf8",
+            Reason::Unexpected(_) => "unexpected",
+            Reason::TooDeep(_) => "too_deep",
+            Reason::Early(_, _) => "early",
+        }
+    }
+}

@@ -1,0 +1,198 @@
+//! The files of a command: those that are named, and those of the folders that are named.
+
+use holzikra_words::CheckOptions;
+use std::collections::BTreeSet;
+use std::rt::Files;
+use std::{fs, io};
+
+/// A path that is still to be looked at.
+#[derive(Drop)]
+struct Waiting {
+    path: String,
+    /// Whether it was named by a word of the command, and not found in a folder.
+    named: bool,
+}
+
+/// What was found next.
+#[derive(Drop)]
+pub(crate) enum Found {
+    /// A file, to be read.
+    File(String),
+    /// Standard input.
+    Input,
+    /// A path that cannot be looked at, and why.
+    Fault(String, io::Error),
+}
+
+/// The paths that are still to be looked at, and those that were.
+#[derive(Drop)]
+pub(crate) struct Walk {
+    /// The next one is the last.
+    waiting: Vec<Waiting>,
+    done: BTreeSet<String>,
+}
+
+/// What a path is.
+enum Kind {
+    Folder,
+    File,
+    /// It was not named, and is none that is taken.
+    Passed,
+}
+
+/// Whether a name in a folder is passed over.
+fn is_hidden(name: &str) -> bool {
+    name.starts_with('.') || name == "node_modules"
+}
+
+/// The last name of a path.
+fn last_name(path: &str) -> &str {
+    match path.rsplit_once('/') {
+        Some((_, name)) => name,
+        None => path,
+    }
+}
+
+/// Whether the name of a file in a folder ends so that it is taken.
+fn is_taken(path: &str, options: &CheckOptions) -> bool {
+    match last_name(path).rsplit_once('.') {
+        None => false,
+        Some((_, end)) => {
+            for extension in &options.extensions {
+                if extension.as_str() == end {
+                    return true;
+                }
+            }
+            false
+        }
+    }
+}
+
+/// What a path is. Links to folders that were found in a folder are passed over.
+fn kind_of<R: Files>(rt: &R, name: &str, named: bool, options: &CheckOptions) -> io::Result<Kind> {
+    if named {
+        let found = fs::metadata(rt, name)?;
+        return Ok(if found.is_dir() {
+            Kind::Folder
+        } else {
+            Kind::File
+        });
+    }
+    let found = fs::symlink_metadata(rt, name)?;
+    if found.is_dir() {
+        return Ok(Kind::Folder);
+    }
+    if !is_taken(name, options) {
+        return Ok(Kind::Passed);
+    }
+    if found.is_symlink() && fs::metadata(rt, name)?.is_dir() {
+        return Ok(Kind::Passed);
+    }
+    Ok(Kind::File)
+}
+
+/// The path of a name in a folder.
+fn joined<R: AllocGlobal>(rt: &R, folder: &str, name: &str) -> io::Result<String> {
+    let mut path = String::from_str(rt.alloc(), folder)?;
+    if !folder.ends_with('/') {
+        path.push('/')?;
+    }
+    path.push_str(name)?;
+    Ok(path)
+}
+
+/// The names in a folder, those first whose bytes are less, and the first fault on the way.
+fn names_in<R: Files + AllocGlobal + Clone + Drop>(
+    rt: &R,
+    folder: &str,
+    options: &CheckOptions,
+) -> io::Result<(Vec<String>, Option<io::Error>)> {
+    let mut names = Vec::new(rt.alloc());
+    let mut fault = None;
+    for entry in fs::read_dir(rt, folder)? {
+        match entry {
+            Ok(entry) => {
+                let name = entry.file_name();
+                if options.all || !is_hidden(name) {
+                    names.push(String::from_str(rt.alloc(), name)?)?;
+                }
+            }
+            Err(error) => fault = Some(error),
+        }
+    }
+    names.sort()?;
+    Ok((names, fault))
+}
+
+impl Walk {
+    /// The paths of a command.
+    pub(crate) fn new<R: AllocGlobal>(rt: &R, options: &CheckOptions) -> io::Result<Walk> {
+        let mut waiting = Vec::new(rt.alloc());
+        for path in options.paths.iter().rev() {
+            let path = path.clone()?;
+            waiting.push(Waiting { path, named: true })?;
+        }
+        Ok(Walk {
+            waiting,
+            done: BTreeSet::new(rt.alloc()),
+        })
+    }
+
+    /// Puts the names of a folder in front of what waits. The fault is that of a name which cannot be looked at.
+    fn enter<R: Files + AllocGlobal + Clone + Drop>(
+        &mut self,
+        rt: &R,
+        folder: &str,
+        options: &CheckOptions,
+    ) -> io::Result<Option<io::Error>> {
+        let (names, fault) = names_in(rt, folder, options)?;
+        for name in names.iter().rev() {
+            let path = joined(rt, folder, name.as_str())?;
+            self.waiting.push(Waiting { path, named: false })?;
+        }
+        Ok(fault)
+    }
+
+    /// Looks at a path that waits; what there is to be answered, if there is something.
+    fn look<R: Files + AllocGlobal + Clone + Drop>(
+        &mut self,
+        rt: &R,
+        waiting: Waiting,
+        options: &CheckOptions,
+    ) -> io::Result<Option<Found>> {
+        let Waiting { path, named } = waiting;
+        if named && path.as_str() == "-" {
+            return Ok(Some(Found::Input));
+        }
+        if self.done.contains(path.as_str()) {
+            return Ok(None);
+        }
+        self.done.insert(path.clone()?)?;
+        match kind_of(rt, path.as_str(), named, options) {
+            Err(error) => Ok(Some(Found::Fault(path, error))),
+            Ok(Kind::Passed) => Ok(None),
+            Ok(Kind::File) => Ok(Some(Found::File(path))),
+            Ok(Kind::Folder) => match self.enter(rt, path.as_str(), options) {
+                Ok(None) => Ok(None),
+                Ok(Some(error)) | Err(error) => Ok(Some(Found::Fault(path, error))),
+            },
+        }
+    }
+
+    /// What is to be answered next; none at the end.
+    pub(crate) fn next<R: Files + AllocGlobal + Clone + Drop>(
+        &mut self,
+        rt: &R,
+        options: &CheckOptions,
+    ) -> io::Result<Option<Found>> {
+        for _ in 0..u64::MAX {
+            let Some(path) = self.waiting.pop() else {
+                return Ok(None);
+            };
+            if let Some(found) = self.look(rt, path, options)? {
+                return Ok(Some(found));
+            }
+        }
+        Ok(None)
+    }
+}

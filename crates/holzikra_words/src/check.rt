@@ -1,0 +1,159 @@
+//! The words of `check`.
+
+use crate::parts::{choice, named, switch, texts, value, valued, with, words};
+use clap::builder::ValueParser;
+use clap::{Arg, ArgAction, ArgMatches, Command};
+use std::alloc::{AllocError, Global};
+
+/// How the answers are written.
+#[derive(Clone, Copy, Debug, PartialEq, Eq)]
+pub enum Format {
+    /// For a person, with the line of each place.
+    Human,
+    /// A JSON object a file, one line each.
+    Json,
+    /// Workflow commands of GitHub.
+    Github,
+}
+
+/// What becomes of a file that is refused for a form that no script of the profile has.
+#[derive(Clone, Copy, Debug, PartialEq, Eq)]
+pub enum Unsupported {
+    /// It is shown, and counts as a refusal.
+    Error,
+    /// It is shown, and does not count.
+    Warn,
+    /// It is counted alone, and not shown.
+    Skip,
+}
+
+/// What `check` is asked for.
+#[derive(Debug, Drop)]
+pub struct CheckOptions {
+    /// Files, folders, and `-` for standard input, as they were written.
+    pub paths: Vec<String>,
+    pub format: Format,
+    pub unsupported: Unsupported,
+    /// How many refusals are shown, where there is a limit.
+    pub most: Option<u32>,
+    /// No summary.
+    pub quiet: bool,
+    /// Folders named `node_modules`, and names that begin with `.`, are entered too.
+    pub all: bool,
+    /// The ends of the names that are taken of a folder, without the point.
+    pub extensions: Vec<String>,
+    /// What standard input is called.
+    pub stdin_name: String,
+}
+
+static FORMATS: [&str; 3] = ["human", "json", "github"];
+
+static CHOICES: [&str; 3] = ["error", "warn", "skip"];
+
+/// The command `check`.
+pub(crate) fn command<'a>(alloc: Global) -> Result<Command<'a>, AllocError> {
+    let command = named(
+        alloc,
+        "check",
+        "say whether each file is a script without errors",
+    );
+    let paths = words(alloc, "PATH", "a file, a folder, or - for standard input").required(true);
+    let command = with(command, paths)?;
+    with_options(alloc, command)
+}
+
+fn with_options<'a>(alloc: Global, command: Command<'a>) -> Result<Command<'a>, AllocError> {
+    let formats = FORMATS.as_slice();
+    let choices = CHOICES.as_slice();
+    let format = choice(
+        alloc,
+        "format",
+        formats,
+        "human",
+        "how the answers are written",
+    );
+    let command = with(command, format)?;
+    let unsupported = choice(
+        alloc,
+        "unsupported",
+        choices,
+        "error",
+        "what a form outside the profile counts as",
+    );
+    let command = with(command, unsupported)?;
+    let command = with(command, most(alloc))?;
+    let command = with(command, extensions(alloc))?;
+    let command = with(
+        command,
+        valued(alloc, "stdin-name", "NAME", "<stdin>", "what - is called"),
+    )?;
+    let command = with(
+        command,
+        switch(
+            alloc,
+            "all",
+            "enter node_modules and what begins with a point",
+        ),
+    )?;
+    with(command, switch(alloc, "quiet", "no summary").short('q'))
+}
+
+fn most<'a>(alloc: Global) -> Arg<'a> {
+    let most = valued(
+        alloc,
+        "max",
+        "N",
+        "50",
+        "how many refusals are shown; 0 is no limit",
+    );
+    most.value_parser(ValueParser::Unsigned(0, 4_294_967_295))
+}
+
+fn extensions<'a>(alloc: Global) -> Arg<'a> {
+    let extensions = valued(
+        alloc,
+        "ext",
+        "LIST",
+        "js,cjs",
+        "which files of a folder are taken",
+    );
+    extensions.value_delimiter(',').action(ArgAction::Append)
+}
+
+fn format_of(word: &str) -> Format {
+    match word {
+        "json" => Format::Json,
+        "github" => Format::Github,
+        _ => Format::Human,
+    }
+}
+
+fn unsupported_of(word: &str) -> Unsupported {
+    match word {
+        "warn" => Unsupported::Warn,
+        "skip" => Unsupported::Skip,
+        _ => Unsupported::Error,
+    }
+}
+
+/// How many are shown where this number was given.
+fn most_of(number: u32) -> Option<u32> {
+    if number == 0 { None } else { Some(number) }
+}
+
+/// What the words of `check` ask for.
+pub(crate) fn options(alloc: Global, found: &ArgMatches<'_>) -> Result<CheckOptions, AllocError> {
+    let paths = texts(alloc, found, "PATH")?;
+    let extensions = texts(alloc, found, "ext")?;
+    let stdin_name = String::from_str(alloc, value(found, "stdin-name", "<stdin>"))?;
+    Ok(CheckOptions {
+        paths,
+        format: format_of(value(found, "format", "human")),
+        unsupported: unsupported_of(value(found, "unsupported", "error")),
+        most: most_of(found.get_one::<u32>("max").unwrap_or(50)),
+        quiet: found.get_flag("quiet"),
+        all: found.get_flag("all"),
+        extensions,
+        stdin_name,
+    })
+}

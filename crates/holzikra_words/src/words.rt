@@ -1,0 +1,59 @@
+//! All commands, and which of them the words name.
+
+use crate::check::{self, CheckOptions};
+use crate::explain::{self, ExplainOptions};
+use clap::{ArgMatches, Command, Error};
+use std::alloc::{AllocError, Global};
+
+/// What `holzikra` is asked to do.
+#[derive(Debug, Drop)]
+pub enum Request {
+    /// Say of each file whether it is a script without errors.
+    Check(CheckOptions),
+    /// Say what a code means.
+    Explain(ExplainOptions),
+}
+
+/// The program without its commands.
+fn program<'a>(alloc: Global) -> Command<'a> {
+    Command::new(alloc, "holzikra")
+        .version("0.1.0")
+        .about("looks into strict scripts: errors, line by line")
+        .no_binary_name(true)
+        .subcommand_required(true)
+        .arg_required_else_help(true)
+}
+
+/// The program with one more command.
+fn with_command<'a>(program: Command<'a>, command: Command<'a>) -> Result<Command<'a>, AllocError> {
+    program.subcommand(command)
+}
+
+/// The program and its commands.
+fn commands<'a>(alloc: Global) -> Result<Command<'a>, AllocError> {
+    let program = with_command(program(alloc), check::command(alloc)?)?;
+    with_command(program, explain::command(alloc)?)
+}
+
+/// The command that was found, with its options.
+fn found_request(alloc: Global, matches: &ArgMatches<'_>) -> Result<Request, AllocError> {
+    match matches.subcommand() {
+        Some(("check", found)) => Ok(Request::Check(check::options(alloc, found)?)),
+        Some((_, found)) => Ok(Request::Explain(explain::options(alloc, found)?)),
+        None => Ok(Request::Explain(ExplainOptions {
+            codes: Vec::new(alloc),
+        })),
+    }
+}
+
+fn matches_of<'a>(program: Command<'a>, words: &'a [String]) -> Result<ArgMatches<'a>, Error> {
+    program.try_get_matches_from(words)
+}
+
+/// What the words behind the program's name ask for. An error is a mistake in them, with its text, or a request for help or for the
+/// version, with that as its text; or want of memory.
+pub fn read_words(alloc: Global, words: &[String]) -> Result<Request, Error> {
+    let matches = matches_of(commands(alloc)?, words)?;
+    let request = found_request(alloc, &matches)?;
+    Ok(request)
+}

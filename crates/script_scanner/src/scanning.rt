@@ -299,7 +299,7 @@ fn passed_over(from: u32, text: &[Point]) -> usize
 /// The tokens of the part of a text between two offsets, read beginning with no open brace; the last is End or Bad.
 ///
 /// The texts of names, words, strings and template parts are interned in `atoms`. Time is linear in the points of the
-/// part; memory is 32 bytes a token, a byte an open brace, the units of the longest text and what new texts take.
+/// part; memory is 24 bytes a token, a byte an open brace, the units of the longest text and what new texts take.
 /// After an error `atoms` may have more texts.
 pub fn scan(
     alloc: Global,

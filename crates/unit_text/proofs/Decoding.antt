@@ -2,12 +2,14 @@
 use Rattle.std.proofs.Common.{◌≡◌, ℕ, ◌+◌, ◌≤◌, ◌<◌, List, [], ◌∷◌, ◌++◌, length, take, drop, refl, sym, ◌∙◌, ap, subst, true, map, append_assoc, append-nil, arith, length-append, take-append-drop, inl, inr}
 use Rattle.std.proofs.lemmas.Bool.{cases_order}
 use Rattle.std.proofs.Math.Seq.{take-length, take-append_seam}
-use Rattle.std.proofs.lemmas.List.{length-map, length-take-le}
+use Rattle.std.proofs.Math.ListN.{drop_of_length-le}
+use Rattle.std.proofs.lemmas.List.{drop_more, length-map, length-take-le}
+use Rattle.std.specs.Prelude.{slice_index}
 use Rattle.std.specs.Char.{len_utf8}
-use Rattle.std.specs.Str.{IsUtf8, IsValidUpTo, chars, all_scalars, encode_utf8_all}
+use Rattle.std.specs.Str.{IsAscii, IsUtf8, IsValidUpTo, chars, all_scalars, encode_utf8_all}
 use Rattle.std.specs.Str.Lossy.{utf8_valid_len}
 use Rattle.std.specs.Char.{encode_utf8}
-use Rattle.std.proofs.lemmas.Str.{length-le-encodes, chars_past_char, IsUtf8-past_char, length-encode, len_utf8_bounds, chars-nil, encodes-chars, scalars-chars, utf8_valid_len-IsUtf8, utf8_valid_len-IsValidUpTo}
+use Rattle.std.proofs.lemmas.Str.{length-le-encodes, chars_past_char, IsUtf8-past_char, length-encode, len_utf8_bounds, chars-nil, encodes-chars, chars-IsAscii, len_utf8_ascii, scalars-chars, utf8_valid_len-IsUtf8, utf8_valid_len-IsValidUpTo}
 use Rattle.unit_text.specs.declared.Point.{Point}
 use Rattle.unit_text.specs.Points.{points_from, codes_of, code_of, points, LieEndToEnd, SpellLongestFront}
 
@@ -56,6 +58,37 @@ decoded_pushed text rest more at c next start end made now before split moved be
 pub decoded_all : (text rest : List ℕ) (at : ℕ) (made : List Point) → IsDecoded text rest at made → length rest ≡ 0 → made ≡ points_from 0 (chars text)
 decoded_all text [] at made before none = sym (append-nil made) ∙ ap (λ cs. made ++ points_from at cs) (sym chars-nil) ∙ before.points
 decoded_all text (b ∷ bs) at made before none = absurd (omega (arith, none))
+
+-- one more byte of ASCII, pushed with its places
+pub ascii_more : (bs : List ℕ) (at c start end : ℕ) (made now : List Point) → IsAscii bs → at < length bs → made ++ points_from at (drop at bs) ≡ points_from 0 bs
+    → c ≡ slice_index bs at → start ≡ at → end ≡ at + 1 → now ≡ made ++ record { code = c; start = start; end = end } ∷ []
+    → now ++ points_from (at + 1) (drop (at + 1) bs) ≡ points_from 0 bs
+ascii_more bs at c start end made now ascii within before code begins ends pushed =
+    ap (λ ps. ps ++ points_from (at + 1) (drop (at + 1) bs)) (pushed ∙ ap (λ (p : Point). made ++ p ∷ []) (sym here))
+    ∙ append_assoc made (point_at at b ∷ []) (points_from (at + 1) (drop (at + 1) bs))
+    ∙ ap (λ n. made ++ (point_at at b ∷ points_from n (drop (at + 1) bs))) (sym width)
+    ∙ ap (λ xs. made ++ points_from at xs) (sym (drop_more bs at 0 within))
+    ∙ before
+  where
+    b : ℕ
+    b = slice_index bs at
+
+    one : len_utf8 b ≡ 1
+    one = len_utf8_ascii b (ascii at)
+
+    width : at + len_utf8 b ≡ at + 1
+    width = ap (λ n. at + n) one
+
+    next : end ≡ start + len_utf8 c
+    next = let e : len_utf8 c ≡ 1 = ap len_utf8 code ∙ one in omega (arith, e, begins, ends)
+
+    here : point_at at b ≡ record { code = c; start = start; end = end }
+    here = ap (λ n. point_at at n) (sym code) ∙ point_is c at start end begins next
+
+-- all bytes of ASCII
+pub ascii_all : (bs : List ℕ) (at : ℕ) (made : List Point) → IsAscii bs → length bs ≤ at → made ++ points_from at (drop at bs) ≡ points_from 0 bs → made ≡ points_from 0 (chars bs)
+ascii_all bs at made ascii ended before =
+    sym (append-nil made) ∙ ap (λ xs. made ++ points_from at xs) (sym (drop_of_length-le bs ended)) ∙ before ∙ ap (points_from 0) (sym (chars-IsAscii bs ascii))
 
 -- the codes of points are the code points that they were made of
 pub codes_of-points_from : (at : ℕ) (cs : List ℕ) → map code_of (points_from at cs) ≡ cs

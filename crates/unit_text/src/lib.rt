@@ -6,7 +6,7 @@
 #![tactic(auto)]
 
 ghost use Rattle.std.specs.Prelude.{◌≡◌, ◌≤◌, IfOk, IfErr, OnOk, length, take, map};
-ghost use Rattle.std.specs.Str.{IsUtf8, chars, encode_utf8_all};
+ghost use Rattle.std.specs.Str.{IsAscii, IsUtf8, chars, encode_utf8_all};
 ghost use Rattle.unit_text.specs.Points.{points, points_from, code_of, codes_of, LieEndToEnd, SpellLongestFront};
 ghost use Rattle.unit_text.specs.Faults.{IsFaultOf};
 ghost use Rattle.unit_text.specs.Units.{code_units};
@@ -81,8 +81,38 @@ fn bad_utf8(front: usize) -> DecodeFault
     }
 }
 
-// The points of a text.
+// The points of a text. Most scripts are of ASCII alone, so these have a loop of their own.
 fn points_of(alloc: Global, text: &str) -> Result<Vec<Point>, AllocError>
+    requires { length text.now ≤ 16777215 }
+    ensures { IfOk result (λ ps. ps.items ≡ points_from 0 (chars text.now)) }
+{
+    if text.is_ascii() {
+        ascii_points(alloc, text.as_bytes())
+    } else {
+        unicode_points(alloc, text)
+    }
+}
+
+// The points of bytes of ASCII, one each.
+#[tactic(auto, using(crate::proofs::Decoding::ascii_more, crate::proofs::Decoding::ascii_all))]
+fn ascii_points(alloc: Global, bytes: &[u8]) -> Result<Vec<Point>, AllocError>
+    requires few { length bytes.now ≤ 16777215 }
+    requires ascii { IsAscii bytes.now }
+    ensures { IfOk result (λ ps. ps.items ≡ points_from 0 (chars bytes.now)) }
+{
+    let mut points = Vec::with_capacity(alloc, bytes.len())?;
+    for at in 0..bytes.len() {
+        points.push(Point {
+            code: char::from(bytes[at]),
+            start: at as u32,
+            end: at as u32 + 1,
+        })?;
+    }
+    Ok(points)
+}
+
+// The points of any text.
+fn unicode_points(alloc: Global, text: &str) -> Result<Vec<Point>, AllocError>
     requires { length text.now ≤ 16777215 }
     ensures { IfOk result (λ ps. ps.items ≡ points_from 0 (chars text.now)) }
 {

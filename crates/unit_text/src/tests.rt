@@ -54,6 +54,29 @@ fn points_have_their_places(rt: HostRuntime) -> Result<(), Fail> {
 }
 
 #[test]
+fn ascii_has_a_point_a_byte(rt: HostRuntime) -> Result<(), Fail> {
+    let points = decode(rt.alloc(), b"a\x7F")?;
+    assert_eq!(rt; points.len(), 2);
+    assert_eq!(rt;
+        points[0],
+        Point {
+            code: 'a',
+            start: 0,
+            end: 1
+        }
+    );
+    assert_eq!(rt;
+        points[1],
+        Point {
+            code: '\u{7F}',
+            start: 1,
+            end: 2
+        }
+    );
+    Ok(())
+}
+
+#[test]
 fn ill_formed_bytes_are_told(rt: HostRuntime) {
     assert_eq!(rt;
         fault_at(rt.alloc(), b"a\xC0\x80"),

@@ -1,5 +1,5 @@
 use Rattle.unit_text.proofs.Decoding.{decoded_pushed, decoded_all}
-use Rattle.unit_text.proofs.points_of.Goals as goal
+use Rattle.unit_text.proofs.unicode_points.Goals as goal
 
 pub loop-start-preserved : goal.loop-start-preserved
 loop-start-preserved c =

@@ -6,6 +6,7 @@ pub mod ClosedNames
 pub mod Log
 pub mod Counted
 pub mod Rows
+pub mod AtomTables
 pub mod Walk
 pub mod Asked
 pub mod Scopes

@@ -1,12 +1,11 @@
 -- What a visit of the code leaves after, in the words of the walk.
 use Rattle.std.specs.Prelude.{ℕ, ◌≡◌, ◌+◌, ◌++◌, Bool, Option, List, length, nat_eq}
-use Rattle.std.specs.Ordering.{nat_cmp}
-use Rattle.std.specs.BTreeMap.{get}
 use Rattle.parse_track.specs.declared.closed.RegionContext.{RegionContext}
 use Rattle.parse_track.specs.declared.closed.FoundClosed.{FoundClosed}
 use Rattle.parse_track.specs.Told.{Told, KnownNames}
 use Rattle.parse_track.specs.ClosedNames.{Bound, bindings, scope_count}
 use Rattle.parse_track.specs.Scopes.{bounds_of}
+use Rattle.parse_track.specs.AtomTables.{entry}
 use Rattle.parse_track.specs.Walk.{Tops, walk}
 
 -- the bindings so far, the places that were hit, to what each name is bound, and the number of the next scope
@@ -23,7 +22,7 @@ pub record Visits (known : KnownNames ℕ) (named : Bool) (func : Option ℕ) (d
   pub next : now.scope ≡ before.scope + scope_count nat_eq known named t
 
 abbrev pub stand_of : FoundClosed → ℕ → Stand
-stand_of found scope = record { bound = bounds_of found.bound.items; hits = found.hits.items; tops = get nat_cmp found.env; scope = scope }
+stand_of found scope = record { bound = bounds_of found.bound.items; hits = found.hits.items; tops = entry found.env.entries.items; scope = scope }
 
 abbrev pub IsVisited : KnownNames ℕ → RegionContext → ℕ → FoundClosed → FoundClosed → ℕ → Told ℕ → Type 0
 IsVisited known around scope before now next t = Visits known around.named around.func around.depth (stand_of before scope) (stand_of now next) t

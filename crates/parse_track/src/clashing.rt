@@ -4,12 +4,12 @@ ghost use Rattle.std.specs.Prelude.{◌≡◌, ◌<◌, ◌≤◌, ◌-◌, ◌^
 ghost use Rattle.std.specs.Ordering.{nat_cmp};
 ghost use Rattle.std.specs.BTreeMap.{get};
 ghost use Rattle.parse_track.specs.RegionNames.{is_lexical, directly};
-ghost use Rattle.parse_track.specs.EarlyErrors.{smaller};
+ghost use Rattle.parse_track.specs.EarlyErrors.{has, smaller};
 ghost use Rattle.parse_track.specs.Log.{Inner, name_of, region_of, kind_of, told_items, told_region, told_of, outermost_if};
 ghost use Rattle.parse_track.specs.Rows.{item_of, row_of};
 ghost use Rattle.parse_track.specs.Clashes.{no_firsts, open_all, clash_at, opens, clashes, IsClash};
 
-use crate::closed::{kind_at, look_up, put_back};
+use crate::closed::kind_at;
 use crate::names::{Asked, items_at, stops_vars};
 use crate::offsets::lesser;
 use crate::region::{Declare, Region};
@@ -59,6 +59,42 @@ fn first_with(firsts: &BTreeMap<u32, u32>, name: Ident) -> u32
         None => name.at,
         Some(first) => name.at.min(*first),
     }
+}
+
+/// The offsets that these names have.
+fn look_up(
+    alloc: Global,
+    firsts: &BTreeMap<u32, u32>,
+    names: &[u32],
+) -> Result<Vec<Option<u32>>, AllocError>
+    ensures { IfOk result (λ saved. saved.items ≡ map (get nat_cmp firsts.now) names.now) }
+{
+    names
+        .iter()
+        .map(|name| firsts.get(name).copied())
+        .collect(alloc)
+}
+
+/// Gives these names the offsets that they had.
+fn put_back(
+    firsts: &mut BTreeMap<u32, u32>,
+    names: &[u32],
+    saved: &[Option<u32>],
+) -> Result<(), AllocError>
+    requires { length names.now ≡ length saved.now }
+    ensures { (tops : ℕ → Option ℕ) → saved.now ≡ map tops names.now → ((y : ℕ) → has nat_eq y names.now ≡ false → get nat_cmp firsts.old y ≡ tops y) → OnOk result ((y : ℕ) → get nat_cmp firsts.new y ≡ tops y) }
+{
+    for (name, top) in names.iter().zip(saved) {
+        match top {
+            Some(top) => {
+                firsts.insert(*name, *top)?;
+            }
+            None => {
+                firsts.remove(name);
+            }
+        }
+    }
+    Ok(())
 }
 
 /// Each of these names has its smallest offset.

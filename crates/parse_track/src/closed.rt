@@ -1,9 +1,7 @@
 //! The names that inner functions close over, by one walk from the outside in.
 
 ghost use Rattle.std.specs.Prelude.{◌≡◌, ◌<◌, ◌≤◌, ◌+◌, ◌^◌, ◌++◌, ◌∷◌, [], ℕ, Option, List, Bool, false, length, slice_get, cond, Some, None, IfOk, OnOk, map, nat_eq};
-ghost use Rattle.std.specs.Ordering.{nat_cmp};
-ghost use Rattle.std.specs.BTreeMap.{get};
-ghost use Rattle.parse_track.specs.EarlyErrors.{has};
+ghost use Rattle.parse_track.specs.AtomTables.{entry};
 ghost use Rattle.parse_track.specs.RegionNames.{is_lambda};
 ghost use Rattle.parse_track.specs.ClosedNames.{begins, joined, bound_in, bound_by, first_at, at_of};
 ghost use Rattle.parse_track.specs.Told.{Told};
@@ -14,12 +12,12 @@ ghost use Rattle.parse_track.specs.Scopes.{items_of_lists, bound_of, bounds_of};
 ghost use Rattle.parse_track.specs.Walk.{bind_all, hit, deeper};
 ghost use Rattle.parse_track.specs.Visited.{IsVisited};
 
+use crate::atom_table::{AtomTable, look_up, put_back};
 use crate::names::items_at;
 use crate::region::{ClosedAt, Region, WellKnownAtoms};
 use crate::scopes::scopes_of;
 use crate::track::{Item, RegionRow};
 use std::alloc::{AllocError, Global};
-use std::collections::BTreeMap;
 
 /// The innermost binding of a name: its place among all bindings, and how many functions are around its scope.
 #[derive(Clone, Copy, Debug)]
@@ -28,60 +26,22 @@ pub struct Top {
     pub depth: usize,
 }
 
-/// The bindings to which these names were bound.
-pub fn look_up<V: Copy>(
-    alloc: Global,
-    env: &BTreeMap<u32, V>,
-    names: &[u32],
-) -> Result<Vec<Option<V>>, AllocError>
-    ensures { IfOk result (λ saved. saved.items ≡ map (get nat_cmp env.now) names.now) }
-{
-    names
-        .iter()
-        .map(|name| env.get(name).copied())
-        .collect(alloc)
-}
-
 /// Binds these names, the first at this place.
 fn bind(
-    env: &mut BTreeMap<u32, Top>,
+    env: &mut AtomTable<Top>,
     names: &[u32],
     place: usize,
     depth: usize,
 ) -> Result<(), AllocError>
     requires { place + length names.now < 2 ^ 64 }
-    ensures { OnOk result ((y : ℕ) → get nat_cmp env.new y ≡ bind_all depth place names.now (get nat_cmp env.old) y) }
+    ensures { OnOk result ((y : ℕ) → entry env.new.entries.items y ≡ bind_all depth place names.now (entry env.old.entries.items) y) }
 {
     for (index, name) in names.iter().enumerate() {
-        env.insert(
-            *name,
-            Top {
-                place: place + index,
-                depth,
-            },
-        )?;
-    }
-    Ok(())
-}
-
-/// Binds these names to what they were bound to.
-pub fn put_back<V: Copy>(
-    env: &mut BTreeMap<u32, V>,
-    names: &[u32],
-    saved: &[Option<V>],
-) -> Result<(), AllocError>
-    requires { length names.now ≡ length saved.now }
-    ensures { (tops : ℕ → Option V) → saved.now ≡ map tops names.now → ((y : ℕ) → has nat_eq y names.now ≡ false → get nat_cmp env.old y ≡ tops y) → OnOk result ((y : ℕ) → get nat_cmp env.new y ≡ tops y) }
-{
-    for (name, top) in names.iter().zip(saved) {
-        match top {
-            Some(top) => {
-                env.insert(*name, *top)?;
-            }
-            None => {
-                env.remove(name);
-            }
-        }
+        let top = Top {
+            place: place + index,
+            depth,
+        };
+        env.set(*name, Some(top))?;
     }
     Ok(())
 }
@@ -136,7 +96,7 @@ fn push_scopes(
 /// inner functions close over.
 #[derive(Drop)]
 pub struct FoundClosed {
-    pub env: BTreeMap<u32, Top>,
+    pub env: AtomTable<Top>,
     pub bound: Vec<ClosedAt>,
     pub hits: Vec<usize>,
 }
@@ -144,12 +104,12 @@ pub struct FoundClosed {
 impl FoundClosed {
     /// Nothing is found yet.
     pub fn new(alloc: Global) -> FoundClosed
-        ensures env { (y : ℕ) → get nat_cmp result.env y ≡ None }
+        ensures env { (y : ℕ) → entry result.env.entries.items y ≡ None }
         ensures bound { result.bound.items ≡ [] }
         ensures hits { result.hits.items ≡ [] }
     {
         FoundClosed {
-            env: BTreeMap::new(alloc),
+            env: AtomTable::new(alloc),
             bound: Vec::new(alloc),
             hits: Vec::new(alloc),
         }
@@ -213,11 +173,11 @@ fn next_scope(from: u32, scopes: &[Vec<u32>]) -> Result<u32, AllocError>
 
 /// A use of a name hits its innermost binding, where that is of a function further out.
 fn visit_use(found: &mut FoundClosed, name: u32, depth: usize) -> Result<(), AllocError>
-    ensures hits { OnOk result (found.new.hits.items ≡ found.old.hits.items ++ hit (get nat_cmp found.old.env name) depth) }
+    ensures hits { OnOk result (found.new.hits.items ≡ found.old.hits.items ++ hit (entry found.old.env.entries.items name) depth) }
     ensures env { found.new.env ≡ found.old.env }
     ensures bound { found.new.bound ≡ found.old.bound }
 {
-    if let Some(top) = found.env.get(&name) {
+    if let Some(top) = found.env.get(name) {
         if top.depth < depth {
             found.hits.push(top.place)?;
         }

@@ -1,7 +1,6 @@
 use Rattle.std.proofs.Common.{◌≡◌, ℕ, ◌+◌, ◌-◌, ◌<◌, ◌++◌, List, Bool, cond, Some, nat_eq, drop, length, map, arith, add-one, drop-cons, slice_get, refl, sym, ap, ◌∙◌, Vec, Global}
 use Rattle.std.proofs.lemmas.List.{drop_all, length-map}
-use Rattle.std.specs.Ordering.{nat_cmp}
-use Rattle.std.specs.BTreeMap.{get}
+use Rattle.parse_track.specs.AtomTables.{entry}
 use Rattle.parse_track.specs.Told.{Region, Told, KnownNames}
 use Rattle.parse_track.specs.RegionNames.{is_lambda}
 use Rattle.parse_track.specs.EarlyErrors.{has}
@@ -43,15 +42,15 @@ visit_inner-returns t c =
     let begun : c.begins-begun.result ≡ begins c.args.around.named k = c.begins-begun.ensures ∙ ap (begins c.args.around.named) e in
     let lists : items_of_lists c.in_ok-scopes.scopes.items ≡ scopes nat_eq known k i = c.in_ok-scopes.ensures ∙ ap (λ (x : Region ℕ). scopes nat_eq known x i) e in
     let place : c.count-place.result ≡ length (bounds_of c.args.found.now.bound.items) = c.count-place.ensures ∙ (ap length c.deref-3.ensures.value ∙ sym (length-map c.args.found.now.bound.items bound_of)) in
-    let bound : (y : ℕ) → get nat_cmp c.bind.new.env y ≡ bind_all c.around_inside-inside.result.depth (length (bounds_of c.args.found.now.bound.items)) c.in_ok-names.names.items (get nat_cmp c.args.found.now.env) y =
+    let bound : (y : ℕ) → entry c.bind.new.env.entries.items y ≡ bind_all c.around_inside-inside.result.depth (length (bounds_of c.args.found.now.bound.items)) c.in_ok-names.names.items (entry c.args.found.now.env.entries.items) y =
     λ y. c.in_ok-bind.ensures y
-    ∙ (ap (λ (p : ℕ). bind_all c.around_inside-inside.result.depth p c.deref-5.result.now (get nat_cmp c.args.found.now.env) y) place
-    ∙ ap (λ (xs : List ℕ). bind_all c.around_inside-inside.result.depth (length (bounds_of c.args.found.now.bound.items)) xs (get nat_cmp c.args.found.now.env) y) c.deref-5.ensures.value) in
+    ∙ (ap (λ (p : ℕ). bind_all c.around_inside-inside.result.depth p c.deref-5.result.now (entry c.args.found.now.env.entries.items) y) place
+    ∙ ap (λ (xs : List ℕ). bind_all c.around_inside-inside.result.depth (length (bounds_of c.args.found.now.bound.items)) xs (entry c.args.found.now.env.entries.items) y) c.deref-5.ensures.value) in
     region_visits known c.args.around.named c.args.around.func c.args.around.depth
     (stand_of c.args.found.now c.args.scope)
-    (record { bound = bounds_of c.push_scopes.new.bound.items; hits = c.args.found.now.hits.items; tops = get nat_cmp c.bind.new.env; scope = c.in_ok-next.next })
+    (record { bound = bounds_of c.push_scopes.new.bound.items; hits = c.args.found.now.hits.items; tops = entry c.bind.new.env.entries.items; scope = c.in_ok-next.next })
     (stand_of c.visit.new.found c.in_ok-end.end)
-    (record { bound = bounds_of c.visit.new.found.bound.items; hits = c.visit.new.found.hits.items; tops = get nat_cmp c.put_back.new.env; scope = c.scope_behind-behind.result })
+    (record { bound = bounds_of c.visit.new.found.bound.items; hits = c.visit.new.found.hits.items; tops = entry c.put_back.new.table.entries.items; scope = c.scope_behind-behind.result })
     k off i c.around_inside-inside.result.named c.around_inside-inside.result.func c.around_inside-inside.result.depth c.first_scope-from.result c.in_ok-names.names.items
     (record {
       lambda_is = c.around_inside-inside.ensures.named ∙ ap is_lambda e;
@@ -67,9 +66,9 @@ visit_inner-returns t c =
       visits = c.in_ok-end.ensures;
       now_bound = refl;
       now_hits = refl;
-      now_tops = c.in_ok-put_back.ensures (get nat_cmp c.args.found.now.env)
-          (c.deref-8.ensures.value ∙ (c.in_ok-saved.ensures ∙ ap (map (get nat_cmp c.args.found.now.env)) (c.deref-4.ensures.value ∙ sym c.deref-7.ensures.value)))
-          (λ y h. c.in_ok-end.ensures.same y ∙ (bound y ∙ bind_other c.in_ok-names.names.items c.around_inside-inside.result.depth (length (bounds_of c.args.found.now.bound.items)) y (get nat_cmp c.args.found.now.env)
+      now_tops = c.in_ok-put_back.ensures (entry c.args.found.now.env.entries.items)
+          (c.deref-8.ensures.value ∙ (c.in_ok-saved.ensures ∙ ap (map (entry c.args.found.now.env.entries.items)) (c.deref-4.ensures.value ∙ sym c.deref-7.ensures.value)))
+          (λ y h. c.in_ok-end.ensures.same y ∙ (bound y ∙ bind_other c.in_ok-names.names.items c.around_inside-inside.result.depth (length (bounds_of c.args.found.now.bound.items)) y (entry c.args.found.now.env.entries.items)
           (ap (has nat_eq y) (sym c.deref-7.ensures.value) ∙ h)));
       now_scope = c.scope_behind-behind.ensures ∙ ap (λ (b : Bool). cond b c.args.scope c.in_ok-end.end) begun;
     })

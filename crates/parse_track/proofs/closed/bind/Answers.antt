@@ -1,12 +1,11 @@
 use Rattle.std.proofs.Common.{arith}
 use Rattle.std.proofs.lemmas.Grind.{common_steps}
-use Rattle.std.specs.Ordering.{nat_cmp}
-use Rattle.std.specs.BTreeMap.{get}
+use Rattle.parse_track.specs.AtomTables.{entry}
 use Rattle.parse_track.proofs.Binding.{bind_step}
 use Rattle.parse_track.proofs.closed.bind.Goals as goal
 
 pub loop-index-preserved : goal.loop-index-preserved
 loop-index-preserved c =
-    bind_step c.args.names.now c.loop-index.index c.args.depth c.args.place (get nat_cmp c.loop-index.env) (get nat_cmp c.insert.new.self) _ (omega arith)
+    bind_step c.args.names.now c.loop-index.index c.args.depth c.args.place (entry c.loop-index.env.entries.items) (entry c.set.new.self.entries.items) _ (omega arith)
     (λ y. grind (arith, common_steps))
     c.loop-index.invariant

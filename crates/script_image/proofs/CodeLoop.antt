@@ -15,6 +15,7 @@ use Rattle.bytecode_buf.proofs.ReadBack.{instructions_within-none, instructions_
 use Rattle.script_image.specs.CodeLines.{listing, line}
 use Rattle.script_image.specs.ReadLines as read
 use Rattle.script_image.specs.ReadLines.{read_operand}
+pub use Rattle.script_image.specs.Pieces.{left_from}
 
 -- ---- operands of bytes
 
@@ -65,10 +66,6 @@ next_by true op a c next = refl
 next_by false op a c next = refl
 
 -- ---- one turn of a loop
-
--- what is left of a code from an offset on, after n turns
-abbrev pub left_from : List ℕ → ℕ → ℕ → List Numbered
-left_from code at turn = instructions_within (length code - turn) (drop at code)
 
 -- this instruction is read at the offset
 pub record ReadsNext (code : List ℕ) (at turn : ℕ) (instr : Instr) : Type 0 where

@@ -1,7 +1,9 @@
 pub mod CodeLines
+pub mod Cutting
 pub mod Listed
 pub mod Listings
 pub mod OpNames
+pub mod Pieces
 pub mod Quoted
 pub mod ReadLines
 pub mod ScopeLines

@@ -1,12 +1,13 @@
 //! The lines of a script's code: one for each instruction, then one for each try note.
 
-ghost use Rattle.std.specs.Prelude.{◌≡◌, ◌+◌, ◌%◌, ◌^◌, [], ◌∷◌, ◌++◌, flat_map, OnOk};
+ghost use Rattle.std.specs.Prelude.{◌≡◌, ◌+◌, ◌-◌, ◌%◌, ◌^◌, ◌≤◌, [], ◌∷◌, ◌++◌, flat_map, length, OnOk};
 ghost use Rattle.std.specs.Fmt.{decimal};
 ghost use Rattle.std.specs.Int.{cast_unsigned, w64};
 ghost use Rattle.bytecode_buf.specs.Command as command;
 ghost use Rattle.script_image.specs.CodeLines as lines;
 ghost use Rattle.script_image.specs.Listed.{listed_script};
 ghost use Rattle.script_image.specs.ReadLines.{read_as, read_operand};
+ghost use Rattle.script_image.specs.Pieces.{left_from, walked};
 
 use crate::chunk::{Chunk, flush, put, put_byte};
 use crate::names::name_of;
@@ -94,17 +95,23 @@ fn put_line(
     put_byte(out, chunk, b'\n')
 }
 
-/// Puts the lines of the whole instructions of a code after a chunk.
+/// Puts the lines of some instructions of a code after a chunk: those from an offset on, which stand after `turn` others, as far
+/// as the one that stands after `end` others.
 fn put_instructions(
     out: &mut Vec<u8>,
     chunk: &mut Chunk,
     code: &[u8],
     texts: &[Text],
+    from: usize,
+    turn: usize,
+    end: usize,
 ) -> Result<(), AllocError>
-    ensures { OnOk result (out.new.items ++ chunk.new.items ≡ (out.old.items ++ chunk.old.items) ++ lines.listing (command.listed texts.now code.now)) }
+    requires ends { (turn ≤ end) × (end ≤ length code.now) }
+    ensures { OnOk result ((out.new.items ++ chunk.new.items) ++ lines.listing (command.listed_from texts.now (walked code.now from (end - turn)) (left_from code.now (walked code.now from (end - turn)) end))
+        ≡ (out.old.items ++ chunk.old.items) ++ lines.listing (command.listed_from texts.now from (left_from code.now from turn))) }
 {
-    let mut at = 0;
-    for _ in 0..code.len() {
+    let mut at = from;
+    for _ in turn..end {
         match decode_at(code, at) {
             None => return Ok(()),
             Some(instr) => {
@@ -116,12 +123,22 @@ fn put_instructions(
     Ok(())
 }
 
-/// Appends the lines of the whole instructions of a code.
-fn append_instructions(out: &mut Vec<u8>, code: &[u8], texts: &[Text]) -> Result<(), AllocError>
-    ensures { OnOk result (out.new.items ≡ out.old.items ++ lines.listing (command.listed texts.now code.now)) }
+/// Appends the lines of some instructions of a code: those from an offset on, which stand after `turn` others, as far as the one
+/// that stands after `end` others.
+pub(crate) fn append_instructions(
+    out: &mut Vec<u8>,
+    code: &[u8],
+    texts: &[Text],
+    from: usize,
+    turn: usize,
+    end: usize,
+) -> Result<(), AllocError>
+    requires ends { (turn ≤ end) × (end ≤ length code.now) }
+    ensures { OnOk result (out.new.items ++ lines.listing (command.listed_from texts.now (walked code.now from (end - turn)) (left_from code.now (walked code.now from (end - turn)) end))
+        ≡ out.old.items ++ lines.listing (command.listed_from texts.now from (left_from code.now from turn))) }
 {
     let mut chunk = Chunk::new();
-    put_instructions(out, &mut chunk, code, texts)?;
+    put_instructions(out, &mut chunk, code, texts, from, turn, end)?;
     flush(out, &mut chunk)
 }
 
@@ -146,6 +163,24 @@ fn append_notes(out: &mut Vec<u8>, notes: &[TryNote]) -> Result<(), AllocError>
     Ok(())
 }
 
+/// Appends what is left of the lines under the line of a compiled script for its code: those of the instructions from an offset
+/// on, which stand after `turn` others, and those of the try notes.
+pub(crate) fn append_code_from(
+    out: &mut Vec<u8>,
+    texts: &[Text],
+    code: &[u8],
+    notes: &[TryNote],
+    from: usize,
+    turn: usize,
+) -> Result<(), AllocError>
+    requires { turn ≤ length code.now }
+    ensures { OnOk result (out.new.items ≡ out.old.items ++ (lines.listing (command.listed_from texts.now from (left_from code.now from turn)) ++ flat_map lines.note_line notes.now)) }
+{
+    append_instructions(out, code, texts, from, turn, code.len())?;
+    append_notes(out, notes)?;
+    Ok(())
+}
+
 /// Appends what stands under the line of a compiled script for its code.
 pub(crate) fn append_code(
     out: &mut Vec<u8>,
@@ -154,7 +189,21 @@ pub(crate) fn append_code(
 ) -> Result<(), AllocError>
     ensures { OnOk result (out.new.items ≡ out.old.items ++ lines.code_lines (listed_script texts.now script.now)) }
 {
-    append_instructions(out, &script.code, texts)?;
-    append_notes(out, &script.notes)?;
+    append_code_from(out, texts, &script.code, &script.notes, 0, 0)?;
     Ok(())
+}
+
+/// The offset behind n instructions of a code, of which the first stands at an offset; behind all that are read where these are
+/// fewer.
+pub(crate) fn offset_behind(code: &[u8], from: usize, count: usize) -> usize
+    ensures { result ≡ walked code.now from count }
+{
+    let mut at = from;
+    for _ in 0..count {
+        match decode_at(code, at) {
+            None => return at,
+            Some(instr) => at = instr.next,
+        }
+    }
+    at
 }

@@ -1,12 +1,11 @@
-//! The lines of the scripts of a file, in order of number.
+//! The lines of each script of a file.
 
-ghost use Rattle.std.specs.Prelude.{◌≡◌, ◌++◌, List, map, OnOk};
+ghost use Rattle.std.specs.Prelude.{◌≡◌, ◌+◌, ◌<◌, ◌++◌, map, option_map, OnOk};
 ghost use Rattle.std.specs.Fmt.{decimal};
-ghost use Rattle.stencil_data.specs.Named.{NamedMerged};
-ghost use Rattle.stencil_data.specs.StandsFor.{MergedStandsFor, named_closed, named_record};
-ghost use Rattle.bytecode_buf.specs.Command.{Listed};
-ghost use Rattle.script_image.specs.Listed.{ShowsListed, listed_entry, listed_script, listed_stencil};
+ghost use Rattle.stencil_data.specs.StandsFor.{named_closed, named_record};
+ghost use Rattle.script_image.specs.Listed.{listed_entry, listed_script};
 ghost use Rattle.script_image.specs.Listings.{lines_of};
+ghost use Rattle.script_image.specs.Pieces.{from_script, header_line, part_at, script_count};
 ghost use Rattle.script_image.specs.Quoted.{list_text, with_commas};
 ghost use Rattle.script_image.specs.ScriptLines as lines;
 
@@ -18,7 +17,7 @@ use stencil_data::{ClosedName, Entry, Extent, FunctionStencil, LazyRecord, Merge
 
 /// What is listed of a compiled script.
 #[derive(Clone, Copy)]
-pub(crate) enum Listing {
+pub enum Listing {
     Code,
     Scopes,
 }
@@ -139,6 +138,22 @@ fn append_record(
     Ok(())
 }
 
+/// Appends the line of the compiled function of this number.
+fn append_function_line(
+    out: &mut Vec<u8>,
+    texts: &[Text],
+    number: u64,
+    script: &FunctionStencil,
+) -> Result<(), AllocError>
+    ensures { OnOk result (out.new.items ≡ out.old.items ++ lines.function_line number (listed_script texts.now script.now)) }
+{
+    append_script(out, number, "function", script.extent)?;
+    out.extend_from_slice(b" ")?;
+    append_name(out, texts, script.name)?;
+    out.extend_from_slice(b"\n")?;
+    Ok(())
+}
+
 /// Appends the lines of the compiled function of this number.
 fn append_compiled(
     out: &mut Vec<u8>,
@@ -149,10 +164,7 @@ fn append_compiled(
 ) -> Result<(), AllocError>
     ensures { OnOk result (out.new.items ≡ out.old.items ++ lines.function_line number (listed_script texts.now script.now) ++ lines_of listing (listed_script texts.now script.now)) }
 {
-    append_script(out, number, "function", script.extent)?;
-    out.extend_from_slice(b" ")?;
-    append_name(out, texts, script.name)?;
-    out.extend_from_slice(b"\n")?;
+    append_function_line(out, texts, number, script)?;
     append_lines(out, listing, texts, script)?;
     Ok(())
 }
@@ -175,59 +187,76 @@ fn append_function(
     Ok(())
 }
 
-/// Appends the lines of the functions that have these records and entries, the first one being function 1.
-fn append_functions(
-    out: &mut Vec<u8>,
-    listing: Listing,
-    texts: &[Text],
-    records: &[LazyRecord],
-    entries: &[Entry],
-) -> Result<(), AllocError>
-    ensures { OnOk result (out.new.items ≡ out.old.items ++ lines.scripts_from (lines_of listing) 1 (map (named_record texts.now) records.now) (map (listed_entry texts.now) entries.now)) }
+/// Appends the line of the file's own part.
+fn append_top_line(out: &mut Vec<u8>, top: &FunctionStencil) -> Result<(), AllocError>
+    ensures { OnOk result (out.new.items ≡ out.old.items ++ lines.top_line top.now.extent) }
 {
-    for index in 0..records.len().min(entries.len()) {
-        let number = index as u64 + 1;
-        append_function(
-            out,
-            listing,
-            texts,
-            number,
-            &records[index],
-            &entries[index],
-        )?;
-    }
+    append_script(out, 0, "top", top.extent)?;
+    out.extend_from_slice(b"\n")?;
     Ok(())
 }
 
-/// Appends the lines of all scripts.
-fn append_all(out: &mut Vec<u8>, listing: Listing, merged: &MergedStencil) -> Result<(), AllocError>
-    ensures { OnOk result (out.new.items ≡ out.old.items ++ lines.text_of (lines_of listing) (listed_stencil merged.now)) }
+/// Appends the lines of the file's own part.
+fn append_top(out: &mut Vec<u8>, listing: Listing, merged: &MergedStencil) -> Result<(), AllocError>
+    ensures { OnOk result (out.new.items ≡ out.old.items ++ lines.top_line merged.now.top.extent ++ lines_of listing (listed_script merged.now.texts merged.now.top)) }
 {
-    append_script(out, 0, "top", merged.top.extent)?;
-    out.extend_from_slice(b"\n")?;
+    append_top_line(out, &merged.top)?;
     append_lines(out, listing, &merged.texts, &merged.top)?;
-    append_functions(
+    Ok(())
+}
+
+/// The compiled script of this number, 0 for the file's own part.
+pub(crate) fn part_of(merged: &MergedStencil, number: usize) -> Option<&FunctionStencil>
+    ensures { option_map (λ part. part.now) result ≡ part_at merged.now number }
+{
+    if number == 0 {
+        return Some(&merged.top);
+    }
+    match merged.entries.get(number - 1) {
+        Some(Entry::Compiled(script)) => Some(script),
+        Some(Entry::Lazy) => None,
+        None => None,
+    }
+}
+
+/// Appends the line over the code of the compiled script of this number.
+pub(crate) fn append_header(
+    out: &mut Vec<u8>,
+    texts: &[Text],
+    number: usize,
+    script: &FunctionStencil,
+) -> Result<(), AllocError>
+    ensures { OnOk result (out.new.items ≡ out.old.items ++ header_line number (listed_script texts.now script.now)) }
+{
+    if number == 0 {
+        append_top_line(out, script)?;
+        return Ok(());
+    }
+    append_function_line(out, texts, number as u64, script)?;
+    Ok(())
+}
+
+/// Appends the lines of the script of this number, and of no other.
+pub(crate) fn append_numbered(
+    out: &mut Vec<u8>,
+    listing: Listing,
+    merged: &MergedStencil,
+    number: usize,
+) -> Result<(), AllocError>
+    requires { number < script_count merged.now }
+    ensures { OnOk result (out.new.items ++ from_script listing merged.now (number + 1) ≡ out.old.items ++ from_script listing merged.now number) }
+{
+    if number == 0 {
+        append_top(out, listing, merged)?;
+        return Ok(());
+    }
+    append_function(
         out,
         listing,
         &merged.texts,
-        &merged.records,
-        &merged.entries,
+        number as u64,
+        &merged.records[number - 1],
+        &merged.entries[number - 1],
     )?;
-    Ok(())
-}
-
-/// Appends the listing of the code of all scripts of a merged stencil.
-pub fn code_text(out: &mut Vec<u8>, merged: &MergedStencil) -> Result<(), AllocError>
-    ensures { OnOk result ((named : NamedMerged (List Listed)) → MergedStandsFor ShowsListed merged.now named → out.new.items ≡ out.old.items ++ lines.code_text named) }
-{
-    append_all(out, Listing::Code, merged)?;
-    Ok(())
-}
-
-/// Appends the listing of the scopes of all scripts of a merged stencil.
-pub fn scope_text(out: &mut Vec<u8>, merged: &MergedStencil) -> Result<(), AllocError>
-    ensures { OnOk result ((named : NamedMerged (List Listed)) → MergedStandsFor ShowsListed merged.now named → out.new.items ≡ out.old.items ++ lines.scope_text named) }
-{
-    append_all(out, Listing::Scopes, merged)?;
     Ok(())
 }

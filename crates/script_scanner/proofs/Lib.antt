@@ -3,6 +3,7 @@ pub mod BlankLemmas
 pub mod KindLemmas
 pub mod Lists
 pub mod MarkLemmas
+pub mod NameLemmas
 pub mod NumberLemmas
 pub mod PartLemmas
 pub mod PieceLemmas

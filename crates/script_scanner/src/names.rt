@@ -7,20 +7,27 @@ ghost use Rattle.script_scanner.specs.Names.{is_name_start, is_name_part, name_l
 use unit_text::Point;
 
 /// Whether a name may begin with a code point (ECMA-262, 12th edition, clause 12.6: IdentifierStartChar).
+#[tactic(auto, using(crate::proofs::NameLemmas::start_ascii, crate::proofs::NameLemmas::start_other))]
 pub fn is_name_start(code: char) -> bool
     ensures { result ≡ is_name_start code }
 {
-    unicode_ident::is_xid_start(code) | (code == '$') | (code == '_')
+    if code < '\u{80}' {
+        code.is_ascii_alphabetic() | (code == '$') | (code == '_')
+    } else {
+        unicode_ident::is_xid_start(code)
+    }
 }
 
 /// Whether a name may go on with a code point (IdentifierPartChar).
+#[tactic(auto, using(crate::proofs::NameLemmas::part_ascii, crate::proofs::NameLemmas::part_other))]
 pub fn is_name_part(code: char) -> bool
     ensures { result ≡ is_name_part code }
 {
-    unicode_ident::is_xid_continue(code)
-        | (code == '$')
-        | (code == '\u{200C}')
-        | (code == '\u{200D}')
+    if code < '\u{80}' {
+        code.is_ascii_alphanumeric() | (code == '$') | (code == '_')
+    } else {
+        unicode_ident::is_xid_continue(code) | (code == '\u{200C}') | (code == '\u{200D}')
+    }
 }
 
 fn points_in_name(rest: &[Point]) -> usize

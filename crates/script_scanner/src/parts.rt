@@ -97,6 +97,7 @@ fn step_at(ending: Ending, rest: &[Point]) -> Step
 }
 
 /// Appends the units of a code point or a lone surrogate.
+#[inline]
 pub fn push_code(units: &mut Vec<u16>, code: u32) -> Result<(), AllocError>
     requires { code ≤ 0x10_FFFF }
     ensures { OnOk result (units.new.items ≡ units.old.items ++ code_units code) }
@@ -105,6 +106,15 @@ pub fn push_code(units: &mut Vec<u16>, code: u32) -> Result<(), AllocError>
         units.push(code as u16)?;
         return Ok(());
     }
+    push_units(units, code)
+}
+
+// The same, for the codes that take two units, which are rare: apart so that the body above stays short.
+#[cold]
+fn push_units(units: &mut Vec<u16>, code: u32) -> Result<(), AllocError>
+    requires { code ≤ 0x10_FFFF }
+    ensures { OnOk result (units.new.items ≡ units.old.items ++ code_units code) }
+{
     let (pair, count) = units_of_value(code);
     units.extend_from_slice(&pair[..usize::from(count)])?;
     Ok(())

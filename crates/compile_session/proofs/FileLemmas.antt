@@ -70,12 +70,12 @@ pub script_is : (want : Wanted) (file : List ℕ) (o : SourceText) (script : Syn
 script_is want file o script comes is = subst (λ (x : SourceText). IsSourceText want file x) is comes
 
 pub answers_script : (c : Command) (want : Wanted) (name file : List ℕ) (script : SyntaxScript) (answer : FileAnswer) → is_source c ≡ true → (s : IsScriptOf want file script)
-    → IsWritten c want name (length file) s.is.items (length script.functions.items) answer.text.items → answer.refused ≡ false → IsAnswerFor c want name file answer
+    → IsWritten c want name (length file) s.is.items (length script.functions.items) answer.text → answer.refused ≡ false → IsAnswerFor c want name file answer
 answers_script c want name file script answer built s written fine =
     answers_source c want name file answer (IsScript s.is.items (length script.functions.items)) built (record { valid = s.is.valid; present = s.present }) (written, fine)
 
 pub answers_checked : (c : Command) (want : Wanted) (name file : List ℕ) (script : SyntaxScript) (functions : ℕ) (answer : FileAnswer) → c ≡ command.Check → IsScriptOf want file script → functions ≡ length script.functions.items
-    → answer.text.items ≡ name ++ codes ": ok, " ++ decimal functions ++ codes " functions\n" → answer.refused ≡ false → IsAnswerFor c want name file answer
+    → answer.text ≡ name ++ codes ": ok, " ++ decimal functions ++ codes " functions\n" → answer.refused ≡ false → IsAnswerFor c want name file answer
 answers_checked c want name file script functions answer is s counted printed fine =
     subst (λ (x : Command). IsAnswerFor x want name file answer) (sym is)
     (answers_script command.Check want name file script answer refl s (printed ∙ ap (λ (n : ℕ). name ++ codes ": ok, " ++ decimal n ++ codes " functions\n") counted) fine)
@@ -83,7 +83,7 @@ answers_checked c want name file script functions answer is s counted printed fi
 -- ---- refused source text
 
 pub answers_refused : (c : Command) (want : Wanted) (name file : List ℕ) (why : Refusal) (answer : FileAnswer) → is_source c ≡ true → IsSource want file (IsRefused (refusal_of why))
-    → answer.text.items ≡ refusal_line name (refusal_of why) → answer.refused ≡ true → IsAnswerFor c want name file answer
+    → answer.text ≡ refusal_line name (refusal_of why) → answer.refused ≡ true → IsAnswerFor c want name file answer
 answers_refused c want name file why answer built comes printed is_refused = answers_source c want name file answer (IsRefused (refusal_of why)) built comes (printed, is_refused)
 
 -- ---- a file that was read whole

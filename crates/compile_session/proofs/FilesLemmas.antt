@@ -139,7 +139,7 @@ few_at j reads count index answers answer all is =
 -- the loop goes on
 pub answered_more : (j : FileJob) (reads : List (Option (Vec ℕ Global))) (count index next : ℕ) (answers : List FileAnswer) (text new : List ℕ) (refused now : Bool) (answer : FileAnswer)
     → SettleFiles (job j) reads count answers → count ≤ length j.files.items → count ≤ length reads → slice_get answers index ≡ Some answer
-    → new ≡ text ++ answer.text.items → now ≡ (refused || answer.refused) → next ≡ index + 1
+    → new ≡ text ++ answer.text → now ≡ (refused || answer.refused) → next ≡ index + 1
     → IsAnswering (job j) (map string_bytes j.files.items) reads index text refused → IsAnswering (job j) (map string_bytes j.files.items) reads next new now
 answered_more j reads count index next answers text new refused now answer all named are_read is grown or one at =
     let names : List (List ℕ) = map string_bytes j.files.items in
@@ -150,7 +150,7 @@ answered_more j reads count index next answers text new refused now answer all n
     let k : index < length reads = omega (arith, inside, counted, are_read) in
     let settles : SettlesRead (job j) (get_or names index []) (get_or reads index None) answer =
     (all.each index answer is).settles (get_or names index []) (get_or reads index None) (slice_get-get_or names index [] h) (slice_get-get_or reads index None k) in
-    let more = answering_more (job j) names reads index text new answer.text.items refused answer.refused (get_or names index []) (get_or reads index None) [] None h k refl refl settles grown at in
+    let more = answering_more (job j) names reads index text new answer.text refused answer.refused (get_or names index []) (get_or reads index None) [] None h k refl refl settles grown at in
     subst (λ (n : ℕ). IsAnswering (job j) names reads n new now) (sym one) (subst (λ (x : Bool). IsAnswering (job j) names reads (index + 1) new x) (sym or) more)
 
 -- the loop is at its end

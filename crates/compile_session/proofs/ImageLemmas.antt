@@ -13,7 +13,7 @@ use Rattle.session_specs.specs.Refusals as line
 use Rattle.compile_session.specs.declared.answer.FileAnswer.{FileAnswer}
 use Rattle.compile_session.specs.Answers.{IsAnswerFor}
 
-pub loads : (want : Wanted) (name file front : List ℕ) (answer : FileAnswer) → front ≡ file_line name → ((merged : NamedMerged (List Listed)) × IsImageFor file merged × (answer.text.items ≡ front ++ code_text merged)) → answer.refused ≡ false
+pub loads : (want : Wanted) (name file front : List ℕ) (answer : FileAnswer) → front ≡ file_line name → ((merged : NamedMerged (List Listed)) × IsImageFor file merged × (answer.text ≡ front ++ code_text merged)) → answer.refused ≡ false
     → IsAnswerFor command.Load want name file answer
 loads want name file front answer begins listed fine = record {
   is = inl (record { merged = listed.0; is = listed.1; listed = printed; fine = fine });
@@ -26,10 +26,10 @@ loads want name file front answer begins listed fine = record {
   ];
 }
   where
-    printed : answer.text.items ≡ file_line name ++ code_text listed.0
+    printed : answer.text ≡ file_line name ++ code_text listed.0
     printed = listed.2 ∙ ap (λ (l : List ℕ). l ++ code_text listed.0) begins
 
-pub verifies : (want : Wanted) (name file front : List ℕ) (answer : FileAnswer) → front ≡ file_line name → ((lines : List ℕ) × AreVerifiedLines file lines answer.refused × (answer.text.items ≡ front ++ lines)) → IsAnswerFor command.Verify want name file answer
+pub verifies : (want : Wanted) (name file front : List ℕ) (answer : FileAnswer) → front ≡ file_line name → ((lines : List ℕ) × AreVerifiedLines file lines answer.refused × (answer.text ≡ front ++ lines)) → IsAnswerFor command.Verify want name file answer
 verifies want name file front answer begins checked = record {
   is = inl (record { lines = checked.0; verified = checked.1; written = printed });
   only = λ other r o. elim o [
@@ -40,10 +40,10 @@ verifies want name file front answer begins checked = record {
   ];
 }
   where
-    printed : answer.text.items ≡ file_line name ++ checked.0
+    printed : answer.text ≡ file_line name ++ checked.0
     printed = checked.2 ∙ ap (λ (l : List ℕ). l ++ checked.0) begins
 
-pub loads_none : (want : Wanted) (name file : List ℕ) (answer : FileAnswer) → IsNoImage file → RefusedAs name line.NoImage answer.text.items answer.refused → IsAnswerFor command.Load want name file answer
+pub loads_none : (want : Wanted) (name file : List ℕ) (answer : FileAnswer) → IsNoImage file → RefusedAs name line.NoImage answer.text answer.refused → IsAnswerFor command.Load want name file answer
 loads_none want name file answer none said = record {
   is = inr (none, said);
   only = λ other r o. elim o [
@@ -52,7 +52,7 @@ loads_none want name file answer none said = record {
   ];
 }
 
-pub verifies_none : (want : Wanted) (name file : List ℕ) (answer : FileAnswer) → IsNoImage file → RefusedAs name line.NoImage answer.text.items answer.refused → IsAnswerFor command.Verify want name file answer
+pub verifies_none : (want : Wanted) (name file : List ℕ) (answer : FileAnswer) → IsNoImage file → RefusedAs name line.NoImage answer.text answer.refused → IsAnswerFor command.Verify want name file answer
 verifies_none want name file answer none said = record {
   is = inr (none, said);
   only = λ other r o. elim o [

@@ -14,6 +14,7 @@ pub mod ShowingLemmas
 pub mod ShownLemmas
 pub mod SourceLemmas
 pub mod StartLemmas
+pub mod TextLemmas
 pub mod TrialLemmas
 pub mod WordLaws
 pub mod WorkLemmas

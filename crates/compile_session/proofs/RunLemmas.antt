@@ -7,7 +7,8 @@ use Rattle.compile_session.specs.Alike.{AskAlike, IsAlike}
 use Rattle.compile_session.specs.Compiled.{IsCompiledBy, MayCompile, workers_of}
 use Rattle.compile_session.specs.Files.{AnswersWork, CountsWork, SettlesWork, compiles_once, status_of}
 use Rattle.compile_session.specs.Work.{files_of, names_of}
-use Rattle.compile_session.specs.declared.answer.FileAnswer.{FileAnswer}
+use Rattle.compile_session.specs.Printed.{texts_in}
+use Rattle.compile_session.specs.declared.answer.WholeAnswer.{WholeAnswer}
 use Rattle.compile_session.specs.declared.status.Status.{Status}
 use Rattle.compile_tally.specs.Tally.{Rises}
 use Rattle.session_outside.specs.Loops.{ReadsAllWithin, opened_within}
@@ -19,8 +20,8 @@ use Rattle.session_words.specs.Asked.{Asked, Churn, Files, Trial, job}
 use Rattle.session_words.specs.Words.{asked_of}
 
 -- what is answered, where the shelf tells what it holds, by what the calls saw of the names and of what was read
-pub settled_seen : (a : Asked) (shelf : Option (List ℕ → List ℕ)) (held : List ℕ → List ℕ) (names : List (List ℕ)) (reads seen : List (Option (Vec ℕ Global))) (answer : FileAnswer) → names ≡ files_of a → seen ≡ reads → shelf ≡ Some held
-    → ReadsAllWithin shelf names most_bytes reads → AnswersWork a seen answer → SettlesWork a held answer.text.items answer.refused
+pub settled_seen : (a : Asked) (shelf : Option (List ℕ → List ℕ)) (held : List ℕ → List ℕ) (names : List (List ℕ)) (reads seen : List (Option (Vec ℕ Global))) (answer : WholeAnswer) → names ≡ files_of a → seen ≡ reads → shelf ≡ Some held
+    → ReadsAllWithin shelf names most_bytes reads → AnswersWork a seen answer → SettlesWork a held (texts_in answer.files.items) answer.refused
 settled_seen a shelf held names reads seen answer named is tells read answers =
     (subst (λ (l : List (Option (Vec ℕ Global))). AnswersWork a l answer) is answers) held
     (subst (λ (s : Option (List ℕ → List ℕ)). ReadsAllWithin s (files_of a) most_bytes reads) tells (subst (λ (l : List (List ℕ)). ReadsAllWithin shelf l most_bytes reads) named read))

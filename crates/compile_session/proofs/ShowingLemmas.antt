@@ -84,7 +84,7 @@ module _ (j : Job) (shows : shows_scripts j.command ≡ true) (bytes : Vec ℕ G
 
   -- what is printed of what is shown of it
   pub answers_shown : (name : List ℕ) (merged : MergedView) (answer : FileAnswer) → Shows (to_show j.want) started.is.items (length bytes.items) merged
-      → (Shows (to_show j.want) started.is.items (length bytes.items) merged → IsWritten j.command j.want name (length bytes.items) started.is.items (length script.initial.parts.records) answer.text.items) → answer.refused ≡ false
+      → (Shows (to_show j.want) started.is.items (length bytes.items) merged → IsWritten j.command j.want name (length bytes.items) started.is.items (length script.initial.parts.records) answer.text) → answer.refused ≡ false
       → IsAnswerFor j.command j.want name bytes.items answer
   answers_shown name merged answer s written fine =
       answers_source j.command j.want name bytes.items answer (IsScript started.is.items (length script.initial.parts.records)) (source_if_shown j.command shows) has_all (written s, fine)
@@ -118,10 +118,10 @@ shows_script j files name (Some bytes) script (Some work) answer shows started a
 
 -- one that is refused
 pub shows_refused : (j : Job) (name : List ℕ) (read : Option (Vec ℕ Global)) (why : Refusal) (answer : FileAnswer) → shows_scripts j.command ≡ true → IsStart j.want read (start.Refused why)
-    → answer.text.items ≡ refusal_line name (refusal_of why) → answer.refused ≡ true → answer.compiled ≡ 0
+    → answer.text ≡ refusal_line name (refusal_of why) → answer.refused ≡ true → answer.compiled ≡ 0
     → SettlesRead j name read answer × CountsRead j read answer.compiled × (answer.compiled < 2 ^ 24)
 shows_refused j name None why answer shows started printed is none = (
-  λ before file whole. settles_long j before name file answer.text.items answer.refused whole (printed ∙ ap (λ (w : Refusal). refusal_line name (refusal_of w)) started) is,
+  λ before file whole. settles_long j before name file answer.text answer.refused whole (printed ∙ ap (λ (w : Refusal). refusal_line name (refusal_of w)) started) is,
   counts_long j None answer.compiled refl none,
   omega (arith, none),
 )

@@ -12,8 +12,10 @@ use Rattle.bytecode_buf.specs.Command.{Command as Instruction, Listed}
 use Rattle.bytecode_buf.specs.InRange.{TextsSmall}
 use Rattle.parse_track.specs.Notes.{closed_names}
 use Rattle.script_image.specs.Listed.{ShowsListed}
-use Rattle.script_image.specs.ScriptLines.{listed_merged}
-use Rattle.script_image.proofs.Stands.{commands_as_listed}
+use Rattle.script_image.specs.ScriptLines.{code_text, listed_merged, scope_text}
+use Rattle.script_image.proofs.Stands.{commands_as_listed, stencil_is}
+use Rattle.script_image.specs.declared.script_lines.Listing.{Listing}
+use Rattle.script_image.specs.Pieces.{from_script}
 use Rattle.session_words.specs.declared.options.Command.{Command}
 use Rattle.session_words.specs.declared.options.Command.TheVariants as command
 use Rattle.session_specs.specs.Answer.{file_line, to_show}
@@ -30,7 +32,7 @@ use Rattle.compile_shown.specs.Counting.{extents_in}
 use Rattle.compile_shown.specs.Shown.{shown_in}
 use Rattle.compile_image_laws.proofs.Images.{script_stands, shown_has_image}
 use Rattle.stencil_xdr_laws.specs.Written.{IsWrittenOf}
-use Rattle.compile_session.specs.Listed.{IsWrittenFor, listed_text}
+use Rattle.compile_session.specs.Listed.{IsWrittenFor, listed_text, listing_for}
 use Rattle.compile_session.proofs.SourceLemmas.{same_valid}
 
 -- ---- what is compiled
@@ -71,6 +73,24 @@ listed_written command.Check name shown out shows unlike listed = absurd (cc)
 listed_written command.Save name shown out shows unlike listed = absurd (unlike refl)
 listed_written command.Load name shown out shows unlike listed = absurd (cc)
 listed_written command.Verify name shown out shows unlike listed = absurd (cc)
+
+-- the listing is that of the value that the stencil stands for
+listed_as : (c : Command) (shown : MergedView) (named : NamedMerged (List Listed)) → MergedStandsFor ShowsListed shown named → from_script (listing_for c) shown 0 ≡ listed_text c named
+listed_as command.Code shown named s = ap code_text (stencil_is shown named s)
+listed_as command.Scopes shown named s = ap scope_text (stencil_is shown named s)
+listed_as command.Check shown named s = ap code_text (stencil_is shown named s)
+listed_as command.Save shown named s = ap code_text (stencil_is shown named s)
+listed_as command.Load shown named s = ap code_text (stencil_is shown named s)
+listed_as command.Verify shown named s = ap code_text (stencil_is shown named s)
+
+pub listing_written : (c : Command) (name : List ℕ) (shown : MergedView) (out head : List ℕ) (kind : Listing) → shows_scripts c ≡ true → (c ≡ command.Save → ⊥) → head ≡ file_line name → kind ≡ listing_for c → out ≡ head ++ from_script kind shown 0 → IsWrittenFor c name shown out
+listing_written c name shown out head kind shows unlike head_is kind_is out_is =
+    listed_written c name shown out shows unlike
+    (λ named s.
+    out_is
+    ∙ ap (λ (l : List ℕ). l ++ from_script kind shown 0) head_is
+    ∙ ap (λ (k : Listing). file_line name ++ from_script k shown 0) kind_is
+    ∙ ap (λ (l : List ℕ). file_line name ++ l) (listed_as c shown named s))
 
 pub image_written : (c : Command) (name : List ℕ) (shown : MergedView) (image : List ℕ) → c ≡ command.Save → TextsSmall shown.texts → IsWrittenOf shown image → IsWrittenFor c name shown image
 image_written c name shown image is small written =

@@ -192,17 +192,17 @@ settles_long job before name file text refused long printed is = record {
 
 -- the answer for a file of this source
 pub answers_source : (command : Word) (want : Wanted) (name file : List ℕ) (answer : FileAnswer) (source : Source) → is_source command ≡ true → IsSource want file source
-    → IsOfSource command want name file source answer.text.items answer.refused → IsAnswerFor command want name file answer
+    → IsOfSource command want name file source answer.text answer.refused → IsAnswerFor command want name file answer
 answers_source command want name file answer source built is of = record {
-  is = to_source command want name file answer.text.items answer.refused built (source, is, of);
+  is = to_source command want name file answer.text answer.refused built (source, is, of);
   only = λ other r o.
       let f = from_source command want name file other r built o in
       let e = sources_equal want file f.0 source f.1 is in
-      one_of_source command want name file source other answer.text.items r answer.refused built (subst (λ (x : Source). IsOfSource command want name file x other r) e f.2) of;
+      one_of_source command want name file source other answer.text r answer.refused built (subst (λ (x : Source). IsOfSource command want name file x other r) e f.2) of;
 }
 
 -- the answer for a file that is not too long
-pub settles_within : (job : Job) (before : ℕ) (name file : List ℕ) (answer : FileAnswer) → before + length file ≤ most_bytes → IsAnswerFor job.command job.want name file answer → Settles job before name file answer.text.items answer.refused
+pub settles_within : (job : Job) (before : ℕ) (name file : List ℕ) (answer : FileAnswer) → before + length file ≤ most_bytes → IsAnswerFor job.command job.want name file answer → Settles job before name file answer.text answer.refused
 settles_within job before name file answer short a = record {
   is = inr (short, a.is);
   only = λ other r o. elim o [

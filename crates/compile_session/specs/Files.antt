@@ -5,7 +5,8 @@ use Rattle.session_outside.specs.Loops.{AreWholeBehind}
 use Rattle.session_words.specs.Asked.{Job, Asked, Files, Trial, Churn}
 use Rattle.session_specs.specs.Answer.{IsAnswerTo, IsOfFiles, most_bytes}
 use Rattle.session_specs.specs.Compiled.{CompilesAsked, compiles_none}
-use Rattle.compile_session.specs.declared.answer.FileAnswer.{FileAnswer}
+use Rattle.compile_session.specs.Printed.{texts_in}
+use Rattle.compile_session.specs.declared.answer.WholeAnswer.{WholeAnswer}
 use Rattle.compile_session.specs.Work.{files_of}
 use Rattle.compile_session.specs.declared.status.Status.{Status}
 use Rattle.compile_session.specs.declared.status.Status.TheVariants as status
@@ -38,8 +39,8 @@ pub record SettlesAll (job : Job) (held : List ℕ → List ℕ) (before : ℕ) 
   pub only : (other : List ℕ) (other_refused : Bool) → IsOfFiles job.command job.want held before names other other_refused → (other ≡ text) × (other_refused ≡ refused)
 
 -- the same of what was read of the files of a command
-abbrev pub AnswersAll : Job → List (Option (Vec ℕ Global)) → FileAnswer → Type 0
-AnswersAll job reads answer = (held : List ℕ → List ℕ) → AreWholeBehind most_bytes held 0 job.files reads → SettlesAll job held 0 job.files answer.text.items answer.refused
+abbrev pub AnswersAll : Job → List (Option (Vec ℕ Global)) → WholeAnswer → Type 0
+AnswersAll job reads answer = (held : List ℕ → List ℕ) → AreWholeBehind most_bytes held 0 job.files reads → SettlesAll job held 0 job.files (texts_in answer.files.items) answer.refused
 
 -- The text and whether a file is refused are the answer to what is asked, and there is no other.
 pub record SettlesWork (asked : Asked) (held : List ℕ → List ℕ) (text : List ℕ) (refused : Bool) : Type 0 where
@@ -47,8 +48,8 @@ pub record SettlesWork (asked : Asked) (held : List ℕ → List ℕ) (text : Li
   pub only : (other : List ℕ) (other_refused : Bool) → IsAnswerTo asked held other other_refused → (other ≡ text) × (other_refused ≡ refused)
 
 -- the same of what was read of its files
-abbrev pub AnswersWork : Asked → List (Option (Vec ℕ Global)) → FileAnswer → Type 0
-AnswersWork asked reads answer = (held : List ℕ → List ℕ) → AreWholeBehind most_bytes held 0 (files_of asked) reads → SettlesWork asked held answer.text.items answer.refused
+abbrev pub AnswersWork : Asked → List (Option (Vec ℕ Global)) → WholeAnswer → Type 0
+AnswersWork asked reads answer = (held : List ℕ → List ℕ) → AreWholeBehind most_bytes held 0 (files_of asked) reads → SettlesWork asked held (texts_in answer.files.items) answer.refused
 
 -- whether each function that is shown is compiled once for what is asked: `churn` compiles functions again and again
 abbrev pub compiles_once : Asked → Bool

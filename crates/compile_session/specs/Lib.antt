@@ -5,6 +5,7 @@ pub mod Faulty
 pub mod Files
 pub mod Listed
 pub mod Orders
+pub mod Printed
 pub mod Showing
 pub mod Starts
 pub mod Statuses

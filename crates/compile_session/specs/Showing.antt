@@ -59,7 +59,7 @@ pub record ShowsFile (job : Job) (reads : List (Option (Vec ℕ Global))) (works
 pub record ShowsScript (command : Command) (work : Option WorkView) (name : List ℕ) (answer : FileAnswer) : Type 0 where
   pub merged : MergedView
   pub is : IsMergedOf work merged
-  pub written : IsWrittenFor command name merged answer.text.items
+  pub written : IsWrittenFor command name merged answer.text
   pub fine : answer.refused ≡ false
   pub count : answer.compiled ≡ shown_of work
 

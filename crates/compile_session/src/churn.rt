@@ -3,9 +3,10 @@
 ghost use Rattle.std.specs.Prelude.{◌≡◌, ◌≤◌, ◌++◌, ℕ, List, codes, IfOk};
 ghost use Rattle.session_specs.specs.Answer as answer;
 ghost use Rattle.session_words.specs.Asked as asked;
+ghost use Rattle.compile_session.specs.Printed.{texts_in};
 ghost use Rattle.compile_session.specs.Files.{CountsChurn, SettlesWork};
 
-use crate::answer::FileAnswer;
+use crate::answer::{WholeAnswer, one_line};
 use crate::generated::{append_counts, append_numbers, script_in};
 use compile_initial::initial;
 use helper_tasks::Gate;
@@ -40,10 +41,10 @@ pub(crate) fn churn_answer<R: Threads + Wait + Sync, G: Gate>(
     size: u32,
     workers: u32,
     gate: &G,
-) -> Result<FileAnswer, AllocError>
+) -> Result<WholeAnswer, AllocError>
     requires size { size ≤ 100000 }
     requires workers { (1 ≤ workers) × (workers ≤ 16) }
-    ensures settles { IfOk result (λ given. (by : ℕ) (held : List ℕ → List ℕ) → SettlesWork (asked.Churn number size by) held given.text.items given.refused) }
+    ensures settles { IfOk result (λ given. (by : ℕ) (held : List ℕ → List ℕ) → SettlesWork (asked.Churn number size by) held (texts_in given.files.items) given.refused) }
     ensures counts { IfOk result (λ given. CountsChurn given.compiled) }
 {
     let text = generated_text(alloc, number, size)?;
@@ -53,9 +54,6 @@ pub(crate) fn churn_answer<R: Threads + Wait + Sync, G: Gate>(
     let before = initial(alloc, script, bytes.len() as u32)?;
     let churned = churn(rt, alloc, bytes, &before, workers, gate)?;
     let line = churn_line(alloc, number, size, functions, churned.instructions)?;
-    Ok(FileAnswer {
-        text: line,
-        refused: false,
-        compiled: churned.compiled,
-    })
+    let answer = one_line(alloc, line, churned.compiled)?;
+    Ok(answer)
 }

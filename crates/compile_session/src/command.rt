@@ -16,10 +16,11 @@ ghost use Rattle.compile_session.specs.Files.{IsBefore, IsWhole, status_of};
 
 use crate::file::MOST_BYTES;
 use crate::status::Status;
-use crate::work::{answer_to, files_of, work_of};
+use crate::work::{answer_to, files_of, work_of, workers_of};
+use crate::writing::write_answers;
 use compile_tally::Tally;
 use helper_tasks::Gate;
-use session_outside::{Shelf, ShelfRefusal, Sink, SinkRefusal, read_files, write_bytes};
+use session_outside::{Shelf, ShelfRefusal, Sink, SinkRefusal, read_files};
 use std::alloc::Global;
 use std::sync::Wait;
 use std::thread::Threads;
@@ -97,7 +98,7 @@ pub fn run<R: Threads + Wait + Sync, L: Shelf, K: Sink, G: Gate, T: Tally>(
     };
     count_compiled(tally, given.compiled);
     let answer = given.answer;
-    match write_bytes(sink, &answer.text) {
+    match write_answers(rt, alloc, sink, &answer.files, workers_of(&work), gate) {
         Ok(()) => status_of(answer.refused),
         Err(SinkRefusal::Failed) => Status::WriteFault,
         Err(SinkRefusal::NoMemory) => Status::NoMemory,

@@ -10,7 +10,7 @@ ghost use Rattle.compile_session.specs.Files.{AnswersAll, CountsWork};
 ghost use Rattle.compile_session.specs.Showing.{compiled_in};
 ghost use Rattle.compile_session.specs.Workers.{CanBeAnswered, SettleFiles};
 
-use crate::answer::{CommandAnswer, FileAnswer};
+use crate::answer::{CommandAnswer, WholeAnswer};
 use crate::shown::{ShownFiles, shown_answers};
 use crate::workers::file_answers;
 use helper_tasks::Gate;
@@ -73,16 +73,14 @@ pub(crate) fn answers_of<R: Threads + Wait + Sync, G: Gate>(
 {
     let count = job.files.len().min(reads.len()) as u32;
     let files = file_by_file(rt, alloc, job, reads, count, gate)?;
-    let mut text = Vec::new(alloc);
     let mut refused = false;
     let mut compiled = 0;
     for answer in &files.answers {
-        text.extend_from_slice(&answer.text)?;
         refused = refused || answer.refused;
         compiled += answer.compiled;
     }
-    let answer = FileAnswer {
-        text,
+    let answer = WholeAnswer {
+        files: files.answers,
         refused,
         compiled,
     };

@@ -12,11 +12,12 @@ use crate::answer::{FileAnswer, refused};
 use crate::lines::file_text;
 use crate::refusal::Refusal;
 use session_images::{ImageFault, append_listing, append_verdicts};
+use session_output::OutputText;
 use std::alloc::{AllocError, Global};
 
 /// The answer for a file of which no image was read, for this reason.
 fn unread(alloc: Global, name: &str, fault: ImageFault) -> Result<FileAnswer, AllocError>
-    ensures refused { IfOk result (λ answer. (fault ≡ NoImage) × RefusedAs name.now line.NoImage answer.text.items answer.refused) }
+    ensures refused { IfOk result (λ answer. (fault ≡ NoImage) × RefusedAs name.now line.NoImage answer.text answer.refused) }
     ensures idle { IfOk result (λ answer. answer.compiled ≡ 0) }
 {
     match fault {
@@ -36,7 +37,7 @@ pub(crate) fn load_answer(alloc: Global, name: &str, bytes: &[u8]) -> Result<Fil
     let mut text = file_text(alloc, name)?;
     match append_listing(alloc, &mut text, bytes) {
         Ok(()) => Ok(FileAnswer {
-            text,
+            text: OutputText::of_bytes(text),
             refused: false,
             compiled: 0,
         }),
@@ -56,7 +57,7 @@ pub(crate) fn verify_answer(
     let mut text = file_text(alloc, name)?;
     match append_verdicts(alloc, &mut text, bytes) {
         Ok(unsound) => Ok(FileAnswer {
-            text,
+            text: OutputText::of_bytes(text),
             refused: unsound,
             compiled: 0,
         }),

@@ -4,12 +4,13 @@
 //! `helper_tasks`, by whose workers files are worked on side by side, and on `compile_first_pass`, which reads the script of a
 //! file without trees, by the handler that it is given here. Commands that show scripts stand on `compile_initial`, which
 //! makes of it what the script is before any of its functions is compiled, on `session_requests`, which asks for those functions that
-//! are wanted by all workers and merges them, on `script_image`, which lists what is shown, and on `stencil_xdr_write`, which writes its
-//! image; those over images on `session_images`, that over generated texts on `session_trial`, and that which compiles functions
-//! again and again on `session_churn`. Its answer is that of the definitions of `session_specs`. Only the program stands on it.
+//! are wanted by all workers and merges them, and on `stencil_xdr_write`, which writes its image; those over images on `session_images`,
+//! that over generated texts on `session_trial`, and that which compiles functions
+//! again and again on `session_churn`. What is printed is handed to `session_output`, which lists scripts as it writes them. The answer is
+//! that of the definitions of `session_specs`. Only the program stands on it.
 //!
 //! `work` says what words ask for. `source`, `start`, `listing` and `printing` are the steps of the way of one file of source text,
-//! `image` is that of an image, `file_order`, `starts`, `shown`, `workers` and `files` those of all files of a command, and
+//! `image` is that of an image, `file_order`, `starts`, `shown`, `workers`, `files` and `writing` those of all files of a command, and
 //! `generated`, `trial` and `churn` those of generated texts, each with the definition that it meets in specs/.
 //!
 //! The main contract is that of `run`: where all was done, the sink has taken the bytes of the definition's answer to the words
@@ -36,6 +37,7 @@ mod status;
 mod trial;
 mod work;
 mod workers;
+mod writing;
 
 pub use command::run;
 pub use compile_tally::{Sheet, Tally, Ticks};

@@ -1,22 +1,15 @@
-//! The functions of a script that are wanted, and the listing of its stencil.
+//! The functions of a script that are wanted, and what is listed of it.
 
-ghost use Rattle.std.specs.Prelude.{◌≡◌, ◌≤◌, ◌⊎◌, ◌++◌, List, IfOk, OnOk, MatchOption};
-ghost use Rattle.stencil_data.specs.Named.{NamedMerged};
-ghost use Rattle.stencil_data.specs.StandsFor.{MergedStandsFor};
-ghost use Rattle.bytecode_buf.specs.Command.{Listed};
-ghost use Rattle.script_image.specs.Listed.{ShowsListed};
+ghost use Rattle.std.specs.Prelude.{◌≡◌, ◌≤◌, ◌⊎◌, MatchOption};
 ghost use Rattle.session_specs.specs.Answer as answer;
 ghost use Rattle.compile_wanted.specs.Numbers.{to_show};
 ghost use Rattle.session_words.specs.Asked as asked;
 ghost use Rattle.compile_session.specs.Answers.{IsMissing};
-ghost use Rattle.compile_session.specs.Listed.{listed_text};
+ghost use Rattle.compile_session.specs.Listed.{listing_for};
 
-use crate::lines::file_text;
 use compile_wanted::Wanted;
-use script_image::{code_text, scope_text};
+use script_image::Listing;
 use session_words::{Command, Want};
-use std::alloc::{AllocError, Global};
-use stencil_data::MergedStencil;
 
 /// Which functions are wanted compiled.
 pub(crate) fn wanted_of(want: &Want) -> Wanted<'_>
@@ -64,32 +57,14 @@ pub(crate) fn missing_of(want: &Want, count: usize) -> Option<u32>
     }
 }
 
-/// Appends the listing that a command is to print.
-fn append_text(out: &mut Vec<u8>, command: Command, shown: &MergedStencil) -> Result<(), AllocError>
-    ensures { OnOk result ((named : NamedMerged (List Listed)) → MergedStandsFor ShowsListed shown.now named → out.new.items ≡ out.old.items ++ listed_text command named) }
+/// What a command lists of a script, if it lists one.
+pub(crate) fn listing_of(command: Command) -> Listing
+    ensures { result ≡ listing_for command }
 {
     match command {
-        Command::Scopes => {
-            scope_text(out, shown)?;
-            Ok(())
-        }
+        Command::Scopes => Listing::Scopes,
         Command::Code | Command::Check | Command::Save | Command::Load | Command::Verify => {
-            code_text(out, shown)?;
-            Ok(())
+            Listing::Code
         }
     }
-}
-
-/// What a command lists of a stencil, after the line of the file.
-pub(crate) fn listing_of(
-    alloc: Global,
-    command: Command,
-    name: &str,
-    shown: &MergedStencil,
-) -> Result<Vec<u8>, AllocError>
-    ensures { IfOk result (λ text. (named : NamedMerged (List Listed)) → MergedStandsFor ShowsListed shown.now named → text.items ≡ answer.file_line name.now ++ listed_text command named) }
-{
-    let mut out = file_text(alloc, name)?;
-    append_text(&mut out, command, shown)?;
-    Ok(out)
 }

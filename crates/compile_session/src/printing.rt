@@ -10,9 +10,10 @@ ghost use Rattle.compile_session.specs.Answers.{IsAnswerFor};
 ghost use Rattle.compile_session.specs.Listed.{IsWrittenFor};
 
 use crate::answer::{FileAnswer, refused};
-use crate::lines::fine_text;
+use crate::lines::{file_text, fine_text};
 use crate::listing::listing_of;
 use crate::source::{SourceText, read_source};
+use session_output::OutputText;
 use session_words::{Command, Want};
 use std::alloc::{AllocError, Global};
 use stencil_data::MergedStencil;
@@ -23,21 +24,21 @@ pub(crate) fn shown_text(
     alloc: Global,
     command: Command,
     name: &str,
-    shown: &MergedStencil,
-) -> Result<Vec<u8>, AllocError>
+    shown: MergedStencil,
+) -> Result<OutputText, AllocError>
     requires command { shows_scripts command ≡ true }
-    requires few { length shown.now.texts < 2 ^ 31 }
-    requires small { TextsSmall shown.now.texts }
-    ensures { IfOk result (λ text. IsWrittenFor command name.now shown.now text.items) }
+    requires few { length shown.texts < 2 ^ 31 }
+    requires small { TextsSmall shown.texts }
+    ensures { IfOk result (IsWrittenFor command name.now shown) }
 {
     match command {
         Command::Save => {
-            let image = write_image(alloc, shown)?;
-            Ok(image)
+            let image = write_image(alloc, &shown)?;
+            Ok(OutputText::of_bytes(image))
         }
         _ => {
-            let text = listing_of(alloc, command, name, shown)?;
-            Ok(text)
+            let head = file_text(alloc, name)?;
+            Ok(OutputText::of_listing(head, listing_of(command), shown))
         }
     }
 }
@@ -58,7 +59,7 @@ pub(crate) fn check_answer(
         SourceText::Script(script) => {
             let text = fine_text(alloc, name, script.functions.len())?;
             Ok(FileAnswer {
-                text,
+                text: OutputText::of_bytes(text),
                 refused: false,
                 compiled: 0,
             })

@@ -114,7 +114,7 @@ impl<'a, N: Sources> FilesToShow<'a, N> {
         ensures ran { hand.new.ran ≡ hand.old.ran }
     {
         let stencil = hand.merged(alloc, self.works, number)?;
-        let text = shown_text(alloc, self.job.command, name, &stencil)?;
+        let text = shown_text(alloc, self.job.command, name, stencil)?;
         Ok(FileAnswer {
             text,
             refused: false,

@@ -7,11 +7,12 @@ ghost use Rattle.session_words.specs.Asked as asked;
 ghost use Rattle.compile_specs.specs.Shown as shown;
 ghost use Rattle.compile_shown.specs.Counting.{trues};
 ghost use Rattle.compile_shown.specs.Shown.{ShowsWanted};
+ghost use Rattle.compile_session.specs.Printed.{texts_in};
 ghost use Rattle.compile_session.specs.Compiled.{IsCompiledBy};
 ghost use Rattle.compile_session.specs.Files.{CountsTrial, SettlesWork};
 ghost use Rattle.compile_session.specs.Starts.{IsScriptStart};
 
-use crate::answer::{CommandAnswer, FileAnswer};
+use crate::answer::{CommandAnswer, one_line};
 use crate::generated::{append_counts, append_numbers, script_in};
 use crate::start::{ScriptStart, script_start};
 use compile_wanted::Wanted;
@@ -97,7 +98,7 @@ pub(crate) fn trial_answer<R: Threads + Wait + Sync, G: Gate>(
 ) -> Result<CommandAnswer, AllocError>
     requires size { size ≤ 100000 }
     requires workers { (1 ≤ workers) × (workers ≤ 16) }
-    ensures settles { IfOk result (λ given. (by : ℕ) (held : List ℕ → List ℕ) → SettlesWork (asked.Trial number size by) held given.answer.text.items given.answer.refused) }
+    ensures settles { IfOk result (λ given. (by : ℕ) (held : List ℕ → List ℕ) → SettlesWork (asked.Trial number size by) held (texts_in given.answer.files.items) given.answer.refused) }
     ensures counts { IfOk result (λ given. CountsTrial number size given.answer.compiled) }
     ensures compiled { IfOk result (λ given. IsCompiledBy workers given.answer.compiled given.compiled) }
 {
@@ -109,11 +110,7 @@ pub(crate) fn trial_answer<R: Threads + Wait + Sync, G: Gate>(
     let whole = compiled_whole::<R, G, Brand>(rt, alloc, bytes, &start, workers, gate)?;
     let count = instructions(&whole.stencil);
     let line = trial_line(alloc, number, size, bytes.len() as u64, functions, count)?;
-    let answer = FileAnswer {
-        text: line,
-        refused: false,
-        compiled: whole.shown,
-    };
+    let answer = one_line(alloc, line, whole.shown)?;
     Ok(CommandAnswer {
         answer,
         compiled: whole.compiled,

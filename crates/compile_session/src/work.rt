@@ -1,13 +1,14 @@
 //! What the words of a command ask for, and what is printed for it.
 
-ghost use Rattle.std.specs.Prelude.{◌≡◌, map, IfOk};
+ghost use Rattle.std.specs.Prelude.{◌≡◌, ◌≤◌, map, IfOk};
 ghost use Rattle.std.specs.String.{string_bytes};
 ghost use Rattle.session_outside.specs.Loops.{HaveAtMost};
 ghost use Rattle.session_specs.specs.Answer.{most_bytes};
 ghost use Rattle.session_words.specs.Asked.{asked};
 ghost use Rattle.compile_session.specs.Work as definition;
 ghost use Rattle.compile_session.specs.Work.{IsWorkOf};
-ghost use Rattle.compile_session.specs.Compiled.{IsCompiledBy, workers_of};
+ghost use Rattle.compile_session.specs.Compiled.{IsCompiledBy};
+ghost use Rattle.compile_session.specs.Compiled as compiled;
 ghost use Rattle.compile_session.specs.Files.{AnswersWork, CountsWork, IsBounded};
 
 use crate::answer::CommandAnswer;
@@ -42,6 +43,26 @@ pub(crate) fn files_of(work: &Options) -> &[String]
     }
 }
 
+/// How many workers it asks for.
+pub(crate) fn workers_of(work: &Options) -> u32
+    requires { IsBounded (asked work.now) }
+    ensures { (1 ≤ result) × (result ≤ 16) }
+{
+    match work {
+        Options::Files(job) => job.workers,
+        Options::Trial {
+            number: _,
+            size: _,
+            workers,
+        } => *workers,
+        Options::Churn {
+            number: _,
+            size: _,
+            workers,
+        } => *workers,
+    }
+}
+
 /// What is printed for it, where these bytes were read of its files, and whether one of them is refused.
 pub(crate) fn answer_to<R: Threads + Wait + Sync, G: Gate>(
     rt: &R,
@@ -54,7 +75,7 @@ pub(crate) fn answer_to<R: Threads + Wait + Sync, G: Gate>(
     requires bounded { IsBounded (asked work.now) }
     ensures settles { IfOk result (λ given. AnswersWork (asked work.now) reads.now given.answer) }
     ensures counts { IfOk result (λ given. CountsWork (asked work.now) reads.now given.answer.compiled) }
-    ensures compiled { IfOk result (λ given. IsCompiledBy (workers_of (asked work.now)) given.answer.compiled given.compiled) }
+    ensures compiled { IfOk result (λ given. IsCompiledBy (compiled.workers_of (asked work.now)) given.answer.compiled given.compiled) }
 {
     match work {
         Options::Files(job) => {

@@ -1,6 +1,9 @@
 use Rattle.std.proofs.Common.{List, ap, arith, length, refl, subst, sym, ℕ, ◌∙◌, ◌≡◌, ◌≤◌}
 use Rattle.compile_initial.specs.Initial.{IsInitialOf}
 use Rattle.compile_session.proofs.ChurnLemmas.{churn_settles, churn_text, few_functions, same_functions}
+use Rattle.compile_session.proofs.WorkLemmas.{settles_same}
+use Rattle.compile_session.specs.Printed.{texts_in}
+use Rattle.compile_session.specs.Files.{CountsChurn}
 use Rattle.session_churn.specs.Counts.{HasInstructions}
 use Rattle.session_specs.specs.Answer.{most_bytes}
 use Rattle.session_specs.specs.Sources.{HasAll}
@@ -39,7 +42,11 @@ returns-clause-settles g c = λ workers held.
     let o = c.in_ok-script.script.functions.ok.0 in
     let counted : c.len-functions.result ≡ length c.in_ok-script.script.functions.items = omega (arith, e, o) in
     let functions : c.len-functions.result ≡ length made.parts.records = counted ∙ same_functions bytes c.in_ok-script.script made c.in_ok-script.ensures is in
-    churn_settles c.args.number c.args.size workers held c.in_ok-line.line.items made c.in_ok-churned.churned.instructions
+    settles_same (asked.Churn c.args.number c.args.size workers) held c.in_ok-line.line.items (texts_in c.in_ok-answer.answer.files.items) c.in_ok-answer.answer.refused c.in_ok-answer.ensures.text c.in_ok-answer.ensures.fine
+    (churn_settles c.args.number c.args.size workers held c.in_ok-line.line.items made c.in_ok-churned.churned.instructions
     (subst (λ (l : List ℕ). IsInitialOf l made) same is)
     (subst (λ (l : List ℕ). HasInstructions l c.in_ok-churned.churned.instructions) same c.in_ok-churned.ensures.instructions)
-    (c.in_ok-line.ensures ∙ ap (λ (n : ℕ). churn_text c.args.number c.args.size n c.in_ok-churned.churned.instructions) functions)
+    (c.in_ok-line.ensures ∙ ap (λ (n : ℕ). churn_text c.args.number c.args.size n c.in_ok-churned.churned.instructions) functions))
+
+pub returns-clause-counts : goal.returns-clause-counts
+returns-clause-counts g c = subst (λ (n : ℕ). CountsChurn n) (sym c.in_ok-answer.ensures.count) c.in_ok-churned.ensures.few

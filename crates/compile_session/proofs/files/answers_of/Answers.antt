@@ -1,10 +1,13 @@
-use Rattle.std.proofs.Common.{List, ap, arith, length, map, refl, subst, sym, take, ℕ, ◌*◌, ◌++◌, ◌+◌, ◌^◌, ◌∙◌, ◌≡◌, ◌≤◌}
+use Rattle.std.proofs.Common.{List, [], ap, arith, length, map, refl, subst, sym, take, ℕ, ◌*◌, ◌++◌, ◌+◌, ◌^◌, ◌∙◌, ◌≡◌, ◌≤◌}
 use Rattle.std.proofs.lemmas.Option.{slice_get_read}
 use Rattle.std.specs.String.{string_bytes}
 use Rattle.compile_session.proofs.CountingLemmas.{counted_end, counted_more, counting_start, times_most}
 use Rattle.compile_session.proofs.FilesLemmas.{answered_end, answered_more, answering_start, few_at, or_first, or_second}
 use Rattle.compile_session.proofs.ShowingLemmas.{sum_all, sum_next, total_few}
+use Rattle.compile_session.proofs.TextLemmas.{texts_all, texts_next}
 use Rattle.compile_session.proofs.files.answers_of.Goals.{else-refused, then-refused}
+use Rattle.compile_session.specs.Printed.{texts_in}
+use Rattle.compile_session.specs.Files.{SettlesAll}
 use Rattle.compile_session.specs.Showing.{compiled_in}
 use Rattle.compile_session.specs.Workers.{SettleFiles}
 use Rattle.compile_session.specs.declared.answer.FileAnswer.{FileAnswer}
@@ -27,7 +30,7 @@ file_by_file-requires-clause-few g c = λ κs within.
     omega (arith, least, files, long, most)
 
 pub loop-answer-init : goal.loop-answer-init
-loop-answer-init g c = (answering_start (asked.job c.args.job.now) (map string_bytes c.args.job.now.files.items) c.args.reads.now c.new-text.result.items c.new-text.ensures.items, counting_start (asked.job c.args.job.now) (map string_bytes c.args.job.now.files.items) c.args.reads.now, refl)
+loop-answer-init g c = (answering_start (asked.job c.args.job.now) (map string_bytes c.args.job.now.files.items) c.args.reads.now [] refl, counting_start (asked.job c.args.job.now) (map string_bytes c.args.job.now.files.items) c.args.reads.now, refl)
 
 pub overflow_add-compiled : goal.overflow_add-compiled
 overflow_add-compiled g c =
@@ -58,10 +61,10 @@ loop-answer-preserved g c =
     let before = c.loop-answer.invariant.2 in
     let one = sum_next c.deref-answer-items.result.now c.loop-answer.answer-index (c.loop-answer.answer-index + 1) c.answer-item.result refl at in
     let summed : c.loop-answer.compiled + c.answer-item.result.compiled ≡ compiled_in (take (c.loop-answer.answer-index + 1) c.deref-answer-items.result.now) = omega (arith, before, one) in (
-      answered_more c.args.job.now c.args.reads.now c.min-count.result c.loop-answer.answer-index _ c.deref-answer-items.result.now c.loop-answer.text.items c.extend_from_slice.new.self.items c.loop-answer.refused c.if-refused.refused c.answer-item.result
+      answered_more c.args.job.now c.args.reads.now c.min-count.result c.loop-answer.answer-index _ c.deref-answer-items.result.now (texts_in (take c.loop-answer.answer-index c.deref-answer-items.result.now)) (texts_in (take (c.loop-answer.answer-index + 1) c.deref-answer-items.result.now)) c.loop-answer.refused c.if-refused.refused c.answer-item.result
           all
           named read at
-          (c.in_ok-extend_from_slice.ensures.items ∙ ap (λ l. c.loop-answer.text.items ++ l) c.deref.ensures.value)
+          (texts_next c.deref-answer-items.result.now c.loop-answer.answer-index (c.loop-answer.answer-index + 1) c.answer-item.result refl at)
           (elim c.if-refused.branch [
             | then-refused w ↦ or_first c.loop-answer.refused c.answer-item.result.refused c.if-refused.refused w.if-refused.true (w.refused-is ∙ w.if-refused.true)
             | else-refused w ↦ or_second c.loop-answer.refused c.answer-item.result.refused c.if-refused.refused w.if-refused.false w.refused-is
@@ -79,7 +82,10 @@ returns-clause-settles g c =
     let same = c.deref-answer-items.ensures.value in
     let counted = (subst (λ (l : List FileAnswer). SettleFiles (asked.job c.args.job.now) c.args.reads.now c.min-count.result l) (sym same) c.in_ok-files.ensures.settles).long in
     let past = c.loop-answer-test.false in
-    answered_end c.args.job.now c.args.reads.now c.min-count.result c.loop-answer.answer-index c.loop-answer.text.items c.loop-answer.refused (omega (arith, least, files, long)) (omega (arith, counted, past)) c.loop-answer.invariant.0
+    let all = texts_all c.deref-answer-items.result.now c.loop-answer.answer-index (omega (arith, past)) ∙ ap texts_in same in
+    λ held whole.
+    subst (λ (text : List ℕ). SettlesAll (asked.job c.args.job.now) held 0 (map string_bytes c.args.job.now.files.items) text c.loop-answer.refused) all
+    (answered_end c.args.job.now c.args.reads.now c.min-count.result c.loop-answer.answer-index (texts_in (take c.loop-answer.answer-index c.deref-answer-items.result.now)) c.loop-answer.refused (omega (arith, least, files, long)) (omega (arith, counted, past)) c.loop-answer.invariant.0 held whole)
 
 pub returns-clause-counts : goal.returns-clause-counts
 returns-clause-counts g c =

@@ -102,11 +102,11 @@ fn ascii_points(alloc: Global, bytes: &[u8]) -> Result<Vec<Point>, AllocError>
 {
     let mut points = Vec::with_capacity(alloc, bytes.len())?;
     for at in 0..bytes.len() {
-        points.push(Point {
+        points.push_reserved(Point {
             code: char::from(bytes[at]),
             start: at as u32,
             end: at as u32 + 1,
-        })?;
+        });
     }
     Ok(points)
 }

@@ -24,6 +24,7 @@ impl Guesses {
     }
 
     // The guess for a digest.
+    #[inline]
     pub(crate) fn guess(&self, digest: u64) -> Option<u32> {
         self.places.get(cell(digest, self.mask)).copied()
     }

@@ -15,7 +15,7 @@ mod guesses;
 mod trees;
 
 ghost use Rattle.std.specs.Prelude.{◌≡◌, ◌+◌, ◌-◌, ◌^◌, ◌<◌, ◌==◌, [], ◌∷◌, ◌++◌, IfOk, OnOk, IfSome, IfNone, OnErr, length, slice_get, Some};
-ghost use Rattle.parser_atoms.specs.Digest.{digest_of};
+ghost use Rattle.parser_atoms.specs.Digest.{digest_of, digest_step};
 ghost use Rattle.parser_atoms.specs.Places.{AreWithoutEquals, Interns, StandsIn};
 
 use guesses::Guesses;
@@ -45,18 +45,30 @@ impl Model for Atoms {
     ghost invariant = { λ atoms. IsIndexed atoms.texts.items atoms.trees.firsts atoms.trees.others };
 }
 
-// Fowler, Noll and Vo's offset basis and prime for 64 bits.
-const OFFSET_BASIS: u64 = 14695981039346656037;
+/// The digest of no units: Fowler, Noll and Vo's offset basis for 64 bits.
+pub const EMPTY_DIGEST: u64 = 14695981039346656037;
 
+// Their prime.
 const PRIME: u64 = 1099511628211;
+
+/// The digest of a text with one unit more, of the text's own digest.
+///
+/// So who reads a text unit by unit has its digest with the last of them. A number above FFFF is no unit, and what it
+/// makes of a digest is none.
+#[inline]
+pub fn digest_with(digest: u64, unit: u32) -> u64
+    ensures { result ≡ digest_step digest unit }
+{
+    (digest ^ u64::from(unit)).wrapping_mul(PRIME)
+}
 
 // The digest of a text.
 fn digest(units: &[u16]) -> u64
     ensures { result ≡ digest_of units.now }
 {
-    let mut digest = OFFSET_BASIS;
+    let mut digest = EMPTY_DIGEST;
     for unit in units {
-        digest = (digest ^ *unit as u64).wrapping_mul(PRIME);
+        digest = digest_with(digest, u32::from(*unit));
     }
     digest
 }
@@ -81,7 +93,7 @@ impl Atoms {
         ensures apart { AreWithoutEquals self.new }
     {
         let digest = digest(units);
-        if let Some(place) = self.guess(units, digest) {
+        if let Some(place) = self.guessed(units, digest) {
             return Ok(place);
         }
         let place = match self.place(units, digest) {
@@ -92,8 +104,23 @@ impl Atoms {
         Ok(place)
     }
 
+    /// A guess at the atom of the text with this digest: the atom of some text, for who asks to compare.
+    ///
+    /// It is mostly right where the text is there and has been interned before. It takes a few steps and no memory.
+    #[inline]
+    pub fn guess(&self, digest: u64) -> Option<u32>
+        ensures { IfSome result (λ atom. atom < length self.now) }
+    {
+        let place = self.guesses.guess(digest)?;
+        if (place as usize) < self.len() {
+            Some(place)
+        } else {
+            None
+        }
+    }
+
     // The place of a text, where it is the one that is guessed.
-    fn guess(&self, units: &[u16], digest: u64) -> Option<u32>
+    fn guessed(&self, units: &[u16], digest: u64) -> Option<u32>
         ensures found { IfSome result (λ place. slice_get self.now place ≡ Some units.now) }
         ensures apart { AreWithoutEquals self.now }
     {
@@ -139,6 +166,7 @@ impl Atoms {
     }
 
     /// The text of an atom. It takes no memory.
+    #[inline]
     pub fn text(&self, atom: u32) -> &Text
         requires { atom < length self.now }
         ensures { slice_get self.now atom ≡ Some result.now }

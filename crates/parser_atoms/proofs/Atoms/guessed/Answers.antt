@@ -2,7 +2,7 @@ use Rattle.std.proofs.Common.{◌≡◌, ◌∙◌, List, ℕ, ap, subst, length
 use Rattle.std.specs.Prelude.{slice_get, Some}
 use Rattle.std.proofs.lemmas.Option.{slice_get_read}
 use Rattle.parser_atoms.proofs.Interning.{same_text}
-use Rattle.parser_atoms.proofs.Atoms.guess.Goals as goal
+use Rattle.parser_atoms.proofs.Atoms.guessed.Goals as goal
 
 pub returns-then-eq-clause-found : goal.returns-then-eq-clause-found
 returns-then-eq-clause-found c =

@@ -1,5 +1,5 @@
 -- How a comment of many lines is read.
-use Rattle.std.proofs.Common.{◌≡◌, ℕ, ◌+◌, ◌<◌, List, [], ◌∷◌, map, length, drop, false, cond, refl, sym, ◌∙◌, ap, subst, arith}
+use Rattle.std.proofs.Common.{◌≡◌, ℕ, ◌+◌, ◌<◌, List, [], ◌∷◌, map, length, drop, true, false, cond, refl, sym, ◌∙◌, ap, subst, arith}
 use Rattle.std.specs.Prelude.{◌≤◌, Option, Some, None, option_map}
 use Rattle.std.proofs.Math.Dec.{eqb, leb}
 use Rattle.std.proofs.lemmas.Bool.{lt-leb, ne_eqb}
@@ -57,3 +57,9 @@ plain_is_no_blank c codes low high apart =
     let ends : is_line_end c ≡ false = nothing_ends c low high in
     let slash : eqb c 0x2F ≡ false = ne_eqb c 0x2F apart in
     cc
+
+pub space_is_blank : (c : ℕ) (codes : List ℕ) → c ≡ 0x20 → blank_at (c ∷ codes) ≡ Some (record { length = 1; breaks = false })
+space_is_blank c codes is = ap (λ d. blank_at (d ∷ codes)) is
+
+pub line_feed_is_blank : (c : ℕ) (codes : List ℕ) → c ≡ 0xA → blank_at (c ∷ codes) ≡ Some (record { length = 1; breaks = true })
+line_feed_is_blank c codes is = ap (λ d. blank_at (d ∷ codes)) is

@@ -1,6 +1,7 @@
 -- Lemmas of the scanner.
 pub mod BlankLemmas
 pub mod KindLemmas
+pub mod KnownLemmas
 pub mod Lists
 pub mod MarkLemmas
 pub mod NameLemmas

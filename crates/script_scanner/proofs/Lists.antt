@@ -1,6 +1,7 @@
 -- Lists seen through a function of their items, and from a place on.
-use Rattle.std.proofs.Common.{◌≡◌, ℕ, ◌+◌, ◌<◌, zero, suc, List, [], ◌∷◌, map, length, take, drop, Bool, true, false, cond, refl, sym, ◌∙◌, ap, subst, arith, add-zero, ◌≢◌, inl, inr}
+use Rattle.std.proofs.Common.{◌≡◌, ℕ, ◌+◌, ◌<◌, zero, suc, List, [], ◌∷◌, map, length, take, drop, Bool, true, false, cond, refl, sym, ◌∙◌, ap, subst, arith, add-zero, add-one, get_or, ◌≢◌, inl, inr}
 use Rattle.std.specs.Prelude.{◌||◌, ◌&&◌, ◌==◌, fold, filter, find, Option, Some, IfSome}
+use Rattle.std.proofs.Math.Seq.{drop-cons}
 use Rattle.std.proofs.lemmas.Bool.{cases_Bool, eqb-true}
 use Rattle.std.specs.List.{prefix_len, list_any, list_all, AllByRecursion}
 
@@ -57,6 +58,10 @@ module _ {X : Type 0} where
   place_in (x ∷ xs) zero h = (x, xs, refl, refl)
   place_in (x ∷ xs) (suc i) h = let (y, rest, here, next) = place_in xs i (omega (arith, h)) in
       (y, rest, here, ap (λ k. drop k (x ∷ xs)) (let e : suc i + 1 ≡ suc (i + 1) = omega arith in e) ∙ next)
+
+  -- the item that was read at a place, and the rest after it
+  pub read_at : (xs : List X) (i : ℕ) (x : X) → i < length xs → x ≡ get_or xs i x → drop i xs ≡ x ∷ drop (i + 1) xs
+  read_at xs i x lt read = drop-cons xs i x lt ∙ ap (λ y. y ∷ drop (suc i) xs) (sym read) ∙ ap (λ k. x ∷ drop k xs) (sym (add-one i))
 
   -- what passes one test is sought among what passes another, where nothing else passes the one
   pub find_filter : (p q ok : X → Bool) (xs : List X) → list_all ok xs ≡ true → ((x : X) → ok x ≡ true → q x ≡ false → p x ≡ false) → find p xs ≡ find p (filter q xs)

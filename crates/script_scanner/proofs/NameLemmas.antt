@@ -1,11 +1,16 @@
 -- Which characters of ASCII stand in a name, and which others.
-use Rattle.std.proofs.Common.{◌≡◌, ℕ, ◌≤◌, ◌<◌, Bool, true, false, ◌||◌, ◌==◌, refl, sym, ◌∙◌, ap, arith}
-use Rattle.std.proofs.Math.Dec.{eqb}
-use Rattle.std.proofs.lemmas.Bool.{ne_eqb}
+use Rattle.std.proofs.Common.{◌≡◌, ℕ, ◌+◌, ◌≤◌, ◌<◌, List, [], ◌∷◌, map, length, drop, Bool, true, false, ◌||◌, ◌==◌, refl, ◌∙◌, ap, arith}
+use Rattle.std.proofs.Math.Dec.{leb}
+use Rattle.std.proofs.lemmas.Bool.{ne_eqb, le-leb}
 use Rattle.std.specs.Char.{is_ascii_alphabetic, is_ascii_alphanumeric}
+use Rattle.std.specs.Int.{is_in_range}
+use Rattle.std.specs.List.{prefix_len}
 use Rattle.unicode_ident.specs.Ident.{is_xid_start, is_xid_continue}
 use Rattle.unicode_ident.proofs.IdentLemmas.{is_xid_start-ascii, is_xid_continue-ascii}
-use Rattle.script_scanner.specs.Names.{is_name_start, is_name_part}
+use Rattle.unit_text.specs.declared.Point.{Point}
+use Rattle.unit_text.specs.Points.{code_of}
+use Rattle.script_scanner.specs.Names.{is_name_start, is_name_part, name_length}
+use Rattle.script_scanner.proofs.Lists.{prefix_len_map}
 
 or_false : (a : Bool) → (a || false) ≡ a
 or_false true = refl
@@ -33,6 +38,22 @@ part_ascii c low =
     ∙ ap (λ b. b || (c == 0x24)) (is_xid_continue-ascii c low)
     ∙ or_swap (is_ascii_alphanumeric c) (c == 0x5F) (c == 0x24)
 
+or_second : (a b c d : Bool) → b ≡ true → (((a || b) || c) || d) ≡ true
+or_second true b c d e = refl
+or_second false b c d e = ap (λ x. (x || c) || d) e
+
+pub part_small : (c : ℕ) → 0x61 ≤ c → c ≤ 0x7A → is_name_part c ≡ true
+part_small c low high =
+    let from : leb 97 c ≡ true = le-leb 97 c low in
+    let to : leb c 122 ≡ true = le-leb c 122 high in
+    let small : is_in_range 97 122 c ≡ true = cc in
+    part_ascii c (omega (arith, high)) ∙ or_second (is_in_range 48 57 c || is_in_range 65 90 c) (is_in_range 97 122 c) (c == 0x24) (c == 0x5F) small
+
 pub part_other : (c : ℕ) → 128 ≤ c → is_name_part c ≡ ((is_xid_continue c || (c == 0x200C)) || (c == 0x200D))
 part_other c high =
     ap (λ b. ((b || (c == 0x200C)) || (c == 0x200D))) (ap (λ b. is_xid_continue c || b) (ne_eqb c 0x24 (λ e. absurd (omega (arith, high, e)))) ∙ or_false (is_xid_continue c))
+
+-- how far the name reaches that the first point begins
+pub name_reaches : (points : List Point) → 0 < length points → name_length (map code_of points) ≡ 1 + prefix_len (λ (p : Point). is_name_part p.code) (drop 1 points)
+name_reaches [] some = absurd (omega (arith, some))
+name_reaches (p ∷ points) some = ap (λ n. 1 + n) (prefix_len_map is_name_part code_of points)

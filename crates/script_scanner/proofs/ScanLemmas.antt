@@ -70,7 +70,7 @@ all_both ls ms [] [] h k = tt
 all_both ls ms [] (u ∷ us) h k = (among_right ls ms u k.0, all_both ls ms [] us tt k.1)
 all_both ls ms (t ∷ ts) more h k = (among_left ls ms t h.0, all_both ls ms ts more h.1 k)
 
-gains_nothing : (texts now : List (List ℕ)) (ls : List Lexed) → now ≡ texts → GainsOnly texts now ls
+pub gains_nothing : (texts now : List (List ℕ)) (ls : List Lexed) → now ≡ texts → GainsOnly texts now ls
 gains_nothing texts now ls same = record { gained = []; grown = same ∙ sym (append-nil texts); are_values = tt }
 
 gains_both : (texts between now : List (List ℕ)) (ls ms : List Lexed) → GainsOnly texts between ls → GainsOnly between now ms → GainsOnly texts now (ls ++ ms)
@@ -116,12 +116,12 @@ value_few content.Units units texts now n (inr h) = let e : length now ≡ lengt
 value_few (content.Number m) units texts now n h = one_at_most texts now h.1
 value_few content.Nothing units texts now n h = one_at_most texts now h.1
 
-rest_some : (n : ℕ) (ls : List Lexed) → 0 < n → ls ≡ rest_after n ls
+pub rest_some : (n : ℕ) (ls : List Lexed) → 0 < n → ls ≡ rest_after n ls
 rest_some zero ls some = absurd (omega (arith, some))
 rest_some (suc n) ls some = refl
 
 -- the last token, and no other, is End or Bad
-some_after : (n : ℕ) (ts : List Token) → 0 < n → AreNoLast ts → LastAfter n ts
+pub some_after : (n : ℕ) (ts : List Token) → 0 < n → AreNoLast ts → LastAfter n ts
 some_after zero ts some h = absurd (omega (arith, some))
 some_after (suc n) ts some h = h
 

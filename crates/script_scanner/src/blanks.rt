@@ -161,7 +161,8 @@ fn is_plain(code: char) -> bool
 }
 
 /// The white space, line end or comment at the front, if there is one.
-#[tactic(auto, using(crate::proofs::BlankLemmas::plain_is_no_blank))]
+#[inline]
+#[tactic(auto, using(crate::proofs::BlankLemmas::plain_is_no_blank, crate::proofs::BlankLemmas::space_is_blank, crate::proofs::BlankLemmas::line_feed_is_blank))]
 pub fn blank_at(rest: &[Point]) -> Option<Blank>
     ensures value { result ≡ blank_at (map code_of rest.now) }
     ensures within { IfSome result (λ blank. (0 < blank.length) × (blank.length ≤ length rest.now)) }
@@ -170,6 +171,28 @@ pub fn blank_at(rest: &[Point]) -> Option<Blank>
     if is_plain(first.code) {
         return None;
     }
+    if first.code == ' ' {
+        return Some(Blank {
+            length: 1,
+            breaks: false,
+        });
+    }
+    if first.code == '\n' {
+        return Some(Blank {
+            length: 1,
+            breaks: true,
+        });
+    }
+    rare_blank_at(rest)
+}
+
+/// The same, apart from the three tests that decide nearly always, so that they can stand in the scanner's loop.
+#[inline(never)]
+fn rare_blank_at(rest: &[Point]) -> Option<Blank>
+    ensures value { result ≡ blank_at (map code_of rest.now) }
+    ensures within { IfSome result (λ blank. (0 < blank.length) × (blank.length ≤ length rest.now)) }
+{
+    let (first, _) = rest.split_first()?;
     if is_white_space(first.code) {
         return Some(Blank {
             length: 1,

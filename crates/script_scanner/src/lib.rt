@@ -9,6 +9,7 @@
 mod blanks;
 mod braces;
 mod escapes;
+mod known_names;
 mod marks;
 mod names;
 mod numbers;

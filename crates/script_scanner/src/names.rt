@@ -1,9 +1,10 @@
 //! Names.
-ghost use Rattle.std.specs.Prelude.{◌≡◌, ◌≤◌, ◌<◌, ◌+◌, length, map};
+ghost use Rattle.std.specs.Prelude.{◌≡◌, ◌≤◌, ◌<◌, ◌+◌, true, length, map, drop};
 ghost use Rattle.std.specs.List.{prefix_len};
 ghost use Rattle.unit_text.specs.Points.{code_of};
 ghost use Rattle.script_scanner.specs.Names.{is_name_start, is_name_part, name_length};
 
+use parser_atoms::{EMPTY_DIGEST, digest_with};
 use unit_text::Point;
 
 /// Whether a name may begin with a code point (ECMA-262, 12th edition, clause 12.6: IdentifierStartChar).
@@ -18,11 +19,23 @@ pub fn is_name_start(code: char) -> bool
     }
 }
 
+/// Whether a code point is a small letter of ASCII. Most that stand in names are.
+#[inline]
+fn is_small_letter(code: char) -> bool
+    ensures { result ≡ true → (0x61 ≤ code) × (code ≤ 0x7A) }
+{
+    ('a' <= code) & (code <= 'z')
+}
+
 /// Whether a name may go on with a code point (IdentifierPartChar).
-#[tactic(auto, using(crate::proofs::NameLemmas::part_ascii, crate::proofs::NameLemmas::part_other))]
+#[inline]
+#[tactic(auto, using(crate::proofs::NameLemmas::part_small, crate::proofs::NameLemmas::part_ascii, crate::proofs::NameLemmas::part_other))]
 pub fn is_name_part(code: char) -> bool
     ensures { result ≡ is_name_part code }
 {
+    if is_small_letter(code) {
+        return true;
+    }
     if code < '\u{80}' {
         code.is_ascii_alphanumeric() | (code == '$') | (code == '_')
     } else {
@@ -57,4 +70,29 @@ pub fn name_length(rest: &[Point]) -> usize
         None => 0,
         Some((_, others)) => 1 + parts_length(others),
     }
+}
+
+/// A name at the front of points: how many code points it takes, and the digest of its text.
+#[derive(Clone, Copy, Debug, PartialEq, Eq)]
+pub struct SpelledName {
+    /// How many code points it takes.
+    pub length: usize,
+    /// The digest of its text, where each of its code points is one unit.
+    pub digest: u64,
+}
+
+/// The name that begins with the first code point.
+pub fn spelled_name(rest: &[Point]) -> SpelledName
+    requires { 0 < length rest.now }
+    ensures value { result.length ≡ 1 + prefix_len (λ point. is_name_part point.code) (drop 1 rest.now) }
+    ensures positive { 0 < result.length }
+    ensures within { result.length ≤ length rest.now }
+{
+    let mut length = 1;
+    let mut digest = digest_with(EMPTY_DIGEST, rest[0].code as u32);
+    while length < rest.len() && is_name_part(rest[length].code) {
+        digest = digest_with(digest, rest[length].code as u32);
+        length += 1;
+    }
+    SpelledName { length, digest }
 }

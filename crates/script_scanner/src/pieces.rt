@@ -51,7 +51,7 @@ fn push_points(units: &mut Vec<u16>, points: &[Point]) -> Result<(), AllocError>
 }
 
 /// A name, or a word where it is one.
-fn kind_of_name(word: Option<u8>) -> Kind
+pub fn kind_of_name(word: Option<u8>) -> Kind
     ensures { result ≡ name_kind word }
 {
     match word {

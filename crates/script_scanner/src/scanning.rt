@@ -1,5 +1,5 @@
 //! The tokens of a text, one after the other.
-ghost use Rattle.std.specs.Prelude.{◌≡◌, ◌≤◌, ◌<◌, ◌+◌, ◌-◌, ◌^◌, ◌++◌, ℕ, suc, List, [], true, false, nat_lt, length, map, drop, IfOk, OnOk, OnErr, Some, ◌∷◌};
+ghost use Rattle.std.specs.Prelude.{◌≡◌, ◌≤◌, ◌<◌, ◌+◌, ◌-◌, ◌^◌, ◌++◌, ℕ, suc, List, [], true, false, nat_lt, length, map, drop, IfOk, OnOk, OnErr, Some, None, ◌∷◌};
 ghost use Rattle.unit_text.specs.Points.{code_of, LieEndToEnd};
 ghost use Rattle.std.specs.List.Sorted.{IsPartitionPoint, IsNonDecreasingBy};
 ghost use Rattle.script_scanner.specs.Order.{AreInOrder};
@@ -7,9 +7,12 @@ ghost use Rattle.script_scanner.specs.Braces.{in_substitution};
 ghost use Rattle.script_scanner.specs.Tokens.{braces_after, last_token, place, tokens, tokens_within, without_first_line, part};
 ghost use Rattle.script_scanner.specs.Stands.{StandFor, StandsFor, GainsOnly, HasOneLast, Keeps};
 ghost use Rattle.script_scanner.specs.Advances.{Advances, TakesValue, TakesToken, EndsWith};
+ghost use Rattle.script_scanner.specs.Blanks.{blank_at};
+ghost use Rattle.script_scanner.specs.Known.{TakesName};
 
 use crate::blanks::{blank_at, first_line_length};
 use crate::braces::Brace;
+use crate::known_names::{KnownName, known_name};
 use crate::pieces::{Content, FoundToken, token_at};
 use crate::points::{behind, front};
 use parser_atoms::Atoms;
@@ -179,7 +182,82 @@ impl Scanner {
         Ok(0)
     }
 
+    /// Takes the name that was found with its atom; answers how many code points it takes.
+    fn take_name(&mut self, known: KnownName, rest: &[Point], to: u32) -> Result<usize, AllocError>
+        requires { known.length ≤ length rest.now }
+        ensures taken { IfOk result (λ taken. taken ≡ known.length) }
+        ensures value { OnOk result (TakesName to rest.now known self.old self.new) }
+    {
+        self.tokens.push(Token {
+            kind: known.kind,
+            value: u64::from(known.atom),
+            start: place(to, rest),
+            end: place(to, behind(rest, known.length)),
+            after_line: self.after_line,
+        })?;
+        self.after_line = false;
+        Ok(known.length)
+    }
+
+    /// Takes a token at the front, of whatever kind; answers how many code points that is, and 0 after the last token.
+    fn take_any(
+        &mut self,
+        alloc: Global,
+        rest: &[Point],
+        to: u32,
+        atoms: &mut Atoms,
+    ) -> Result<usize, AllocError>
+        requires few { length atoms.old < 2 ^ 32 - 1 }
+        requires bare { blank_at (map code_of rest.now) ≡ None }
+        ensures value { IfOk result (Advances to rest.now self.old self.new atoms.old atoms.new) }
+        ensures within { IfOk result (λ taken. taken ≤ length rest.now) }
+        ensures keeps { Keeps atoms.old atoms.new }
+    {
+        match token_at(
+            rest,
+            in_substitution(self.braces.as_slice()),
+            &mut self.units,
+        )? {
+            Some(found) => {
+                let taken = self.take(alloc, found, rest, to, atoms)?;
+                Ok(taken)
+            }
+            None => {
+                let taken = self.finish(rest, to)?;
+                Ok(taken)
+            }
+        }
+    }
+
+    /// The same. A name whose text has an atom is the token most often, and has a shorter way.
+    #[inline(never)]
+    fn take_front(
+        &mut self,
+        alloc: Global,
+        rest: &[Point],
+        to: u32,
+        atoms: &mut Atoms,
+    ) -> Result<usize, AllocError>
+        requires few { length atoms.old < 2 ^ 32 - 1 }
+        requires bare { blank_at (map code_of rest.now) ≡ None }
+        ensures value { IfOk result (Advances to rest.now self.old self.new atoms.old atoms.new) }
+        ensures within { IfOk result (λ taken. taken ≤ length rest.now) }
+        ensures keeps { Keeps atoms.old atoms.new }
+    {
+        match known_name(rest, atoms) {
+            Some(known) => {
+                let taken = self.take_name(known, rest, to)?;
+                Ok(taken)
+            }
+            None => {
+                let taken = self.take_any(alloc, rest, to, atoms)?;
+                Ok(taken)
+            }
+        }
+    }
+
     /// Skips a blank or takes a token at the front; answers how many code points that is, and 0 after the last token.
+    #[inline]
     fn step(
         &mut self,
         alloc: Global,
@@ -197,20 +275,10 @@ impl Scanner {
                 self.after_line = self.after_line | blank.breaks;
                 Ok(blank.length)
             }
-            None => match token_at(
-                rest,
-                in_substitution(self.braces.as_slice()),
-                &mut self.units,
-            )? {
-                Some(found) => {
-                    let taken = self.take(alloc, found, rest, to, atoms)?;
-                    Ok(taken)
-                }
-                None => {
-                    let taken = self.finish(rest, to)?;
-                    Ok(taken)
-                }
-            },
+            None => {
+                let taken = self.take_front(alloc, rest, to, atoms)?;
+                Ok(taken)
+            }
         }
     }
 

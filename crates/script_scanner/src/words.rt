@@ -5,15 +5,24 @@ ghost use Rattle.script_scanner.specs.Words.{word_at, word_from, word_index};
 
 use script_grammar::token::word;
 
-/// Whether a text is this word.
+/// Whether a text is this word. Most texts that are not have another length.
+#[inline]
+#[tactic(auto, using(crate::proofs::WordLemmas::other_length))]
 fn is_text(text: &[u16], word: &[u8]) -> bool
+    ensures { result ≡ bytes_eq text.now word.now }
+{
+    text.len() == word.len() && has_letters(text, word)
+}
+
+/// The same, unit by unit.
+fn has_letters(text: &[u16], word: &[u8]) -> bool
     ensures { result ≡ bytes_eq text.now word.now }
 {
     match text.split_first() {
         None => word.is_empty(),
         Some((unit, units)) => match word.split_first() {
             None => false,
-            Some((letter, letters)) => *unit == u16::from(*letter) && is_text(units, letters),
+            Some((letter, letters)) => *unit == u16::from(*letter) && has_letters(units, letters),
         },
     }
 }

@@ -1,0 +1,7 @@
+use Rattle.script_scanner.proofs.KnownLemmas.{moves_name}
+use Rattle.script_scanner.proofs.scanning.Scanner.take_front.Goals as goal
+
+pub returns-in_ok-taken-in-Some-clause-value : goal.returns-in_ok-taken-in-Some-clause-value
+returns-in_ok-taken-in-Some-clause-value c =
+    moves_name c.args.to c.args.rest.now c.in-Some.known c.args.self.now c.take_name.new.self c.args.atoms.now c.in_ok-taken-in-Some.taken
+    c.in-Some.ensures.value c.in_ok-taken-in-Some.ensures.value c.in_ok-taken-in-Some.ensures.taken c.requires.bare

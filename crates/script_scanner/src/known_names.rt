@@ -1,0 +1,63 @@
+//! Names whose texts have atoms already. In most scripts nearly each name has stood before, and then its code points
+//! are compared with the text that stands there: no text is put together for it.
+ghost use Rattle.std.specs.Prelude.{◌≡◌, ◌≤◌, true, length, map, IfSome};
+ghost use Rattle.unit_text.specs.Points.{code_of};
+ghost use Rattle.unit_text.specs.Units.{text_units};
+ghost use Rattle.script_scanner.specs.Known.{IsKnownName};
+
+use crate::names::{is_name_start, spelled_name};
+use crate::pieces::kind_of_name;
+use crate::points::front;
+use crate::words::word_at;
+use parser_atoms::Atoms;
+use script_grammar::token::Kind;
+use unit_text::Point;
+
+/// A name or word at the front of points, whose text has an atom.
+#[derive(Clone, Copy, Debug, PartialEq, Eq)]
+pub struct KnownName {
+    /// Whether it is a word, and which.
+    pub kind: Kind,
+    /// The atom of its text.
+    pub atom: u32,
+    /// How many code points it takes.
+    pub length: usize,
+}
+
+/// Whether code points are these units, each one of them. Where it answers no, they may still stand for the same text.
+#[tactic(auto, using(crate::proofs::KnownLemmas::unit_more, crate::proofs::KnownLemmas::units_all))]
+fn are_units(points: &[Point], units: &[u16]) -> bool
+    ensures { result ≡ true → text_units (map code_of points.now) ≡ units.now }
+{
+    if points.len() != units.len() {
+        return false;
+    }
+    for at in 0..units.len() {
+        if points[at].code as u32 != u32::from(units[at]) {
+            return false;
+        }
+    }
+    true
+}
+
+/// The name at the front, where one stands there, and its text stands where the texts' guess is.
+pub fn known_name(rest: &[Point], atoms: &Atoms) -> Option<KnownName>
+    ensures value { IfSome result (IsKnownName atoms.now (map code_of rest.now)) }
+    ensures within { IfSome result (λ known. known.length ≤ length rest.now) }
+{
+    let (first, _) = rest.split_first()?;
+    if !is_name_start(first.code) {
+        return None;
+    }
+    let name = spelled_name(rest);
+    let atom = atoms.guess(name.digest)?;
+    let units = atoms.text(atom).units();
+    if !are_units(front(rest, name.length), units) {
+        return None;
+    }
+    Some(KnownName {
+        kind: kind_of_name(word_at(units)),
+        atom,
+        length: name.length,
+    })
+}

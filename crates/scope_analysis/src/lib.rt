@@ -16,6 +16,7 @@ mod place;
 mod resolving;
 mod scoping;
 pub mod special_names;
+mod text_set;
 mod texts;
 mod toplevel;
 

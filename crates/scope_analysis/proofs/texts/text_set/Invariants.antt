@@ -1,8 +1,10 @@
 use Rattle.std.proofs.Common.{◌≡◌, map, take}
 use Rattle.stencil_data.specs.StandsFor.{text_at}
 use Rattle.scope_analysis.specs.DeclaredNames.{Text, has_text}
-use Rattle.scope_analysis.specs.TextSets.{texts_in}
+use Rattle.scope_analysis.specs.TextSets.{has, HasPlace}
 use Rattle.scope_analysis.proofs.texts.text_set.Given as goal
 
 abbrev pub invariant-loop-atom : goal.invariant-loop-atom
-invariant-loop-atom l = (q : Text) → has_text (texts_in l.some) q ≡ has_text (map (text_at l.texts) (take l.atom-index l.atoms)) q
+invariant-loop-atom l =
+    HasPlace l.some.cells.items l.some.others
+    × ((q : Text) → has l.texts l.some.cells.items l.some.others q ≡ has_text (map (text_at l.texts) (take l.atom-index l.atoms)) q)

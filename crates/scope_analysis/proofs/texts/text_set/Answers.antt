@@ -1,0 +1,14 @@
+use Rattle.std.proofs.Common.{ℕ, ◌<◌, ◌||◌, Bool, get_or, length, bytes_eq, ap, sym, ◌∙◌, arith}
+use Rattle.stencil_data.specs.StandsFor.{text_at}
+use Rattle.scope_analysis.specs.DeclaredNames.{Text}
+use Rattle.scope_analysis.proofs.NameTexts.{has_more}
+use Rattle.scope_analysis.proofs.texts.text_set.Goals as goal
+
+pub loop-atom-preserved : goal.loop-atom-preserved
+loop-atom-preserved c =
+    let f : ℕ → Text = text_at c.args.texts.now in
+    let k : ℕ = c.loop-atom.atom-index in
+    let l : k < length c.args.atoms.now = omega arith in (
+      c.in_ok-insert.ensures.place,
+      (λ q. c.in_ok-insert.ensures.has q ∙ (ap (λ (b : Bool). bytes_eq (f (get_or c.args.atoms.now k 0)) q || b) (c.loop-atom.invariant.1 q) ∙ sym (has_more f c.args.atoms.now k q l))),
+    )

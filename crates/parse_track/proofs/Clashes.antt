@@ -13,7 +13,7 @@ has_name-snoc : (q : ℕ) (xs : List (Name ℕ)) (x : Name ℕ) → has_name nat
 has_name-snoc q [] x = or_first (nat_eq q x.name) false refl
 has_name-snoc q (y ∷ ys) x = ap (λ (b : Bool). nat_eq q y.name || b) (has_name-snoc q ys x) ∙ or_assoc (nat_eq q y.name) (has_name nat_eq q ys) (nat_eq q x.name)
 
-seen_at : (x q : ℕ) (old now : Bool) (b : Bool) → nat_eq x q ≡ b → now ≡ cond b true old → now ≡ (old || nat_eq q x)
+pub seen_at : (x q : ℕ) (old now : Bool) (b : Bool) → nat_eq x q ≡ b → now ≡ cond b true old → now ≡ (old || nat_eq q x)
 seen_at x q old now true e f = f ∙ (sym (or_true old) ∙ ap (λ (b : Bool). old || b) (sym (eq-eqb q x (sym (eqb-true x q e)))))
 seen_at x q old now false e f = f ∙ (sym (or_first old false refl) ∙ ap (λ (b : Bool). old || b) (sym (other (nat_eq q x) refl)))
   where

@@ -12,8 +12,11 @@ pub mod Visiting
 pub mod Marking
 pub mod Closing
 pub mod Smallest
+pub mod Marked
+pub mod Sooner
 pub mod Clashes
 pub mod Seeking
+pub mod RegionOffsets
 pub mod FirstClash
 pub mod ClashSteps
 pub mod JumpSteps

@@ -1,5 +1,5 @@
 -- The declarations that a search of the code asks for.
-use Rattle.std.specs.Prelude.{Bool, true, cond, Option, Some, None}
+use Rattle.std.specs.Prelude.{Bool, true, false, cond, Option, Some, None}
 use Rattle.script_grammar.specs.declared.tree.Ident.{Ident}
 use Rattle.parse_track.specs.declared.region.Declare.{Declare}
 use Rattle.parse_track.specs.declared.names.Asked.{Asked}
@@ -21,3 +21,10 @@ asked_in a (item.Declared how name) = cond (asks a how) (Some name) None
 asked_in a (item.Used _) = None
 asked_in a (item.Jumped _ _ _) = None
 asked_in a (item.Inner _) = None
+
+-- whether an item declares a name
+abbrev pub is_declared : Item → Bool
+is_declared (item.Declared _ _) = true
+is_declared (item.Used _) = false
+is_declared (item.Jumped _ _ _) = false
+is_declared (item.Inner _) = false

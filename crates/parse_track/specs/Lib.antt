@@ -7,6 +7,7 @@ pub mod Log
 pub mod Counted
 pub mod Rows
 pub mod AtomTables
+pub mod AtomSets
 pub mod Walk
 pub mod Asked
 pub mod Scopes

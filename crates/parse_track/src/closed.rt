@@ -12,6 +12,7 @@ ghost use Rattle.parse_track.specs.Scopes.{items_of_lists, bound_of, bounds_of};
 ghost use Rattle.parse_track.specs.Walk.{bind_all, hit, deeper};
 ghost use Rattle.parse_track.specs.Visited.{IsVisited};
 
+use crate::atom_set::AtomSet;
 use crate::atom_table::{AtomTable, look_up, put_back};
 use crate::names::items_at;
 use crate::region::{ClosedAt, Region, WellKnownAtoms};
@@ -96,6 +97,8 @@ fn push_scopes(
 /// inner functions close over.
 #[derive(Drop)]
 pub struct FoundClosed {
+    /// For what needs a set of atoms on the way.
+    pub seen: AtomSet,
     pub env: AtomTable<Top>,
     pub bound: Vec<ClosedAt>,
     pub hits: Vec<usize>,
@@ -109,6 +112,7 @@ impl FoundClosed {
         ensures hits { result.hits.items ≡ [] }
     {
         FoundClosed {
+            seen: AtomSet::new(alloc),
             env: AtomTable::new(alloc),
             bound: Vec::new(alloc),
             hits: Vec::new(alloc),
@@ -318,7 +322,7 @@ pub fn visit_inner(
     ensures { IfOk result (λ next. IsVisited (known_names known.now) around scope found.old found.new next (told_items (map row_of rows.now) (told_region room (map row_of rows.now)) (Inner region ∷ []))) }
 {
     let kind = kind_at(rows, region);
-    let scopes = scopes_of(alloc, known, rows, room, kind, region)?;
+    let scopes = scopes_of(alloc, &mut found.seen, known, rows, room, kind, region)?;
     let names = join(alloc, &scopes)?;
     let inside = around_inside(rows, room, kind, region, around);
     let begun = begins(around.named, kind);

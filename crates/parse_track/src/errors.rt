@@ -4,12 +4,12 @@ ghost use Rattle.std.specs.Prelude.{◌≡◌, ◌≤◌, ◌-◌, ◌^◌, ◌<
 ghost use Rattle.parse_track.specs.EarlyErrors.{sooner, error_of, first_error};
 ghost use Rattle.parse_track.specs.Log.{known_names, told_of};
 ghost use Rattle.parse_track.specs.Rows.{row_of};
-ghost use Rattle.parse_track.specs.Errors.{clash_error, rule_error};
+ghost use Rattle.parse_track.specs.Errors.{clash_error};
 
 use crate::clashing::first_clash;
 use crate::jumps::first_wrong_jump;
 use crate::region::{Early, WellKnownAtoms};
-use crate::rules::{RegionRule, first_of};
+use crate::rules::rule_offsets;
 use crate::track::RegionRow;
 use std::alloc::{AllocError, Global};
 
@@ -40,27 +40,6 @@ fn error_of(rule: u8, offset: Option<u32>) -> Option<Early>
     }
 }
 
-/// The first early error of a rule that looks at one region.
-fn error_of_rule(
-    alloc: Global,
-    known: &WellKnownAtoms,
-    rows: &[RegionRow],
-    rule: RegionRule,
-) -> Result<Option<Early>, AllocError>
-    requires { length rows.now ≤ 2 ^ 32 - 2 }
-    ensures { IfOk result (λ error. error ≡ rule_error rule (known_names known.now) (told_of (map row_of rows.now))) }
-{
-    let number = match rule {
-        RegionRule::TwiceLexical => 1,
-        RegionRule::CatchAndLexical => 4,
-        RegionRule::ParamAndLexical => 5,
-        RegionRule::TwiceParam => 6,
-        RegionRule::BindsReserved => 9,
-    };
-    let first = first_of(alloc, known, rows, rule)?;
-    Ok(error_of(number, first))
-}
-
 /// The first clash of a lexical and a var name, of heads of `for` statements or of other regions.
 fn error_of_clash(
     alloc: Global,
@@ -88,13 +67,14 @@ pub fn first_error(
     requires { length rows.now ≤ 2 ^ 32 - 2 }
     ensures { IfOk result (λ error. error ≡ first_error nat_eq (known_names known.now) noted (told_of (map row_of rows.now))) }
 {
-    let lexical = error_of_rule(alloc, known, rows, RegionRule::TwiceLexical)?;
+    let offsets = rule_offsets(alloc, known, rows)?;
+    let lexical = error_of(1, offsets.twice_lexical);
     let clash = error_of_clash(alloc, rows, false)?;
     let head = error_of_clash(alloc, rows, true)?;
-    let catch = error_of_rule(alloc, known, rows, RegionRule::CatchAndLexical)?;
-    let param = error_of_rule(alloc, known, rows, RegionRule::ParamAndLexical)?;
-    let params = error_of_rule(alloc, known, rows, RegionRule::TwiceParam)?;
-    let reserved = error_of_rule(alloc, known, rows, RegionRule::BindsReserved)?;
+    let catch = error_of(4, offsets.catch_and_lexical);
+    let param = error_of(5, offsets.param_and_lexical);
+    let params = error_of(6, offsets.twice_param);
+    let reserved = error_of(9, offsets.binds_reserved);
     let jump = error_of(11, first_wrong_jump(alloc, rows)?);
     let late = sooner_early(params, sooner_early(reserved, jump));
     let middle = sooner_early(head, sooner_early(catch, sooner_early(param, late)));

@@ -7,6 +7,7 @@
 //! regions that was told, the definitions of `specs/EarlyErrors.antt` and `specs/ClosedNames.antt`.
 #![tactic(auto)]
 
+mod atom_set;
 mod atom_table;
 mod clashing;
 mod closed;

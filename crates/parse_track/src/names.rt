@@ -4,7 +4,8 @@ ghost use Rattle.std.specs.Prelude.{◌≡◌, ◌<◌, ◌++◌, ◌∷◌, [],
 ghost use Rattle.parse_track.specs.RegionNames.{stops_vars, vars};
 ghost use Rattle.parse_track.specs.Log.{name_of, region_of, kind_of, told_items, told_region};
 ghost use Rattle.parse_track.specs.Rows.{item_of, row_of, items_at};
-ghost use Rattle.parse_track.specs.Asked.{asks, asked_in};
+ghost use Rattle.std.specs.List.{list_any};
+ghost use Rattle.parse_track.specs.Asked.{asks, asked_in, is_declared};
 
 use crate::region::{Declare, Region};
 use crate::track::{Item, RegionRow};
@@ -60,6 +61,20 @@ pub fn direct_names(alloc: Global, asked: Asked, items: &[Item]) -> Result<Vec<I
         .iter()
         .filter_map(|item| declared(asked, item))
         .collect(alloc)
+}
+
+/// Whether an item declares a name.
+fn is_declared(item: &Item) -> bool
+    ensures { result ≡ is_declared item.now }
+{
+    matches!(item, Item::Declared(_, _))
+}
+
+/// Whether a name is declared among these items.
+pub fn declares_any(items: &[Item]) -> bool
+    ensures { result ≡ list_any is_declared items.now }
+{
+    items.iter().any(|item| is_declared(item))
 }
 
 /// What stands in a region, where n regions may stand one in another; nothing where there is no room or no region.

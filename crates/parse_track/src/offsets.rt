@@ -1,15 +1,14 @@
 //! The smallest of some offsets, and the offsets of names that clash.
 
 ghost use Rattle.std.specs.Prelude.{◌≡◌, [], ℕ, cond, None, Some, IfOk, OnOk, map, nat_eq};
-ghost use Rattle.std.specs.Ordering.{nat_cmp};
-ghost use Rattle.std.specs.BTreeSet.{contains};
+ghost use Rattle.parse_track.specs.AtomSets.{has_atom};
 ghost use Rattle.parse_track.specs.EarlyErrors.{smaller, smallest, repeated, also_in, reserved, has_name};
 ghost use Rattle.parse_track.specs.Log.{name_of, known_names};
 
+use crate::atom_set::AtomSet;
 use crate::region::WellKnownAtoms;
 use script_grammar::tree::Ident;
-use std::alloc::{AllocError, Global};
-use std::collections::BTreeSet;
+use std::alloc::AllocError;
 
 /// The smaller of two offsets, where there is one.
 pub fn lesser(x: Option<u32>, y: Option<u32>) -> Option<u32>
@@ -33,11 +32,11 @@ pub fn lesser_if(first: Option<u32>, clash: bool, at: u32) -> Option<u32>
     }
 }
 
-/// The smallest offset of a name that stands before it too.
-pub fn first_repeated(alloc: Global, names: &[Ident]) -> Result<Option<u32>, AllocError>
+/// The smallest offset of a name that stands before it too. The set is for its use.
+pub fn first_repeated(seen: &mut AtomSet, names: &[Ident]) -> Result<Option<u32>, AllocError>
     ensures { IfOk result (λ first. first ≡ smallest (repeated nat_eq [] (map name_of names.now))) }
 {
-    let mut seen = BTreeSet::new(alloc);
+    seen.clear();
     let mut first = None;
     for name in names {
         let is_new = seen.insert(name.atom)?;
@@ -46,25 +45,29 @@ pub fn first_repeated(alloc: Global, names: &[Ident]) -> Result<Option<u32>, All
     Ok(first)
 }
 
-/// The atoms of these names.
-fn atom_set(alloc: Global, names: &[Ident]) -> Result<BTreeSet<u32>, AllocError>
-    ensures { IfOk result (λ atoms. (q : ℕ) → contains nat_cmp atoms q ≡ has_name nat_eq q (map name_of names.now)) }
+/// The set has the atoms of these names alone.
+fn fill(atoms: &mut AtomSet, names: &[Ident]) -> Result<(), AllocError>
+    ensures { OnOk result ((q : ℕ) → has_atom atoms.new.marks.items atoms.new.version q ≡ has_name nat_eq q (map name_of names.now)) }
 {
-    let mut atoms = BTreeSet::new(alloc);
+    atoms.clear();
     for name in names {
         atoms.insert(name.atom)?;
     }
-    Ok(atoms)
+    Ok(())
 }
 
-/// The smallest offset of a name of the second list that the first has.
-pub fn first_also(alloc: Global, xs: &[Ident], ys: &[Ident]) -> Result<Option<u32>, AllocError>
+/// The smallest offset of a name of the second list that the first has. The set is for its use.
+pub fn first_also(
+    atoms: &mut AtomSet,
+    xs: &[Ident],
+    ys: &[Ident],
+) -> Result<Option<u32>, AllocError>
     ensures { IfOk result (λ first. first ≡ smallest (also_in nat_eq (map name_of xs.now) (map name_of ys.now))) }
 {
-    let atoms = atom_set(alloc, xs)?;
+    fill(atoms, xs)?;
     let mut first = None;
     for name in ys {
-        first = lesser_if(first, atoms.contains(&name.atom), name.at);
+        first = lesser_if(first, atoms.contains(name.atom), name.at);
     }
     Ok(first)
 }

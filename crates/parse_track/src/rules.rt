@@ -1,30 +1,58 @@
-//! The early errors that look at one region: the smallest offset of each over all regions.
+//! The early errors that look at one region: the smallest offset of each over all regions, by one walk.
 
-ghost use Rattle.std.specs.Prelude.{◌≡◌, ◌<◌, ◌≤◌, ◌-◌, ◌^◌, ◌++◌, ◌∷◌, [], ℕ, List, Bool, true, None, Some, length, slice_get, IfOk, OnOk, map, nat_eq, filter_map};
+ghost use Rattle.std.specs.Prelude.{◌≡◌, ◌<◌, ◌≤◌, ◌-◌, ◌^◌, ◌++◌, ◌∷◌, [], ℕ, Bool, true, None, length, slice_get, IfOk, OnOk, map, nat_eq, filter_map};
+ghost use Rattle.std.specs.List.{list_any};
 ghost use Rattle.parse_track.specs.Told.{Told};
 ghost use Rattle.parse_track.specs.RegionNames.{is_lexical, is_param, is_catch_param, is_block, is_body, directly, lexical_below};
-ghost use Rattle.parse_track.specs.EarlyErrors.{smaller, smallest, repeated, also_in, lambda_name, binds_reserved, at_regions};
+ghost use Rattle.parse_track.specs.EarlyErrors.{smaller, smallest, repeated, also_in, lambda_name, reserved, binds_reserved, at_regions};
 ghost use Rattle.parse_track.specs.Log.{name_of, region_of, kind_of, known_names, told_items, told_region, told_of, outermost_if, Inner};
 ghost use Rattle.parse_track.specs.Rows.{item_of, row_of, items_at};
-ghost use Rattle.parse_track.specs.Asked.{asks, asked_in};
-ghost use Rattle.parse_track.specs.Rules.{rule_of, is_inner};
+ghost use Rattle.parse_track.specs.Asked.{asks, asked_in, is_declared};
+ghost use Rattle.parse_track.specs.Rules.{RegionRule, rule_of, offset_of, AreLessened, is_inner};
 
+use crate::atom_set::AtomSet;
 use crate::closed::kind_at;
-use crate::names::{Asked, direct_names, items_at};
+use crate::names::{Asked, declares_any, direct_names, items_at};
 use crate::offsets::{first_also, first_repeated, first_reserved, lesser};
 use crate::region::{Region, WellKnownAtoms};
 use crate::track::{Item, RegionRow};
 use script_grammar::tree::Ident;
 use std::alloc::{AllocError, Global};
 
-/// An early error that looks at one region alone.
+/// The smallest offset of each early error that looks at one region alone, where there is one.
 #[derive(Clone, Copy, Debug)]
-pub enum RegionRule {
-    TwiceLexical,
-    CatchAndLexical,
-    ParamAndLexical,
-    TwiceParam,
-    BindsReserved,
+pub struct RuleOffsets {
+    pub twice_lexical: Option<u32>,
+    pub catch_and_lexical: Option<u32>,
+    pub param_and_lexical: Option<u32>,
+    pub twice_param: Option<u32>,
+    pub binds_reserved: Option<u32>,
+}
+
+impl RuleOffsets {
+    /// There is no early error.
+    fn none() -> RuleOffsets
+        ensures { (rule : RegionRule) → offset_of result rule ≡ None }
+    {
+        RuleOffsets {
+            twice_lexical: None,
+            catch_and_lexical: None,
+            param_and_lexical: None,
+            twice_param: None,
+            binds_reserved: None,
+        }
+    }
+
+    /// Of each early error the smaller of two offsets.
+    fn lessen(&mut self, other: RuleOffsets)
+        ensures { (rule : RegionRule) → offset_of self.new rule ≡ smaller (offset_of self.old rule) (offset_of other rule) }
+    {
+        self.twice_lexical = lesser(self.twice_lexical, other.twice_lexical);
+        self.catch_and_lexical = lesser(self.catch_and_lexical, other.catch_and_lexical);
+        self.param_and_lexical = lesser(self.param_and_lexical, other.param_and_lexical);
+        self.twice_param = lesser(self.twice_param, other.twice_param);
+        self.binds_reserved = lesser(self.binds_reserved, other.binds_reserved);
+    }
 }
 
 /// Regions whose lexical names count as those of the region around them.
@@ -100,29 +128,26 @@ fn add_inners(
     Ok(())
 }
 
-/// A name, as a list.
-fn lambda_name(alloc: Global, kind: Region) -> Result<Vec<Ident>, AllocError>
-    ensures { IfOk result (λ names. map name_of names.items ≡ lambda_name (region_of kind)) }
+/// The offset of the name of a function expression, where it may not be bound.
+fn first_reserved_lambda(known: &WellKnownAtoms, kind: Region) -> Option<u32>
+    ensures { result ≡ smallest (reserved nat_eq (known_names known.now) (lambda_name (region_of kind))) }
 {
-    let mut names = Vec::new(alloc);
-    if let Region::Lambda(name) = kind {
-        names.push(name)?;
+    match kind {
+        Region::Lambda(name) => {
+            let names = [name];
+            first_reserved(known, &names)
+        }
+        Region::Script => None,
+        Region::Function => None,
+        Region::Arrow => None,
+        Region::Block => None,
+        Region::Switch => None,
+        Region::ForHead => None,
+        Region::Catch => None,
+        Region::Loop => None,
+        Region::Label(_) => None,
+        Region::VarBody => None,
     }
-    Ok(names)
-}
-
-/// The first name that is declared so in a region and stands before it too.
-fn first_twice(
-    alloc: Global,
-    rows: &[RegionRow],
-    room: usize,
-    region: u32,
-    asked: Asked,
-) -> Result<Option<u32>, AllocError>
-    ensures { IfOk result (λ first. first ≡ smallest (repeated nat_eq [] (directly (asks asked) (told_region room (map row_of rows.now) region)))) }
-{
-    let names = names_in(alloc, rows, room, region, asked)?;
-    first_repeated(alloc, &names)
 }
 
 /// The first lexical name of the block of a catch clause that equals its parameter.
@@ -131,28 +156,40 @@ fn first_catch(
     rows: &[RegionRow],
     room: usize,
     region: u32,
+    atoms: &mut AtomSet,
 ) -> Result<Option<u32>, AllocError>
     ensures { IfOk result (λ first. let told = told_region room (map row_of rows.now) region in first ≡ smallest (also_in nat_eq (directly is_catch_param told) (lexical_below is_block told))) }
 {
     let params = names_in(alloc, rows, room, region, Asked::Catch)?;
+    if params.is_empty() {
+        return Ok(None);
+    }
     let mut lexical = Vec::new(alloc);
     add_inners(alloc, rows, room, InnerKind::Block, region, &mut lexical)?;
-    first_also(alloc, &params, &lexical)
+    first_also(atoms, &params, &lexical)
 }
 
-/// The first lexical name of the body of a function that equals a parameter.
+/// The first lexical name of the body of a function that equals a parameter, where its parameters and the lexical names of the
+/// region itself are these.
 fn first_param(
     alloc: Global,
     rows: &[RegionRow],
     room: usize,
     region: u32,
+    params: &[Ident],
+    lexical: Vec<Ident>,
+    atoms: &mut AtomSet,
 ) -> Result<Option<u32>, AllocError>
+    requires params { map name_of params.now ≡ directly is_param (told_region room (map row_of rows.now) region) }
+    requires lexical { map name_of lexical.items ≡ directly is_lexical (told_region room (map row_of rows.now) region) }
     ensures { IfOk result (λ first. let told = told_region room (map row_of rows.now) region in first ≡ smallest (also_in nat_eq (directly is_param told) (directly is_lexical told ++ lexical_below is_body told))) }
 {
-    let params = names_in(alloc, rows, room, region, Asked::Param)?;
-    let mut lexical = names_in(alloc, rows, room, region, Asked::Lexical)?;
+    if params.is_empty() {
+        return Ok(None);
+    }
+    let mut lexical = lexical;
     add_inners(alloc, rows, room, InnerKind::Body, region, &mut lexical)?;
-    first_also(alloc, &params, &lexical)
+    first_also(atoms, params, &lexical)
 }
 
 /// The first name that a region binds and that may not be bound.
@@ -166,119 +203,149 @@ fn first_bound_reserved(
 ) -> Result<Option<u32>, AllocError>
     ensures { IfOk result (λ first. first ≡ smallest (binds_reserved nat_eq (known_names known.now) (region_of kind) (told_region room (map row_of rows.now) region))) }
 {
-    let mut names = lambda_name(alloc, kind)?;
     let own = names_in(alloc, rows, room, region, Asked::All)?;
-    names.extend_from_slice(&own)?;
-    let first = first_reserved(known, &names);
+    let first = lesser(
+        first_reserved_lambda(known, kind),
+        first_reserved(known, &own),
+    );
     Ok(first)
 }
 
-/// The smallest offset of an early error of this rule at a region itself.
-fn first_at(
-    alloc: Global,
-    known: &WellKnownAtoms,
-    rows: &[RegionRow],
-    room: usize,
-    rule: RegionRule,
-    kind: Region,
-    region: u32,
-) -> Result<Option<u32>, AllocError>
-    ensures { IfOk result (λ first. first ≡ smallest (rule_of rule (known_names known.now) (region_of kind) (told_region room (map row_of rows.now) region))) }
+/// The smallest offsets at a region itself that declares no name.
+fn offsets_without_names(known: &WellKnownAtoms, kind: Region) -> RuleOffsets
+    ensures { (rule : RegionRule) (told : Told ℕ) → ((asked : Asked) → directly (asks asked) told ≡ []) → offset_of result rule ≡ smallest (rule_of rule (known_names known.now) (region_of kind) told) }
 {
-    match rule {
-        RegionRule::TwiceLexical => first_twice(alloc, rows, room, region, Asked::Lexical),
-        RegionRule::TwiceParam => first_twice(alloc, rows, room, region, Asked::Param),
-        RegionRule::CatchAndLexical => first_catch(alloc, rows, room, region),
-        RegionRule::ParamAndLexical => first_param(alloc, rows, room, region),
-        RegionRule::BindsReserved => first_bound_reserved(alloc, known, rows, room, kind, region),
-    }
+    let mut offsets = RuleOffsets::none();
+    offsets.binds_reserved = first_reserved_lambda(known, kind);
+    offsets
 }
 
-/// The smallest offset of an early error of this rule in a region that an item is.
-#[cycle(seeking)]
-fn first_in_item(
+/// The smallest offset of each early error at a region itself.
+fn offsets_at(
     alloc: Global,
     known: &WellKnownAtoms,
     rows: &[RegionRow],
     room: usize,
-    rule: RegionRule,
+    kind: Region,
+    region: u32,
+    atoms: &mut AtomSet,
+) -> Result<RuleOffsets, AllocError>
+    ensures { IfOk result (λ offsets. (rule : RegionRule) → offset_of offsets rule ≡ smallest (rule_of rule (known_names known.now) (region_of kind) (told_region room (map row_of rows.now) region))) }
+{
+    if !declares_any(items_at(rows, room, region)) {
+        return Ok(offsets_without_names(known, kind));
+    }
+    let lexical = names_in(alloc, rows, room, region, Asked::Lexical)?;
+    let params = names_in(alloc, rows, room, region, Asked::Param)?;
+    let twice_lexical = first_repeated(atoms, &lexical)?;
+    let twice_param = first_repeated(atoms, &params)?;
+    let catch_and_lexical = first_catch(alloc, rows, room, region, atoms)?;
+    let param_and_lexical = first_param(alloc, rows, room, region, &params, lexical, atoms)?;
+    let binds_reserved = first_bound_reserved(alloc, known, rows, room, kind, region)?;
+    Ok(RuleOffsets {
+        twice_lexical,
+        catch_and_lexical,
+        param_and_lexical,
+        twice_param,
+        binds_reserved,
+    })
+}
+
+/// Takes the offsets of an item: those of all regions in it.
+#[cycle(seeking)]
+fn seek_in_item(
+    alloc: Global,
+    known: &WellKnownAtoms,
+    rows: &[RegionRow],
+    room: usize,
     item: Item,
-) -> Result<Option<u32>, AllocError>
-    ensures { IfOk result (λ first. first ≡ smallest (at_regions (rule_of rule (known_names known.now)) (told_items (map row_of rows.now) (told_region room (map row_of rows.now)) (item_of item ∷ [])))) }
+    atoms: &mut AtomSet,
+    offsets: &mut RuleOffsets,
+) -> Result<(), AllocError>
+    ensures { OnOk result (AreLessened (known_names known.now) offsets.old offsets.new (told_items (map row_of rows.now) (told_region room (map row_of rows.now)) (item_of item ∷ []))) }
 {
     match item {
         Item::Inner(region) => {
-            let own = first_at(
-                alloc,
-                known,
-                rows,
-                room,
-                rule,
-                kind_at(rows, region),
-                region,
-            )?;
-            let inside = first_in(alloc, known, rows, room, rule, region)?;
-            let first = lesser(own, inside);
-            Ok(first)
+            let kind = kind_at(rows, region);
+            let own = offsets_at(alloc, known, rows, room, kind, region, atoms)?;
+            offsets.lessen(own);
+            seek_in(alloc, known, rows, room, region, atoms, offsets)?;
+            Ok(())
         }
-        Item::Declared(_, _) => Ok(None),
-        Item::Used(_) => Ok(None),
-        Item::Jumped(_, _, _) => Ok(None),
+        Item::Declared(_, _) => Ok(()),
+        Item::Used(_) => Ok(()),
+        Item::Jumped(_, _, _) => Ok(()),
     }
 }
 
-/// The smallest offset of an early error of this rule in the regions inside a region.
+/// Takes the offsets of the regions inside a region.
 #[cycle(seeking)]
-fn first_in(
+fn seek_in(
     alloc: Global,
     known: &WellKnownAtoms,
     rows: &[RegionRow],
     room: usize,
-    rule: RegionRule,
     region: u32,
-) -> Result<Option<u32>, AllocError>
-    ensures { IfOk result (λ first. first ≡ smallest (at_regions (rule_of rule (known_names known.now)) (told_region room (map row_of rows.now) region))) }
+    atoms: &mut AtomSet,
+    offsets: &mut RuleOffsets,
+) -> Result<(), AllocError>
+    ensures { OnOk result (AreLessened (known_names known.now) offsets.old offsets.new (told_region room (map row_of rows.now) region)) }
 {
-    let mut first = None;
     let items = items_at(rows, room, region);
     for item in items {
-        let here = first_in_item(alloc, known, rows, room - 1, rule, *item)?;
-        first = lesser(first, here);
+        seek_in_item(alloc, known, rows, room - 1, *item, atoms, offsets)?;
     }
-    Ok(first)
+    Ok(())
 }
 
-/// The smallest offset of an early error of this rule in an outermost region.
-fn first_in_outermost(
+/// Takes the offsets of an outermost region.
+fn seek_in_outermost(
     alloc: Global,
     known: &WellKnownAtoms,
     rows: &[RegionRow],
-    rule: RegionRule,
     region: u32,
     around: Option<u32>,
-) -> Result<Option<u32>, AllocError>
-    ensures { IfOk result (λ first. first ≡ smallest (at_regions (rule_of rule (known_names known.now)) (told_items (map row_of rows.now) (told_region (length rows.now) (map row_of rows.now)) (outermost_if region around)))) }
+    atoms: &mut AtomSet,
+    offsets: &mut RuleOffsets,
+) -> Result<(), AllocError>
+    ensures { OnOk result (AreLessened (known_names known.now) offsets.old offsets.new (told_items (map row_of rows.now) (told_region (length rows.now) (map row_of rows.now)) (outermost_if region around))) }
 {
     match around {
-        Some(_) => Ok(None),
-        None => first_in_item(alloc, known, rows, rows.len(), rule, Item::Inner(region)),
+        Some(_) => Ok(()),
+        None => seek_in_item(
+            alloc,
+            known,
+            rows,
+            rows.len(),
+            Item::Inner(region),
+            atoms,
+            offsets,
+        ),
     }
 }
 
-/// The smallest offset of an early error of this rule in a script.
-pub fn first_of(
+/// The smallest offset in a script of each early error that looks at one region.
+pub fn rule_offsets(
     alloc: Global,
     known: &WellKnownAtoms,
     rows: &[RegionRow],
-    rule: RegionRule,
-) -> Result<Option<u32>, AllocError>
+) -> Result<RuleOffsets, AllocError>
     requires { length rows.now ≤ 2 ^ 32 - 2 }
-    ensures { IfOk result (λ first. first ≡ smallest (at_regions (rule_of rule (known_names known.now)) (told_of (map row_of rows.now)))) }
+    ensures { IfOk result (λ offsets. (rule : RegionRule) → offset_of offsets rule ≡ smallest (at_regions (rule_of rule (known_names known.now)) (told_of (map row_of rows.now)))) }
 {
-    let mut first = None;
+    let mut atoms = AtomSet::new(alloc);
+    let mut offsets = RuleOffsets::none();
     for (region, row) in rows.iter().enumerate() {
-        let here = first_in_outermost(alloc, known, rows, rule, region as u32, row.around)?;
-        first = lesser(first, here);
+        let number = region as u32;
+        seek_in_outermost(
+            alloc,
+            known,
+            rows,
+            number,
+            row.around,
+            &mut atoms,
+            &mut offsets,
+        )?;
     }
-    Ok(first)
+    Ok(offsets)
 }

@@ -10,18 +10,18 @@ ghost use Rattle.parse_track.specs.Rows.{item_of, row_of, items_at};
 ghost use Rattle.parse_track.specs.Asked.{asks, asked_in};
 ghost use Rattle.parse_track.specs.Scopes.{items_of_lists};
 
+use crate::atom_set::AtomSet;
 use crate::names::{Asked, add_vars, direct_names, items_at};
 use crate::region::{Region, WellKnownAtoms};
 use crate::track::{Item, RegionRow};
 use script_grammar::tree::Ident;
 use std::alloc::{AllocError, Global};
-use std::collections::BTreeSet;
 
-/// Each atom once, where it stands first.
-fn distinct(alloc: Global, atoms: &[u32]) -> Result<Vec<u32>, AllocError>
+/// Each atom once, where it stands first. The set is for its use.
+fn distinct(alloc: Global, seen: &mut AtomSet, atoms: &[u32]) -> Result<Vec<u32>, AllocError>
     ensures { IfOk result (λ some. some.items ≡ distinct nat_eq atoms.now) }
 {
-    let mut seen = BTreeSet::new(alloc);
+    seen.clear();
     let mut kept = Vec::new(alloc);
     for atom in atoms {
         if seen.insert(*atom)? {
@@ -67,10 +67,15 @@ fn var_atoms(
 }
 
 /// A scope of these names, where there are any.
-fn push_scope(alloc: Global, scopes: &mut Vec<Vec<u32>>, atoms: &[u32]) -> Result<(), AllocError>
+fn push_scope(
+    alloc: Global,
+    seen: &mut AtomSet,
+    scopes: &mut Vec<Vec<u32>>,
+    atoms: &[u32],
+) -> Result<(), AllocError>
     ensures { OnOk result (items_of_lists scopes.new.items ≡ items_of_lists scopes.old.items ++ scope_if_any (distinct nat_eq atoms.now)) }
 {
-    let scope = distinct(alloc, atoms)?;
+    let scope = distinct(alloc, seen, atoms)?;
     if !scope.is_empty() {
         scopes.push(scope)?;
     }
@@ -80,12 +85,13 @@ fn push_scope(alloc: Global, scopes: &mut Vec<Vec<u32>>, atoms: &[u32]) -> Resul
 /// The scope of these names, which is there without a name too.
 fn push_whole_scope(
     alloc: Global,
+    seen: &mut AtomSet,
     scopes: &mut Vec<Vec<u32>>,
     atoms: &[u32],
 ) -> Result<(), AllocError>
     ensures { OnOk result (items_of_lists scopes.new.items ≡ items_of_lists scopes.old.items ++ distinct nat_eq atoms.now ∷ []) }
 {
-    let scope = distinct(alloc, atoms)?;
+    let scope = distinct(alloc, seen, atoms)?;
     scopes.push(scope)?;
     Ok(())
 }
@@ -123,6 +129,7 @@ fn has_body(rows: &[RegionRow], room: usize, region: u32) -> bool
 /// is a region of its own, the parameters alone.
 fn function_scopes(
     alloc: Global,
+    seen: &mut AtomSet,
     implicit: &[u32],
     rows: &[RegionRow],
     room: usize,
@@ -134,21 +141,22 @@ fn function_scopes(
     let mut atoms = direct_atoms(alloc, rows, room, region, Asked::Param)?;
     if has_body(rows, room, region) {
         atoms.extend_from_slice(implicit)?;
-        push_whole_scope(alloc, &mut scopes, &atoms)?;
+        push_whole_scope(alloc, seen, &mut scopes, &atoms)?;
         return Ok(scopes);
     }
     let hoisted = var_atoms(alloc, rows, room, region)?;
     atoms.extend_from_slice(&hoisted)?;
     atoms.extend_from_slice(implicit)?;
-    push_whole_scope(alloc, &mut scopes, &atoms)?;
+    push_whole_scope(alloc, seen, &mut scopes, &atoms)?;
     let lexical = direct_atoms(alloc, rows, room, region, Asked::Lexical)?;
-    push_scope(alloc, &mut scopes, &lexical)?;
+    push_scope(alloc, seen, &mut scopes, &lexical)?;
     Ok(scopes)
 }
 
 /// The one scope of the names that are declared so in a region, where there are any.
 fn one_scope(
     alloc: Global,
+    seen: &mut AtomSet,
     rows: &[RegionRow],
     room: usize,
     region: u32,
@@ -158,13 +166,14 @@ fn one_scope(
 {
     let mut scopes = Vec::new(alloc);
     let atoms = direct_atoms(alloc, rows, room, region, asked)?;
-    push_scope(alloc, &mut scopes, &atoms)?;
+    push_scope(alloc, seen, &mut scopes, &atoms)?;
     Ok(scopes)
 }
 
 /// The scope of a script.
 fn script_scopes(
     alloc: Global,
+    seen: &mut AtomSet,
     rows: &[RegionRow],
     room: usize,
     region: u32,
@@ -175,13 +184,14 @@ fn script_scopes(
     let mut atoms = var_atoms(alloc, rows, room, region)?;
     let lexical = direct_atoms(alloc, rows, room, region, Asked::Lexical)?;
     atoms.extend_from_slice(&lexical)?;
-    push_whole_scope(alloc, &mut scopes, &atoms)?;
+    push_whole_scope(alloc, seen, &mut scopes, &atoms)?;
     Ok(scopes)
 }
 
 /// The scopes of a body that is a region of its own: its var names, and its lexical names.
 fn body_scopes(
     alloc: Global,
+    seen: &mut AtomSet,
     rows: &[RegionRow],
     room: usize,
     region: u32,
@@ -190,9 +200,9 @@ fn body_scopes(
 {
     let mut scopes = Vec::new(alloc);
     let atoms = var_atoms(alloc, rows, room, region)?;
-    push_scope(alloc, &mut scopes, &atoms)?;
+    push_scope(alloc, seen, &mut scopes, &atoms)?;
     let lexical = direct_atoms(alloc, rows, room, region, Asked::Lexical)?;
-    push_scope(alloc, &mut scopes, &lexical)?;
+    push_scope(alloc, seen, &mut scopes, &lexical)?;
     Ok(scopes)
 }
 
@@ -208,8 +218,10 @@ fn name_scope(alloc: Global, name: Ident) -> Result<Vec<Vec<u32>>, AllocError>
 }
 
 /// The scopes of a region of this kind from the outermost in, each with the atoms of its names in the order of its bindings.
+/// The set is for its use.
 pub fn scopes_of(
     alloc: Global,
+    seen: &mut AtomSet,
     known: &WellKnownAtoms,
     rows: &[RegionRow],
     room: usize,
@@ -219,21 +231,21 @@ pub fn scopes_of(
     ensures { IfOk result (λ some. items_of_lists some.items ≡ scopes nat_eq (known_names known.now) (region_of kind) (told_region room (map row_of rows.now) region)) }
 {
     match kind {
-        Region::Script => script_scopes(alloc, rows, room, region),
+        Region::Script => script_scopes(alloc, seen, rows, room, region),
         Region::Function => {
             let implicit = [known.arguments, known.this];
-            function_scopes(alloc, &implicit, rows, room, region)
+            function_scopes(alloc, seen, &implicit, rows, room, region)
         }
         Region::Arrow => {
             let implicit = [];
-            function_scopes(alloc, &implicit, rows, room, region)
+            function_scopes(alloc, seen, &implicit, rows, room, region)
         }
         Region::Lambda(name) => name_scope(alloc, name),
-        Region::Block => one_scope(alloc, rows, room, region, Asked::Lexical),
-        Region::Switch => one_scope(alloc, rows, room, region, Asked::Lexical),
-        Region::ForHead => one_scope(alloc, rows, room, region, Asked::Lexical),
-        Region::Catch => one_scope(alloc, rows, room, region, Asked::Catch),
-        Region::VarBody => body_scopes(alloc, rows, room, region),
+        Region::Block => one_scope(alloc, seen, rows, room, region, Asked::Lexical),
+        Region::Switch => one_scope(alloc, seen, rows, room, region, Asked::Lexical),
+        Region::ForHead => one_scope(alloc, seen, rows, room, region, Asked::Lexical),
+        Region::Catch => one_scope(alloc, seen, rows, room, region, Asked::Catch),
+        Region::VarBody => body_scopes(alloc, seen, rows, room, region),
         Region::Loop => Ok(Vec::new(alloc)),
         Region::Label(_) => Ok(Vec::new(alloc)),
     }

@@ -4,7 +4,7 @@ use Rattle.bytecode_buf.specs.declared.opcode.Op.{Op}
 use Rattle.bytecode_buf.specs.declared.opcode.Shape.{Shape}
 use Rattle.bytecode_buf.specs.declared.opcode.Shape.TheVariants as shape
 use Rattle.bytecode_buf.specs.Width.{shape_of, width_of}
-use Rattle.bytecode_buf.specs.Layout.{Numbered, instructions}
+use Rattle.bytecode_buf.specs.Layout.{Numbered, instructions, IsWhole}
 
 -- what an instruction says besides its opcode
 pub data Operand : Type 0 where
@@ -92,6 +92,7 @@ placed_from at (c ∷ cs) = record { at = at; command = command_at at c } ∷ pl
 abbrev pub placed : List Command → List Listed
 placed commands = placed_from 0 commands
 
--- bytes stand for these commands
-abbrev pub ShowsCommands : List (List ℕ) → List ℕ → List Command → Type 0
-ShowsCommands texts code commands = listed texts code ≡ placed commands
+-- Bytes are whole instructions, and stand for these commands.
+pub record ShowsCommands (texts : List (List ℕ)) (code : List ℕ) (commands : List Command) : Type 0 where
+  pub is : listed texts code ≡ placed commands
+  pub whole : IsWhole code

@@ -44,7 +44,7 @@ all_stand texts at (i ∷ is) (c ∷ cs) e =
     )
 
 pub shown_stand : (texts : List (List ℕ)) (code : List ℕ) (commands : List Command) → ShowsCommands texts code commands → AllStand texts 0 (instructions code) commands
-shown_stand texts code commands shows = all_stand texts 0 (instructions code) commands shows
+shown_stand texts code commands shows = all_stand texts 0 (instructions code) commands shows.is
 
 -- ---- the bytes that instructions take
 

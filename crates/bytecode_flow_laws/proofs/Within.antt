@@ -5,13 +5,13 @@ use Rattle.bytecode_buf.specs.declared.opcode.Op.TheVariants as op
 use Rattle.bytecode_buf.specs.declared.opcode.Shape.{Shape}
 use Rattle.bytecode_buf.specs.declared.opcode.Shape.TheVariants as shape
 use Rattle.bytecode_buf.specs.Command.{Operand, Nothing, Number, Text, Aliased, Distance, Target, Command, operand_of, operand_at, ShowsCommands}
-use Rattle.bytecode_buf.specs.InRange.{LambdaWithin, JumpWithin, InstructionsWithin, CodeInRange}
-use Rattle.bytecode_buf.specs.Layout.{Numbered, decoded, decoded_as, read_as, followed, instructions, instructions_within, IsWhole}
+use Rattle.bytecode_buf.specs.InRange.{JumpWithin}
+use Rattle.bytecode_buf.specs.Layout.{Numbered, decoded, decoded_as, read_as, followed, instructions, instructions_within}
 use Rattle.bytecode_buf.specs.Table.{op_at}
 use Rattle.bytecode_buf.specs.Width.{shape_of, width_of, first_of, second_of}
 use Rattle.bytecode_buf.proofs.ReadBack.{instructions_within-none, instructions_within-more}
-use Rattle.bytecode_flow_laws.specs.Staying.{OperandStays, CommandsStay, JumpsStay, JumpsWithin, AtomsWithin, LambdasWithin, commands_size, number_in}
-use Rattle.bytecode_flow_laws.proofs.Reading.{StandsAt, AllStand, shown_stand, instructions_size, same_size}
+use Rattle.bytecode_flow_laws.specs.Staying.{OperandStays, CommandsStay, JumpsStay, JumpsWithin, commands_size, number_in}
+use Rattle.bytecode_flow_laws.proofs.Reading.{AllStand, shown_stand, instructions_size, same_size}
 
 -- ---- no more bytes than there are
 
@@ -92,12 +92,7 @@ jumps_within texts code commands stays shows =
     let fit = instructions_fit code in
     jumps_from texts (commands_size commands) (length code) 0 (instructions code) commands (omega arith) all stays.stay
 
--- the number of a function
-lambda_number : (texts : List (List ℕ)) (o : Op) (a b at n functions : ℕ) → number_in (operand_at at (operand_of texts (shape_of o) a b)) ≡ n → LambdaWithin o n functions → LambdaWithin o a functions
-lambda_number texts op.Lambda a b at n functions e h = subst (λ (k : ℕ). LambdaWithin op.Lambda k functions) (sym e) h
-lambda_number texts op.Undefined a b at n functions e h = tt
-lambda_number texts _ a b at n functions e h = tt
-
+-- the number in an operand, wherever it stands
 pub number_at : (at : ℕ) (o : Operand) → number_in (operand_at at o) ≡ number_in o
 number_at at Nothing = refl
 number_at at (Number n) = refl
@@ -105,20 +100,3 @@ number_at at (Text text) = refl
 number_at at (Aliased hops slot) = refl
 number_at at (Distance d) = refl
 number_at at (Target offset) = refl
-
-lambda_within : (texts : List (List ℕ)) (functions at : ℕ) (i : Numbered) (c : Command) → StandsAt texts at i c → LambdaWithin c.op (number_in c.operand) functions → LambdaWithin i.op i.a functions
-lambda_within texts functions at i c s h =
-    lambda_number texts i.op i.a i.b at (number_in c.operand) functions (ap number_in s.operand ∙ number_at at c.operand) (subst (λ (o : Op). LambdaWithin o (number_in c.operand) functions) (sym s.op) h)
-
-in_range : (texts functions size : ℕ) (names : List (List ℕ)) (at : ℕ) (is : List Numbered) (cs : List Command) → AllStand names at is cs → AtomsWithin texts is → LambdasWithin functions cs → JumpsWithin size at is → InstructionsWithin texts functions size at is
-in_range texts functions size names at [] cs s a l j = tt
-in_range texts functions size names at (i ∷ is) [] s a l j = absurd s
-in_range texts functions size names at (i ∷ is) (c ∷ cs) s a l j =
-    ((a.0, lambda_within names functions at i c s.0 l.0, j.0), in_range texts functions size names (at + width_of i.op) is cs s.1 a.1 l.1 j.1)
-
--- Whole bytes that stand for such commands are in range, where their atoms are, and the functions that the commands make.
-pub code_in_range : (texts : List (List ℕ)) (functions : ℕ) (code : List ℕ) (commands : List Command) → JumpsStay commands → ShowsCommands texts code commands → IsWhole code → AtomsWithin (length texts) (instructions code) → LambdasWithin functions commands → CodeInRange (length texts) functions code
-code_in_range texts functions code commands stays shows whole atoms lambdas = record {
-  whole = whole;
-  operands = in_range (length texts) functions (length code) texts 0 (instructions code) commands (shown_stand texts code commands shows) atoms lambdas (jumps_within texts code commands stays shows);
-}

@@ -1,7 +1,7 @@
 -- Jumps that go to a place of the code that they stand in, its end included. This project's own choice.
 use Rattle.std.specs.Prelude.{ℕ, ◌+◌, ◌%◌, ◌^◌, ◌≤◌, List, [], ◌∷◌}
 use Rattle.bytecode_buf.specs.Command.{Operand, Nothing, Number, Text, Aliased, Distance, Target, Command}
-use Rattle.bytecode_buf.specs.InRange.{AtomWithin, LambdaWithin, JumpWithin}
+use Rattle.bytecode_buf.specs.InRange.{JumpWithin}
 use Rattle.bytecode_buf.specs.Layout.{Numbered}
 use Rattle.bytecode_buf.specs.Pieces.{Piece, Whole, Waiting, Trying, Code, command_width, width_by, size}
 use Rattle.bytecode_buf.specs.Width.{shape_of, width_of}
@@ -54,17 +54,7 @@ abbrev pub JumpsWithin : ℕ → ℕ → List Numbered → Type 0
 JumpsWithin size at [] = Unit {0}
 JumpsWithin size at (i ∷ is) = JumpWithin (shape_of i.op) at i.a size × JumpsWithin size (at + width_of i.op) is
 
--- their atoms are below the count of texts
-abbrev pub AtomsWithin : ℕ → List Numbered → Type 0
-AtomsWithin texts [] = Unit {0}
-AtomsWithin texts (i ∷ is) = AtomWithin (shape_of i.op) i.a texts × AtomsWithin texts is
-
 -- the number that an operand is, or 0
 abbrev pub number_in : Operand → ℕ
 number_in (Number n) = n
 number_in _ = 0
-
--- the functions that commands make are numbered from 1 to this count
-abbrev pub LambdasWithin : ℕ → List Command → Type 0
-LambdasWithin functions [] = Unit {0}
-LambdasWithin functions (c ∷ cs) = LambdaWithin c.op (number_in c.operand) functions × LambdasWithin functions cs

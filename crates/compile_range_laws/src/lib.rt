@@ -8,6 +8,6 @@
 //!   (`proofs/ScopeSizes.antt`).
 //! - The function of a number is the one that starts where it says (`proofs/Numbers.antt`), so what is shown of a script
 //!   that was read without an error is small and agrees with its records (`is_shown_small` of `proofs/Scripts.antt`).
-//! - A stencil that stands for such values is in range, where its texts are few, short and without equals, and its code is whole
-//!   instructions whose atoms are those of texts (`shows_in_range` of `proofs/Scripts.antt`, by laws of stencil_xdr_laws).
+//! - A stencil that stands for such values is in range, where its texts are few, short and without equals, and the atoms in its
+//!   code are those of texts (`shows_in_range` of `proofs/Scripts.antt`, by laws of stencil_xdr_laws).
 #![tactic(auto)]

@@ -49,11 +49,21 @@ notes_placed texts (p ∷ ps) at =
 
 -- the bytes stand for the finished commands
 pub finished_code : {texts : List (List ℕ)} {bytes : List ℕ} {ws : List Wait} {ns : List TryNote} {code : Code} → Appends texts (emitted [] [] []) (emitted bytes ws ns) code → ShowsCommands texts bytes (settled code)
-finished_code {texts} a =
-    ap (λ (bs : List ℕ). listed_from texts 0 (instructions bs)) (a.bytes ∙ laid_layout a.pieces)
-    ∙ (ap (listed_from texts 0) (layout_is_read_back (map piece_instruction a.pieces) (all_fit a.pieces a.fit))
-    ∙ (listed_placed texts 0 (map piece_instruction a.pieces)
-    ∙ (ap (placed_from 0) (commands_settled texts a.pieces a.fit) ∙ ap (λ (c : Code). placed_from 0 (settled c)) a.stands)))
+finished_code {texts} {bytes} a = record {
+  is = ap (listed_from texts 0) read_back
+      ∙ (listed_placed texts 0 laid_out
+      ∙ (ap (placed_from 0) (commands_settled texts a.pieces a.fit) ∙ ap (λ (c : Code). placed_from 0 (settled c)) a.stands));
+  whole = ap layout read_back ∙ sym are_laid;
+}
+  where
+    laid_out : List Numbered
+    laid_out = map piece_instruction a.pieces
+
+    are_laid : bytes ≡ layout laid_out
+    are_laid = a.bytes ∙ laid_layout a.pieces
+
+    read_back : instructions bytes ≡ laid_out
+    read_back = ap instructions are_laid ∙ layout_is_read_back laid_out (all_fit a.pieces a.fit)
 
 -- its try notes are all there are
 pub finished_notes : {texts : List (List ℕ)} {bytes : List ℕ} {ws : List Wait} {ns : List TryNote} {code : Code} → Appends texts (emitted [] [] []) (emitted bytes ws ns) code → ns ≡ notes code

@@ -55,7 +55,7 @@ all_counted merged count is named s =
 -- ---- codes of commands
 
 function_as_listed : (texts : List (List ℕ)) (part : FunctionView) (named : NamedFunction (List Command)) → FunctionStandsFor ShowsCommands texts part named → FunctionStandsFor ShowsListed texts part (listed_function named)
-function_as_listed texts part named s = record { extent = s.extent; kind = s.kind; name_within = s.name_within; name = s.name; params = s.params; scopes = s.scopes; code = s.code; notes = s.notes; inner = s.inner }
+function_as_listed texts part named s = record { extent = s.extent; kind = s.kind; name_within = s.name_within; name = s.name; params = s.params; scopes = s.scopes; code = s.code.is; notes = s.notes; inner = s.inner }
 
 entries_as_listed : (texts : List (List ℕ)) (es : List Entry) (named : List (Option (NamedFunction (List Command)))) → EntriesStandFor ShowsCommands texts es named → EntriesStandFor ShowsListed texts es (map (option_map listed_function) named)
 entries_as_listed texts [] [] s = tt

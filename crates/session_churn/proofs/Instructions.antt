@@ -31,7 +31,7 @@ length-placed_from at (c ∷ cs) = ap suc (length-placed_from (at + width_of c.o
 
 -- bytes that stand for commands have as many instructions
 pub code_counted : (texts : List (List ℕ)) (code : List ℕ) (commands : List Command) → ShowsCommands texts code commands → length (instructions code) ≡ length commands
-code_counted texts code commands shows = sym (length-listed_from texts 0 (instructions code)) ∙ (ap length shows ∙ length-placed_from 0 commands)
+code_counted texts code commands shows = sym (length-listed_from texts 0 (instructions code)) ∙ (ap length shows.is ∙ length-placed_from 0 commands)
 
 function_size : (starts : List ℕ) (f : NamedFunction (List Command)) → length (listed_function (with_numbers starts f)).code ≡ length f.code
 function_size starts f = length-placed_from 0 (with_numbers starts f).code ∙ length-map f.code _

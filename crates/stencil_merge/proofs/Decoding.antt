@@ -1,10 +1,11 @@
 -- The whole instructions of bytes, one after another, and what each of them is read from.
 use Rattle.std.proofs.Common.{◌≡◌, ℕ, zero, suc, ◌+◌, ◌≤◌, Bool, true, false, nat_le, if◌then◌else◌, List, [], ◌∷◌, ◌++◌, length, take, drop, Option, Some, None, refl, sym, ◌∙◌, ap, ap₂, subst, append_assoc, arith, length-append, length-drop, length-take-le, leb-true, take-append-drop, take_at, drop_at, take-add}
 use Rattle.bytecode_buf.specs.declared.opcode.Op.{Op}
-use Rattle.bytecode_buf.specs.Bytes.{le_value, written}
-use Rattle.bytecode_buf.specs.Table.{op_at}
+use Rattle.bytecode_buf.specs.Bytes.{le_bytes, le_value, written}
+use Rattle.bytecode_buf.specs.Table.{op_at, number_of}
 use Rattle.bytecode_buf.specs.Width.{first_of, second_of, width_of}
-use Rattle.bytecode_buf.specs.Layout.{Numbered, decoded, decoded_as, read_as, followed, instructions, instructions_within}
+use Rattle.bytecode_buf.specs.Layout.{Numbered, decoded, decoded_as, read_as, followed, instructions, instructions_within, laid, renumbered}
+use Rattle.bytecode_buf.proofs.Bytes.{length-le_bytes}
 use Rattle.bytecode_buf.proofs.Decode.{decoded_as-whole, decoded-byte}
 use Rattle.bytecode_buf.proofs.ReadBack.{instructions_within-more, instructions_within-empty}
 
@@ -139,3 +140,38 @@ pub drop_written : (at next : ℕ) (bytes old : List ℕ) → at + 1 + length by
 drop_written at next bytes old is room =
     ap (drop next) (ap (λ (n : ℕ). (take (at + 1) old ++ bytes) ++ drop n old) is)
     ∙ drop_at (take (at + 1) old ++ bytes) (drop next old) next (length-append (take (at + 1) old) bytes ∙ (ap (λ (n : ℕ). n + length bytes) (length-take-le (at + 1) old room) ∙ is))
+
+-- the first byte that an instruction is laid out as
+first_byte : (i : Numbered) (rest bytes : List ℕ) → laid i ++ rest ≡ bytes → take 1 bytes ≡ number_of i.op ∷ []
+first_byte i rest bytes is = sym (ap (take 1) is)
+
+laid_with : (first second n : ℕ) (byte b : ℕ) → first ≡ 4 → second ≡ 0 → byte ∷ (le_bytes first n ++ le_bytes second b) ≡ byte ∷ (le_bytes 4 n ++ [])
+laid_with first second n byte b one two = ap₂ (λ (f : ℕ) (s : ℕ). byte ∷ (le_bytes f n ++ le_bytes s b)) one two
+
+-- an instruction that is laid out at an offset, once its number is written over
+pub laid_written : (at n : ℕ) (i : Numbered) (old : List ℕ) → at + 1 ≤ length old → first_of i.op ≡ 4 → second_of i.op ≡ 0 → laid i ≡ take (width_of i.op) (drop at old)
+    → laid (renumbered n i) ≡ take (width_of i.op) (drop at (written (at + 1) (le_bytes 4 n) old))
+laid_written at n i old room first second is = laid_with (first_of i.op) (second_of i.op) n (number_of i.op) i.b first second ∙ sym taken
+  where
+    back : List ℕ
+    back = drop (at + 1 + length (le_bytes 4 n)) old
+
+    opcode : take 1 (drop at old) ≡ number_of i.op ∷ []
+    opcode = first_byte i (drop (width_of i.op) (drop at old)) (drop at old) (ap (λ (l : List ℕ). l ++ drop (width_of i.op) (drop at old)) is ∙ take-append-drop (width_of i.op) (drop at old))
+
+    dropped : drop at (written (at + 1) (le_bytes 4 n) old) ≡ take 1 (drop at old) ++ (le_bytes 4 n ++ back)
+    dropped =
+        ap (drop at) (written_split at (le_bytes 4 n) old ∙ append_assoc (take at old ++ take 1 (drop at old)) (le_bytes 4 n) back ∙ append_assoc (take at old) (take 1 (drop at old)) (le_bytes 4 n ++ back))
+        ∙ drop_at (take at old) (take 1 (drop at old) ++ (le_bytes 4 n ++ back)) at (length-take-le at old (omega arith))
+
+    front : List ℕ
+    front = number_of i.op ∷ (le_bytes 4 n ++ [])
+
+    joined : drop at (written (at + 1) (le_bytes 4 n) old) ≡ front ++ back
+    joined = dropped ∙ (ap (λ (l : List ℕ). l ++ (le_bytes 4 n ++ back)) opcode ∙ ap (λ (l : List ℕ). number_of i.op ∷ l) (sym (append_assoc (le_bytes 4 n) [] back)))
+
+    size : length front ≡ width_of i.op
+    size = omega (arith, length-append (le_bytes 4 n) [], length-le_bytes 4 n, first, second)
+
+    taken : take (width_of i.op) (drop at (written (at + 1) (le_bytes 4 n) old)) ≡ front
+    taken = ap (take (width_of i.op)) joined ∙ take_at front back (width_of i.op) size

@@ -49,7 +49,7 @@ module _ (texts new added_texts : List (List ℕ)) (top : FunctionView) (records
       apart = taken.apart;
       many = length-set entries (number - 1) (entry.Compiled part) ∙ merging.many;
       top = grown.top;
-      entries = are_settled_set new entries (number - 1) part grown.entries (settled_by added_texts new atoms (numbers_in (inner_of records) number) stencil.code part.code are few by.code);
+      entries = are_settled_set new entries (number - 1) part grown.entries (settled_by added_texts new atoms (numbers_in (inner_of records) number) stencil.code part.code are few by.code.are);
     }
 
     adds_by : {Code : Type 0} (shows : List (List ℕ) → List ℕ → Code → Type 0) (numbered : List ℕ → Code → Code) → IsReading shows numbered → (IsCompiled (get_or entries (number - 1) entry.Lazy) → ⊥)
@@ -79,7 +79,7 @@ module _ (parts : InitialView) (new : List (List ℕ)) (top : FunctionView) (ato
     few = few;
     apart = taken.apart;
     many = ap length entries_are ∙ length-replicate (length records) entry.Lazy;
-    top = settled_by parts.texts new atoms (outermost (inner_of parts.records)) parts.top.code top.code are few by.code;
+    top = settled_by parts.texts new atoms (outermost (inner_of parts.records)) parts.top.code top.code are few by.code.are;
     entries = subst (AreSettled new) (sym entries_are) (are_settled_lazy new (length records));
   }
 

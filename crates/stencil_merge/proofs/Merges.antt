@@ -8,6 +8,7 @@ use Rattle.stencil_data.specs.Named.{NamedScope, NamedFunction, NamedRecord, Nam
 use Rattle.stencil_data.specs.StandsFor.{text_at, named_record, NameWithin, ScopesStandFor, RecordsStandFor, FunctionStandsFor, EntryStandsFor, EntriesStandFor, InitialStandsFor, MergedStandsFor}
 use Rattle.stencil_data.specs.Views.{ScopeView, RecordView, FunctionView, InitialView}
 use Rattle.bytecode_buf.specs.Command.{Command, Listed, ShowsCommands, listed}
+use Rattle.bytecode_buf.specs.Layout.{IsWhole}
 use Rattle.parser_atoms.specs.Places.{AreWithoutEquals}
 use Rattle.stencil_merge.specs.Atoms.{atom_by, record_by, AreAtoms, TakesIn}
 use Rattle.stencil_merge.specs.Functions.{inner_of, named_inner_of, numbers_in, outermost}
@@ -48,21 +49,21 @@ are_settled_lazy texts (suc n) = are_settled_lazy texts n
 
 -- ---- readings of code
 
--- a reading of code rests on its instructions alone, and goes with numbers of functions
+-- a reading of code rests on its instructions alone, and on whether it is whole, and goes with numbers of functions
 pub record IsReading {Code : Type 0} (shows : List (List ℕ) → List ℕ → Code → Type 0) (numbered : List ℕ → Code → Code) : Type 0 where
   pub kept : (texts other : List (List ℕ)) (code : List ℕ) (c : Code) → listed other code ≡ listed texts code → shows texts code c → shows other code c
-  pub changed : (texts other : List (List ℕ)) (old new numbers : List ℕ) (c : Code) → listed other new ≡ numbered_list numbers (listed texts old) → shows texts old c → shows other new (numbered numbers c)
+  pub changed : (texts other : List (List ℕ)) (old new numbers : List ℕ) (c : Code) → listed other new ≡ numbered_list numbers (listed texts old) → (IsWhole old → IsWhole new) → shows texts old c → shows other new (numbered numbers c)
 
 pub by_list : IsReading ShowsListed numbered_list
 by_list = record {
   kept = λ texts other code c same h. same ∙ h;
-  changed = λ texts other old new numbers c is h. is ∙ ap (numbered_list numbers) h;
+  changed = λ texts other old new numbers c is whole h. is ∙ ap (numbered_list numbers) h;
 }
 
 pub by_commands : IsReading ShowsCommands numbered_commands
 by_commands = record {
-  kept = λ texts other code c same h. same ∙ h;
-  changed = λ texts other old new numbers c is h. is ∙ (ap (numbered_list numbers) h ∙ sym (placed_from-numbered numbers 0 c));
+  kept = λ texts other code c same h. record { is = same ∙ h.is; whole = h.whole };
+  changed = λ texts other old new numbers c is whole h. record { is = is ∙ (ap (numbered_list numbers) h.is ∙ sym (placed_from-numbered numbers 0 c)); whole = whole h.whole };
 }
 
 -- ---- numbers of functions
@@ -88,7 +89,7 @@ module _ {Code : Type 0} (shows : List (List ℕ) → List ℕ → Code → Type
         name = ap (option_map (text_at other)) by.name ∙ (name_same texts other (atom_by atoms) m old.name s.name_within ∙ s.name);
         params = by.params ∙ s.params;
         scopes = subst (λ (ss : List ScopeView). ScopesStandFor other ss f.scopes) (sym by.scopes) (scopes_move texts other (atom_by atoms) m old.scopes f.scopes s.scopes);
-        code = reading.changed texts other old.code new.code numbers f.code (listed-by texts other atoms numbers (equal_texts texts other atoms are few) old.code new.code by.code) s.code;
+        code = reading.changed texts other old.code new.code numbers f.code (listed-by texts other atoms numbers (equal_texts texts other atoms are few) old.code new.code by.code.are) by.code.whole s.code;
         notes = by.notes ∙ s.notes;
         inner = by.inner ∙ s.inner;
       }

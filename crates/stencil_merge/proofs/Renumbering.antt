@@ -1,5 +1,5 @@
 -- A loop over instructions, some of which get another operand.
-use Rattle.std.proofs.Common.{◌≡◌, ℕ, ◌+◌, ◌<◌, ◌≤◌, List, [], ◌∷◌, ◌++◌, length, take, drop, map, Option, Some, None, option_map, refl, sym, ◌∙◌, ap, ap₂, subst, append_assoc, arith, length-drop, length-take-le, take-append-drop, take-add, drop-drop, drop_at, IsTrue, IsSomeAnd, Bool, true, false}
+use Rattle.std.proofs.Common.{◌≡◌, ℕ, ◌+◌, ◌<◌, ◌≤◌, List, [], ◌∷◌, ◌++◌, length, take, drop, map, Option, Some, None, option_map, refl, sym, ◌∙◌, ap, ap₂, subst, append_assoc, arith, length-drop, length-take-le, take-append-drop, take-add, drop-drop, take_at, drop_at, IsTrue, IsSomeAnd, Bool, true, false}
 use Rattle.std.specs.Prelude.{unwrap_or}
 use Rattle.bytecode_buf.specs.declared.instruction.Instr.{Instr}
 use Rattle.bytecode_buf.specs.declared.opcode.Op.{Op}
@@ -7,19 +7,25 @@ use Rattle.bytecode_buf.specs.declared.opcode.Op.TheVariants as op
 use Rattle.bytecode_buf.specs.declared.opcode.Shape.{Shape}
 use Rattle.bytecode_buf.specs.declared.opcode.Shape.TheVariants as shape
 use Rattle.bytecode_buf.specs.Bytes.{le_bytes, written}
-use Rattle.bytecode_buf.specs.Width.{shape_of, width_of, is_jump, is_jump_shape, has_number, has_number_shape}
-use Rattle.bytecode_buf.specs.Layout.{Numbered, decoded, instructions, instr_at, instr_by, renumbered, BeginsNumbered}
+use Rattle.bytecode_buf.specs.Width.{shape_of, width_of, first_of, second_of, is_jump, is_jump_shape, has_number, has_number_shape}
+use Rattle.bytecode_buf.specs.Layout.{Numbered, decoded, instructions, instr_at, instr_by, renumbered, BeginsNumbered, IsWhole, laid, layout}
 use Rattle.bytecode_buf.proofs.Decode.{numbered_widths}
+use Rattle.bytecode_buf.proofs.ReadBack.{length-laid}
 use Rattle.stencil_merge.specs.Instructions.{made_number, new_operand_of, new_operand, instruction_by, AreInstructionsBy}
-use Rattle.stencil_merge.proofs.Decoding.{instructions_some, instructions_no, decoded_local, decoded_room, take_written, drop_written}
+use Rattle.stencil_merge.proofs.Decoding.{instructions_some, instructions_no, decoded_local, decoded_room, take_written, drop_written, laid_written}
 
 -- ---- the loop
+
+-- from the offset on there are whole instructions, and those before it are whole
+abbrev pub IsWholeAround : List ℕ → List ℕ → ℕ → Type 0
+IsWholeAround before now at = IsWhole (drop at before) × ((rest : List ℕ) → IsWhole rest → IsWhole (take at now ++ rest))
 
 -- where the instructions from the offset on become these with their new operands, all do
 abbrev pub Renumbering : List ℕ → List ℕ → List ℕ → List ℕ → ℕ → Type 0
 Renumbering atoms numbers before now at =
     (drop at now ≡ drop at before)
     × ((rest : List ℕ) → instructions rest ≡ map (instruction_by atoms numbers) (instructions (drop at before)) → instructions (take at now ++ rest) ≡ map (instruction_by atoms numbers) (instructions before))
+    × (IsWhole before → IsWholeAround before now at)
 
 -- this instruction stands at the offset, and then its like with its new operand
 record Turn (atoms numbers now new : List ℕ) (at next : ℕ) : Type 0 where
@@ -28,10 +34,11 @@ record Turn (atoms numbers now new : List ℕ) (at next : ℕ) : Type 0 where
   pub next_is : at + width_of i.op ≡ next
   pub front : take at new ≡ take at now
   pub is : decoded (drop at new) ≡ Some (instruction_by atoms numbers i)
+  pub laid_out : laid i ≡ take (width_of i.op) (drop at now) → laid (instruction_by atoms numbers i) ≡ take (width_of i.op) (drop at new)
   pub back : drop next new ≡ drop next now
 
 turned : (atoms numbers before now new : List ℕ) (at next : ℕ) → Turn atoms numbers now new at next → Renumbering atoms numbers before now at → Renumbering atoms numbers before new next
-turned atoms numbers before now new at next t r = (t.back ∙ same_back, λ rest is. ap instructions (cut rest) ∙ r.1 (take w (drop at new) ++ rest) (moved rest is))
+turned atoms numbers before now new at next t r = (t.back ∙ same_back, λ rest is. ap instructions (cut rest) ∙ r.1 (take w (drop at new) ++ rest) (moved rest is), λ whole. whole_around (r.2 whole))
   where
     w : ℕ
     w = width_of t.i.op
@@ -54,6 +61,23 @@ turned atoms numbers before now new at next t r = (t.back ∙ same_back, λ rest
 
     moved : (rest : List ℕ) → instructions rest ≡ map (instruction_by atoms numbers) (instructions (drop next before)) → instructions (take w (drop at new) ++ rest) ≡ map (instruction_by atoms numbers) (instructions (drop at before))
     moved rest is = here rest ∙ (ap (λ (l : List Numbered). instruction_by atoms numbers t.i ∷ l) is ∙ sym (ap (map (instruction_by atoms numbers)) old))
+
+    apart : IsWhole (drop at before) → laid t.i ++ layout (instructions (drop next before)) ≡ drop at before
+    apart whole = sym (ap layout old) ∙ whole
+
+    first_laid : IsWhole (drop at before) → laid t.i ≡ take w (drop at now)
+    first_laid whole = sym (take_at (laid t.i) (layout (instructions (drop next before))) w (length-laid t.i)) ∙ (ap (take w) (apart whole) ∙ ap (take w) (sym r.0))
+
+    rest_whole : IsWhole (drop at before) → IsWhole (drop next before)
+    rest_whole whole =
+        sym (drop_at (laid t.i) (layout (instructions (drop next before))) w (length-laid t.i))
+        ∙ (ap (drop w) (apart whole) ∙ (drop-drop w at before ∙ ap (λ (n : ℕ). drop n before) t.next_is))
+
+    one_whole : IsWhole (drop at before) → (rest : List ℕ) → IsWhole rest → IsWhole (take w (drop at new) ++ rest)
+    one_whole whole rest is = ap layout (here rest) ∙ ap₂ (λ (x : List ℕ) (y : List ℕ). x ++ y) (t.laid_out (first_laid whole)) is
+
+    whole_around : IsWholeAround before now at → IsWholeAround before new next
+    whole_around a = (rest_whole a.0, λ rest is. subst IsWhole (sym (cut rest)) (a.1 (take w (drop at new) ++ rest) (one_whole a.0 rest is)))
 
 -- ---- what is read at the offset
 
@@ -126,7 +150,7 @@ is_numbered atoms numbers o a n made = numbered_by atoms numbers o (shape_of o) 
 -- ---- the parts of a proof
 
 pub begins : (atoms numbers code : List ℕ) → Renumbering atoms numbers code code 0
-begins atoms numbers code = (refl, λ rest is. is)
+begins atoms numbers code = (refl, λ rest is. is, λ whole. (whole, λ rest is. is))
 
 -- the loop's measure falls
 pub falls : (code : List ℕ) (at : ℕ) (instr : Instr) → Some instr ≡ option_map (instr_at at) (decoded (drop at code)) → (at < instr.next) × (instr.next ≤ length code)
@@ -151,12 +175,16 @@ passes atoms numbers before now at instr is none r = turned atoms numbers before
   was = read.at_place;
   next_is = next_is now at instr read;
   front = refl;
-  is = read.at_place ∙ ap (λ (n : Numbered). Some n) (sym (ap (λ (x : ℕ). let n : Numbered = record { op = read.i.op; a = x; b = read.i.b } in n) (unmade atoms numbers read.i.op instr.a read.i.a (ap (λ (o : Op). new_operand atoms numbers o instr.a) (sym (op_is now at instr read)) ∙ sym none))));
+  is = read.at_place ∙ ap (λ (n : Numbered). Some n) (sym same);
+  laid_out = λ as_laid. ap laid same ∙ as_laid;
   back = refl;
 }) r
   where
     read : Reads now at instr
     read = reads now at instr is
+
+    same : instruction_by atoms numbers read.i ≡ read.i
+    same = ap (λ (x : ℕ). let n : Numbered = record { op = read.i.op; a = x; b = read.i.b } in n) (unmade atoms numbers read.i.op instr.a read.i.a (ap (λ (o : Op). new_operand atoms numbers o instr.a) (sym (op_is now at instr read)) ∙ sym none))
 
 pub begins_numbered : (atoms numbers code : List ℕ) (at : ℕ) (instr : Instr) (n : ℕ) → Some instr ≡ option_map (instr_at at) (decoded (drop at code)) → Some n ≡ new_operand atoms numbers instr.op instr.a → BeginsNumbered (drop at code)
 begins_numbered atoms numbers code at instr n is made = subst (λ (d : Option Numbered). IsSomeAnd d (λ i. IsTrue (has_number i.op))) (sym read.at_place) (subst (λ (o : Op). IsTrue (has_number o)) (op_is code at instr read) (is_numbered atoms numbers instr.op instr.a n (sym made)))
@@ -175,7 +203,8 @@ makes atoms numbers before now new at instr n is made bytes operand r = turned a
   was = read.at_place;
   next_is = next_is now at instr read;
   front = ap (take at) bytes ∙ take_written at (le_bytes 4 n) now (omega (arith, room, length-drop at now, width));
-  is = operand ∙ (ap (option_map (renumbered n)) read.at_place ∙ ap (λ (x : ℕ). let i : Numbered = record { op = read.i.op; a = x; b = read.i.b } in Some i) (sym number_is));
+  is = operand ∙ (ap (option_map (renumbered n)) read.at_place ∙ ap (λ (i : Numbered). Some i) (sym same));
+  laid_out = λ as_laid. ap laid same ∙ (laid_written at n read.i now (omega (arith, room, length-drop at now, width)) widths.0 widths.1 as_laid ∙ ap (λ (l : List ℕ). take (width_of read.i.op) (drop at l)) (sym bytes));
   back = ap (drop instr.next) bytes ∙ drop_written at instr.next (le_bytes 4 n) now (omega (arith, next_is now at instr read, width)) (omega (arith, room, length-drop at now, width));
 }) r
   where
@@ -185,8 +214,11 @@ makes atoms numbers before now new at instr n is made bytes operand r = turned a
     numbered : has_number read.i.op ≡ true
     numbered = ap has_number (sym (op_is now at instr read)) ∙ is_numbered atoms numbers instr.op instr.a n (sym made)
 
+    widths : (first_of read.i.op ≡ 4) × (second_of read.i.op ≡ 0)
+    widths = numbered_widths (shape_of read.i.op) numbered
+
     width : width_of read.i.op ≡ 5
-    width = let w = numbered_widths (shape_of read.i.op) numbered in omega (arith, w.0, w.1)
+    width = omega (arith, widths.0, widths.1)
 
     room : width_of read.i.op ≤ length (drop at now)
     room = decoded_room (drop at now) read.i read.at_place
@@ -197,6 +229,9 @@ makes atoms numbers before now new at instr n is made bytes operand r = turned a
     number_is : unwrap_or (new_operand atoms numbers read.i.op read.i.a) read.i.a ≡ n
     number_is = ap (λ (x : Option ℕ). unwrap_or x read.i.a) made_here
 
+    same : instruction_by atoms numbers read.i ≡ renumbered n read.i
+    same = ap (λ (x : ℕ). let i : Numbered = record { op = read.i.op; a = x; b = read.i.b } in i) number_is
+
 -- nothing more is read
 pub ends : (atoms numbers before now : List ℕ) (at : ℕ) → None ≡ option_map (instr_at at) (decoded (drop at now)) → Renumbering atoms numbers before now at → AreInstructionsBy atoms numbers before now
 ends atoms numbers before now at none r =
@@ -204,3 +239,10 @@ ends atoms numbers before now at none r =
   where
     nothing : instructions (drop at now) ≡ []
     nothing = instructions_no (drop at now) (reads_none now at none)
+
+-- and so the new code is whole where the old one is
+pub ends_whole : (atoms numbers before now : List ℕ) (at : ℕ) → Renumbering atoms numbers before now at → IsWhole before → IsWhole now
+ends_whole atoms numbers before now at r whole = subst IsWhole (take-append-drop at now) (around.1 (drop at now) (subst IsWhole (sym r.0) around.0))
+  where
+    around : IsWholeAround before now at
+    around = r.2 whole

@@ -5,7 +5,7 @@ use Rattle.bytecode_buf.specs.declared.opcode.Op.TheVariants as op
 use Rattle.bytecode_buf.specs.declared.opcode.Shape.{Shape}
 use Rattle.bytecode_buf.specs.declared.opcode.Shape.TheVariants as shape
 use Rattle.bytecode_buf.specs.Command.{Operand, Number, Command, Listed, listed}
-use Rattle.bytecode_buf.specs.Layout.{Numbered, instructions}
+use Rattle.bytecode_buf.specs.Layout.{Numbered, instructions, IsWhole}
 use Rattle.bytecode_buf.specs.Width.{shape_of}
 use Rattle.stencil_merge.specs.Atoms.{atom_by}
 
@@ -30,6 +30,11 @@ instruction_by atoms numbers i = record { op = i.op; a = unwrap_or (new_operand 
 -- the instructions of the new code are those of the old one, with these atoms and these numbers of functions
 abbrev pub AreInstructionsBy : List ℕ → List ℕ → List ℕ → List ℕ → Type 0
 AreInstructionsBy atoms numbers old new = instructions new ≡ map (instruction_by atoms numbers) (instructions old)
+
+-- so they are, and the new code is whole instructions where the old one is
+pub record IsCodeBy (atoms numbers old new : List ℕ) : Type 0 where
+  pub are : AreInstructionsBy atoms numbers old new
+  pub whole : IsWhole old → IsWhole new
 
 -- ---- as what they stand for
 

@@ -1,7 +1,8 @@
 //! Code with other atoms, in which functions are named by their numbers.
 
 ghost use Rattle.std.specs.Prelude.{◌≡◌, slice_index_or, IfOk};
-ghost use Rattle.stencil_merge.specs.Instructions.{AreInstructionsBy, made_number, new_operand};
+ghost use Rattle.bytecode_buf.specs.Layout.{IsWhole};
+ghost use Rattle.stencil_merge.specs.Instructions.{AreInstructionsBy, IsCodeBy, made_number, new_operand};
 
 use crate::atoms::atom_at;
 use bytecode_buf::{Instr, Op, Shape, decode_at, renumber};
@@ -39,7 +40,8 @@ fn changed(instr: Instr, atoms: &[u32], numbers: &[u32]) -> Option<u32>
 
 // Puts these atoms, and these numbers of functions, into code. It takes no memory.
 fn renumber_code(code: &mut [u8], atoms: &[u32], numbers: &[u32])
-    ensures { AreInstructionsBy atoms.now numbers.now code.old code.new }
+    ensures are { AreInstructionsBy atoms.now numbers.now code.old code.new }
+    ensures whole { IsWhole code.old → IsWhole code.new }
 {
     let mut at = 0;
     while let Some(instr) = decode_at(code, at) {
@@ -57,7 +59,7 @@ pub(crate) fn code_by(
     numbers: &[u32],
     code: &[u8],
 ) -> Result<Vec<u8>, AllocError>
-    ensures { IfOk result (λ made. AreInstructionsBy atoms.now numbers.now code.now made.items) }
+    ensures { IfOk result (λ made. IsCodeBy atoms.now numbers.now code.now made.items) }
 {
     let mut made = Vec::from_slice(alloc, code)?;
     renumber_code(&mut made, atoms, numbers);

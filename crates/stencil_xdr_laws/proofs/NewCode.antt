@@ -7,7 +7,7 @@ use Rattle.bytecode_buf.specs.InRange.{AtomWithin}
 use Rattle.bytecode_buf.specs.Layout.{Numbered, Fits, AllFit, instructions, laid, layout}
 use Rattle.bytecode_buf.specs.Width.{shape_of, width_of, first_width}
 use Rattle.bytecode_buf.proofs.ReadBack.{layout_is_read_back, length-laid}
-use Rattle.stencil_xdr_laws.specs.Texts.{AtomsWithin, CodeStands}
+use Rattle.stencil_xdr_laws.specs.Texts.{AtomsWithin}
 use Rattle.stencil_xdr_read.proofs.Anew.{width_anew}
 use Rattle.stencil_xdr_read.proofs.CodeLoop.{AreBytes}
 use Rattle.stencil_xdr_read.proofs.Renamed.{renamed_by, renamed_instruction, renamed_code}
@@ -60,13 +60,13 @@ module _ {texts order : List (List ℕ)} {N : ℕ → ℕ} (new : NamesSame text
   read_back code are = layout_is_read_back (map (renamed_instruction N) (instructions code)) (all_fit (instructions code) (instructions_held code are).fit)
 
   pub code_shows_same : (code : List ℕ) (commands : List Command) → AreBytes code → ShowsCommands texts code commands → ShowsCommands order (renamed_code N code) commands
-  code_shows_same code commands are shows = ap (listed_from order 0) (read_back code are) ∙ (listed_same 0 (instructions code) ∙ shows)
-
-  pub code_stands : (code : List ℕ) → AreBytes code → CodeStands (length order) (renamed_code N code)
-  code_stands code are = record {
+  code_shows_same code commands are shows = record {
+    is = ap (listed_from order 0) (read_back code are) ∙ (listed_same 0 (instructions code) ∙ shows.is);
     whole = ap layout (read_back code are);
-    atoms = subst (AtomsWithin (length order)) (sym (read_back code are)) (atoms_within (instructions code));
   }
+
+  pub code_stands : (code : List ℕ) → AreBytes code → AtomsWithin (length order) (instructions (renamed_code N code))
+  code_stands code are = subst (AtomsWithin (length order)) (sym (read_back code are)) (atoms_within (instructions code))
 
   pub code_no_longer : (code : List ℕ) → AreBytes code → length (renamed_code N code) ≤ length code
   code_no_longer code are = omega (arith, same_room (instructions code), (instructions_held code are).room)

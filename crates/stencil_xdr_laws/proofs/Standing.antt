@@ -21,7 +21,7 @@ use Rattle.bytecode_buf.specs.Layout.{Numbered, instructions, laid, layout}
 use Rattle.bytecode_buf.specs.Width.{shape_of, width_of}
 use Rattle.bytecode_buf.proofs.ReadBack.{length-laid}
 use Rattle.stencil_xdr_laws.specs.Sizes.{ScopesSmall, Makes, AllMake, Lands, AllLand, code_size, IsNumber, PartSmall, RecordsSmall, extent_or, extent_of, PartAgrees, EntriesAgree, MergedSmall}
-use Rattle.stencil_xdr_laws.specs.Texts.{TextsStand, AtomsWithin, CodeStands, EntriesStand, CodesStand}
+use Rattle.stencil_xdr_laws.specs.Texts.{TextsStand, AtomsWithin, EntriesStand, CodesStand}
 
 -- ---- numbers of functions in code
 
@@ -114,7 +114,7 @@ scopes_small : (texts : List (List ℕ)) (number : ℕ) (ss : List ScopeView) �
 scopes_small texts number [] h = tt
 scopes_small texts number (s ∷ ss) h = (h.0, subst Small (length-map s.bindings (named_binding texts)) h.1, h.2, scopes_small texts (number + 1) ss h.3)
 
-part_in_range : (texts : List (List ℕ)) (functions : ℕ) (part : FunctionView) (n : NamedFunction (List Command)) → FunctionStandsFor ShowsCommands texts part n → CodeStands (length texts) part.code → PartSmall functions n → FunctionInRange (length texts) functions part
+part_in_range : (texts : List (List ℕ)) (functions : ℕ) (part : FunctionView) (n : NamedFunction (List Command)) → FunctionStandsFor ShowsCommands texts part n → AtomsWithin (length texts) (instructions part.code) → PartSmall functions n → FunctionInRange (length texts) functions part
 part_in_range texts functions part n s c h = record {
   name = s.name_within;
   params = subst Small (sym s.params) h.params;
@@ -124,14 +124,14 @@ part_in_range texts functions part n s c h = record {
   notes_small = subst Small (sym (ap length s.notes)) h.few_notes;
   inner_small = subst Small (sym (ap length s.inner)) h.few_inner;
   code = record {
-    whole = c.whole;
-    operands = operands_within (length texts) functions (length part.code) 0 (instructions part.code) c.atoms (all_within texts functions 0 (instructions part.code) n.code s.code h.made)
-        (all_jump texts (length part.code) 0 (instructions part.code) n.code s.code (subst (λ (size : ℕ). AllLand size 0 n.code) long h.jumps));
+    whole = s.code.whole;
+    operands = operands_within (length texts) functions (length part.code) 0 (instructions part.code) c (all_within texts functions 0 (instructions part.code) n.code s.code.is h.made)
+        (all_jump texts (length part.code) 0 (instructions part.code) n.code s.code.is (subst (λ (size : ℕ). AllLand size 0 n.code) long h.jumps));
   };
 }
   where
     long : code_size n.code ≡ length part.code
-    long = sym (same_size texts 0 (instructions part.code) n.code s.code) ∙ ap length c.whole
+    long = sym (same_size texts 0 (instructions part.code) n.code s.code.is) ∙ ap length s.code.whole
 
 -- ---- records
 
@@ -171,7 +171,7 @@ one_name texts (Some a) (Some b) different h k e =
 -- ---- entries
 
 entry_in_range : (texts : List (List ℕ)) (functions : ℕ) (all : List RecordView) (lazy : RecordView) (part : FunctionView) (n : NamedFunction (List Command)) → AreWithoutEquals texts → NameWithin (length texts) lazy.name → FunctionStandsFor ShowsCommands texts part n
-    → CodeStands (length texts) part.code → PartAgrees functions (map (named_record texts) all) (named_record texts lazy) n → range.EntryAgrees (length texts) functions all lazy part
+    → AtomsWithin (length texts) (instructions part.code) → PartAgrees functions (map (named_record texts) all) (named_record texts lazy) n → range.EntryAgrees (length texts) functions all lazy part
 entry_in_range texts functions all lazy part n different within s c h = record {
   range = part_in_range texts functions part n s c h.small;
   extent = s.extent ∙ h.extent;

@@ -27,4 +27,4 @@ first_fits texts at (i ∷ is) op n rest fit e =
 -- where the code of a script begins with such an operand
 pub wide_has_no_image : (n : NamedMerged (List Command)) (bytes : List ℕ) (op : Op) (number : ℕ) (rest : List Command) → n.top.code ≡ counted op number ∷ rest → 256 ^ first_of op ≤ number → IsImage n bytes → ⊥
 wide_has_no_image n bytes op number rest begins wide h =
-    let low : number < 256 ^ first_of op = first_fits h.stencil.texts 0 (instructions h.stencil.top.code) op number rest (whole_fit h.stencil.top.code h.is.range.top.range.code.whole) (h.stands.top.code ∙ ap (placed_from 0) begins) in omega arith
+    let low : number < 256 ^ first_of op = first_fits h.stencil.texts 0 (instructions h.stencil.top.code) op number rest (whole_fit h.stencil.top.code h.is.range.top.range.code.whole) (h.stands.top.code.is ∙ ap (placed_from 0) begins) in omega arith

@@ -1,6 +1,6 @@
 use Rattle.std.proofs.Common.{◌<◌, ◌≤◌, ◌≡◌, ℕ, Option, Some, length, arith}
 use Rattle.stencil_merge.specs.Instructions.{new_operand}
-use Rattle.stencil_merge.proofs.Renumbering.{begins, begins_numbered, falls, passes, makes, ends}
+use Rattle.stencil_merge.proofs.Renumbering.{begins, begins_numbered, falls, passes, makes, ends, ends_whole}
 use Rattle.stencil_merge.proofs.code.renumber_code.Goals as goal
 
 pub loop-instr-init : goal.loop-instr-init
@@ -35,5 +35,8 @@ loop-instr-smaller-in-Some-changed c =
 pub loop-instr-preserved : goal.loop-instr-preserved
 loop-instr-preserved c = passes c.args.atoms.now c.args.numbers.now c.args.code.now c.loop-instr.code c.loop-instr.at c.in-Some.instr c.in-Some.ensures.value c.in_default-changed.ensures c.loop-instr.invariant
 
-pub returns : goal.returns
-returns c = ends c.args.atoms.now c.args.numbers.now c.args.code.now c.loop-instr.code c.loop-instr.at c.in_default.ensures.value c.loop-instr.invariant
+pub returns-clause-are : goal.returns-clause-are
+returns-clause-are c = ends c.args.atoms.now c.args.numbers.now c.args.code.now c.loop-instr.code c.loop-instr.at c.in_default.ensures.value c.loop-instr.invariant
+
+pub returns-clause-whole : goal.returns-clause-whole
+returns-clause-whole c = ends_whole c.args.atoms.now c.args.numbers.now c.args.code.now c.loop-instr.code c.loop-instr.at c.loop-instr.invariant

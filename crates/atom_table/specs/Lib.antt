@@ -1,4 +1,5 @@
 pub mod DeskView
+pub mod ListView
 pub mod Rule
 pub mod Views
 pub mod Words

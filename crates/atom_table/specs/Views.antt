@@ -7,7 +7,7 @@ use Rattle.atom_table.specs.Words.{Has}
 -- the desk has seen that this atom stands for this text: at the atom's place stands one more than a
 -- number of the text
 abbrev pub SeesText : DeskView → Atom → List ℕ → Type 0
-SeesText desk atom text = (number : ℕ) × Has desk.seen (atom.place, number + 1) × (slice_get desk.table.texts number ≡ Some text)
+SeesText desk atom text = (number : ℕ) × Has desk.seen (atom.place, number + 1) × (slice_get desk.table.list.texts number ≡ Some text)
 
 -- the desk has seen this atom
 abbrev pub SeesAtom : DeskView → Atom → Type 0

@@ -30,7 +30,7 @@ impl Model for AtomTable {
 
     ghost use Rattle.atom_table.specs.Words.{places};
 
-    ghost view = { λ t. record { id = t.table.shared.table_id; texts = t.list } };
+    ghost view = { λ t. record { id = t.table.shared.table_id; list = t.list } };
 
     ghost invariant = { λ t. (t.table.shared.key ≡ t.list) × (t.table.shared.table_id.words ≡ places t.list) × (t.table.shared.table_id.slots ≡ 0) };
 }
@@ -49,15 +49,15 @@ impl Model for Desk {
 
     ghost use Rattle.atom_table.specs.Words.{Coherent};
 
-    ghost view = { λ d. record { table = record { id = d.seat.table_id; texts = d.seat.me.0.texts }; seen = d.seat.me.0.words } };
+    ghost view = { λ d. record { table = record { id = d.seat.table_id; list = d.seat.me.0.list }; seen = d.seat.me.0.words } };
 
-    ghost invariant = { λ d. (d.seat.me.1 ≡ []) × Coherent d.seat.me.0.texts d.seat.me.0.words };
+    ghost invariant = { λ d. (d.seat.me.1 ≡ []) × Coherent d.seat.me.0.list d.seat.me.0.words };
 }
 
 impl AtomTable {
     /// A table over this list, and a desk that has seen no atom.
     pub fn new(alloc: Global, list: TextList) -> Result<(AtomTable, Desk), AllocError>
-        ensures table { IfOk result (λ made. made.0.texts ≡ list) }
+        ensures table { IfOk result (λ made. made.0.list ≡ list) }
         ensures desk { IfOk result (λ made. (made.1.table ≡ made.0) × (made.1.seen ≡ [])) }
     {
         let words = no_words(alloc, &list)?;
@@ -71,7 +71,7 @@ impl AtomTable {
 
     /// The texts that the table is over.
     pub fn list(&self) -> &TextList
-        ensures { result.now ≡ self.now.texts }
+        ensures { result.now ≡ self.now.list }
     {
         &self.list
     }
@@ -90,9 +90,9 @@ impl AtomTable {
     /// this desk and for every desk that it meets.
     pub fn intern(&self, desk: &mut Desk, number: u32) -> Atom
         requires belongs { desk.old.table ≡ self.now }
-        requires number { number < length self.now.texts }
+        requires number { number < length self.now.list.texts }
         ensures table { desk.new.table ≡ desk.old.table }
-        ensures seen { SeesText desk.new result (slice_index_or self.now.texts number []) }
+        ensures seen { SeesText desk.new result (slice_index_or self.now.list.texts number []) }
         ensures still { StillSees desk.old desk.new }
         ensures one { OneAtomEach desk.new }
     {
@@ -113,8 +113,8 @@ impl AtomTable {
         requires belongs { desk.old.table ≡ self.now }
         requires seen { SeesAtom desk.old atom }
         ensures table { desk.new.table ≡ desk.old.table }
-        ensures number { result < length self.now.texts }
-        ensures text { SeesText desk.old atom (slice_index_or self.now.texts result []) }
+        ensures number { result < length self.now.list.texts }
+        ensures text { SeesText desk.old atom (slice_index_or self.now.list.texts result []) }
         ensures still { StillSees desk.old desk.new }
         ensures one { OneAtomEach desk.new }
     {
@@ -141,10 +141,10 @@ impl AtomTable {
     // The word at this place, which the desk has then seen, if it is not 0.
     fn look(&self, desk: &mut Desk, place: u32) -> u64
         requires belongs { desk.old.table ≡ self.now }
-        requires place { place < places self.now.texts }
+        requires place { place < places self.now.list }
         ensures table { desk.new.table ≡ desk.old.table }
         ensures seen { desk.new.seen ≡ gained place result desk.old.seen }
-        ensures coherent { Coherent desk.new.table.texts desk.new.seen }
+        ensures coherent { Coherent desk.new.table.list desk.new.seen }
         ensures known { (word : ℕ) → Has desk.old.seen (place, word) → result ≡ word }
     {
         self.table
@@ -155,13 +155,13 @@ impl AtomTable {
     // The word that stands at this place after one exchange of 0 for this number's word.
     fn claim(&self, desk: &mut Desk, place: u32, number: u32) -> u64
         requires belongs { desk.old.table ≡ self.now }
-        requires number { number < length self.now.texts }
-        requires place { place < places self.now.texts }
-        requires home { home_of self.now.texts (slice_index_or self.now.texts number []) ≤ place }
-        requires passed { Passed desk.old.seen self.now.texts (slice_index_or self.now.texts number []) place }
+        requires number { number < length self.now.list.texts }
+        requires place { place < places self.now.list }
+        requires home { home_of self.now.list (slice_index_or self.now.list.texts number []) ≤ place }
+        requires passed { Passed desk.old.seen self.now.list (slice_index_or self.now.list.texts number []) place }
         ensures table { desk.new.table ≡ desk.old.table }
         ensures seen { desk.new.seen ≡ (place, result) ∷ desk.old.seen }
-        ensures coherent { Coherent desk.new.table.texts desk.new.seen }
+        ensures coherent { Coherent desk.new.table.list desk.new.seen }
     {
         let word = number as u64 + 1;
         let found = self
@@ -174,13 +174,13 @@ impl AtomTable {
     // The word at this place, which is this number's if there was none.
     fn settle(&self, desk: &mut Desk, place: u32, number: u32) -> u64
         requires belongs { desk.old.table ≡ self.now }
-        requires number { number < length self.now.texts }
-        requires place { place < places self.now.texts }
-        requires home { home_of self.now.texts (slice_index_or self.now.texts number []) ≤ place }
-        requires passed { Passed desk.old.seen self.now.texts (slice_index_or self.now.texts number []) place }
+        requires number { number < length self.now.list.texts }
+        requires place { place < places self.now.list }
+        requires home { home_of self.now.list (slice_index_or self.now.list.texts number []) ≤ place }
+        requires passed { Passed desk.old.seen self.now.list (slice_index_or self.now.list.texts number []) place }
         ensures table { desk.new.table ≡ desk.old.table }
         ensures seen { desk.new.seen ≡ (place, result) ∷ desk.old.seen }
-        ensures coherent { Coherent desk.new.table.texts desk.new.seen }
+        ensures coherent { Coherent desk.new.table.list desk.new.seen }
     {
         let found = self.look(desk, place);
         if found != 0 {
@@ -191,9 +191,16 @@ impl AtomTable {
 }
 
 impl Desk {
+    /// Of the atoms that the desk has seen, two are equal exactly where their texts are. It does nothing.
+    pub fn one_atom_each(&self)
+        ensures { OneAtomEach self.now }
+    {
+        self.coherent();
+    }
+
     // What the desk has seen is coherent.
     fn coherent(&self)
-        ensures { Coherent self.now.table.texts self.now.seen }
+        ensures { Coherent self.now.table.list self.now.seen }
     {
         let _seat = &self.seat;
     }

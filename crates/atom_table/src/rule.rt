@@ -5,7 +5,7 @@ use std::collections::LinkedList;
 
 /// The texts of the table, and the words that were seen, each with its place. No value of it is made.
 pub struct Seen {
-    pub texts: TextList,
+    pub list: TextList,
     pub words: LinkedList<(u64, u64)>,
 }
 
@@ -17,7 +17,7 @@ impl TableRule<(), Seen, TextList> for OneWordEach {
 
     ghost holds = { holds };
 
-    ghost first = { λ texts. seen texts [] };
+    ghost first = { λ list. seen list [] };
 }
 
 pub(crate) struct Look;
@@ -49,10 +49,9 @@ impl Split<Seen> for Alike {
 pub(crate) struct Together;
 
 impl Join<Seen> for Together {
-    ghost use Rattle.std.specs.Prelude.{[]};
-    ghost use Rattle.atom_table.specs.Rule.{seen, together};
+    ghost use Rattle.atom_table.specs.Rule.{spent, together};
 
     ghost both = { together };
 
-    ghost spent = { seen [] [] };
+    ghost spent = { spent };
 }

@@ -2,7 +2,7 @@
 //! and by four, and prints how many atoms and probes that took. With the word `rates` it also prints how
 //! many names a second were interned.
 //!
-//! Words: how many different names (100,000 if none is given), then `rates`. Without `rates` the output
+//! The names are hashed by SipHash-1-3 with keys that are 0. Words: how many different names (100,000 if none is given), then `rates`. Without `rates` the output
 //! depends on the words alone, since the probes of all texts together are the same in every order.
 #![tactic(auto)]
 
@@ -17,10 +17,12 @@ use anyhow::{Context, Result, ensure};
 use atom_table::{AtomTable, TextList};
 use names::{Spelling, doubled_names};
 use std::alloc::Global;
-use std::env;
+use std::hash::RandomState;
+use std::random::RandomSource;
 use std::rt::{Clock, Env};
 use std::thread::Threads;
 use std::time::Instant;
+use std::{env, io};
 use workers::{counted, interned};
 
 /// So that the list of names, each twice, stays below 2^28.
@@ -31,6 +33,16 @@ struct Options {
     names: u32,
     rates: bool,
     ghost few: { names ≤ 100000000 },
+}
+
+/// Random bytes that are all 0, so that the probes are the same in every run.
+struct Zeros;
+
+impl RandomSource for Zeros {
+    fn fill_bytes(&self, buf: &mut [u8]) -> io::Result<()> {
+        buf.fill(0);
+        Ok(())
+    }
 }
 
 fn read_options<R: Env + AllocGlobal>(rt: &R) -> Result<Options> {
@@ -56,7 +68,7 @@ fn measure<R: Threads + Sync + Clock + Print>(
     spelling: Spelling,
     halvings: u32,
 ) -> Result<()> {
-    let list = doubled_names(alloc, spelling, options.names)?;
+    let list = doubled_names(alloc, RandomState::new(&Zeros)?, spelling, options.names)?;
     let count = list.count();
     let (table, desk) = AtomTable::new(alloc, list)?;
     let start = Instant::now(rt)?;

@@ -3,6 +3,7 @@ ghost use Rattle.std.specs.Prelude.{◌≡◌, ◌*◌, ◌≤◌, length, IfOk}
 
 use atom_table::TextList;
 use std::alloc::{AllocError, Global};
+use std::hash::RandomState;
 use stencil_data::Text;
 
 /// How the names are written.
@@ -17,16 +18,21 @@ pub enum Spelling {
 /// The digits of a padded name.
 const WIDTH: usize = 8;
 
-/// n names in this spelling, and then the same once more.
-pub fn doubled_names(alloc: Global, spelling: Spelling, count: u32) -> Result<TextList, AllocError>
+/// n names in this spelling, and then the same once more, hashed by these keys.
+pub fn doubled_names(
+    alloc: Global,
+    keys: RandomState,
+    spelling: Spelling,
+    count: u32,
+) -> Result<TextList, AllocError>
     requires { count ≤ 100000000 }
-    ensures { IfOk result (λ list. length list ≡ 2 * count) }
+    ensures { IfOk result (λ list. length list.texts ≡ 2 * count) }
 {
     let mut texts = Vec::new(alloc);
     for index in 0..2 * count {
         texts.push(name(alloc, spelling, index % count)?)?;
     }
-    Ok(TextList::new(texts))
+    Ok(TextList::new(keys, texts))
 }
 
 // The letter `a` and the number in decimal digits.

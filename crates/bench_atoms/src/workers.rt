@@ -20,7 +20,7 @@ pub fn interned<R: Threads + Sync>(
 ) -> Result<(Desk, Vec<Atom>), AllocError>
     requires belongs { desk.table ≡ table.now }
     requires order { from ≤ to }
-    requires range { to ≤ length table.now.texts }
+    requires range { to ≤ length table.now.list.texts }
     ensures { IfOk result (λ r. r.0.table ≡ table.now) }
 {
     if halvings == 0 {
@@ -32,11 +32,11 @@ pub fn interned<R: Threads + Sync>(
     let (front, back) = join(
         rt,
         move ||
-            requires { IsSync R.row × (desk.table ≡ table.now) × (from ≤ middle) × (middle ≤ length table.now.texts) }
+            requires { IsSync R.row × (desk.table ≡ table.now) × (from ≤ middle) × (middle ≤ length table.now.list.texts) }
             ensures { IfOk result (λ r. r.0.table ≡ table.entry.now) }
         { interned(rt, alloc, table, desk, from, middle, fewer) },
         move ||
-            requires { IsSync R.row × (other.table ≡ table.now) × (middle ≤ to) × (to ≤ length table.now.texts) }
+            requires { IsSync R.row × (other.table ≡ table.now) × (middle ≤ to) × (to ≤ length table.now.list.texts) }
             ensures { IfOk result (λ r. r.0.table ≡ table.entry.now) }
         { interned(rt, alloc, table, other, middle, to, fewer) },
     );
@@ -55,7 +55,7 @@ fn at_desk(
     to: u32,
 ) -> Result<(Desk, Vec<Atom>), AllocError>
     requires belongs { desk.table ≡ table.now }
-    requires range { to ≤ length table.now.texts }
+    requires range { to ≤ length table.now.list.texts }
     ensures { IfOk result (λ r. r.0.table ≡ table.now) }
 {
     let mut atoms = Vec::new(alloc);

@@ -1,6 +1,7 @@
 use Rattle.std.proofs.Common.{ℕ, ◌<◌, List, sym, ◌∙◌, ap, subst, arith}
 use Rattle.atomic_table.specs.Table.{Me}
 use Rattle.atom_table.specs.declared.rule.Seen.{Seen}
+use Rattle.atom_table.specs.ListView.{ListView}
 use Rattle.atom_table.specs.DeskView.{TableName, DeskView}
 use Rattle.atom_table.specs.Words.{Has, Coherent}
 use Rattle.atom_table.proofs.Steps.{joins, look_allows, has_left, has_right}
@@ -21,10 +22,10 @@ join_seat-requires c =
 pub load-first-requires : goal.load-first-requires
 load-first-requires c =
     let one = ap (λ (d : DeskView). d.table) c.one.view_is ∙ c.requires.one ∙ sym c.self.view_is in
-    let texts = ap (λ (me : Me (Unit {0}) Seen). me.0.texts) c.join_seat.ensures.2 ∙ ap (λ (t : TableName). t.texts) one ∙ sym c.self.invariant.0 in (
+    let list = ap (λ (me : Me (Unit {0}) Seen). me.0.list) c.join_seat.ensures.2 ∙ ap (λ (t : TableName). t.list) one ∙ sym c.self.invariant.0 in (
       c.join_seat.ensures.0 ∙ ap (λ (t : TableName). t.id) one,
       subst (λ n. 0 < n) (sym c.self.invariant.1) (omega arith),
-      look_allows c.self.inside.table.shared.key c.self.inside.table.shared.table_id.slots c.join_seat.new.seat.id c.join_seat.new.seat.me 0 texts,
+      look_allows c.self.inside.table.shared.key c.self.inside.table.shared.table_id.slots c.join_seat.new.seat.id c.join_seat.new.seat.me 0 list,
     )
 
 pub returns-clause-still_one : goal.returns-clause-still_one
@@ -41,5 +42,5 @@ returns-clause-still_two c x h =
 
 pub returns-clause-one : goal.returns-clause-one
 returns-clause-one c =
-    let desk : DeskView = record { table = record { id = c.load-first.new.seat.table_id; texts = c.load-first.new.seat.me.0.texts }; seen = c.load-first.new.seat.me.0.words } in
-    one_atom desk (subst (λ (t : List (List ℕ)). Coherent t c.load-first.new.seat.me.0.words) (sym c.load-first.ensures.2.1) c.load-first.ensures.2.3)
+    let desk : DeskView = record { table = record { id = c.load-first.new.seat.table_id; list = c.load-first.new.seat.me.0.list }; seen = c.load-first.new.seat.me.0.words } in
+    one_atom desk (subst (λ (t : ListView). Coherent t c.load-first.new.seat.me.0.words) (sym c.load-first.ensures.2.1) c.load-first.ensures.2.3)

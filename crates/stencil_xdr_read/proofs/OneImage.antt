@@ -18,6 +18,7 @@ use Rattle.bytecode_buf.specs.Layout.{Numbered, instructions, IsWhole}
 use Rattle.bytecode_buf.specs.Width.{shape_of, width_of}
 use Rattle.stencil_xdr_specs.specs.Image.{items, named, IsImageOf}
 use Rattle.stencil_xdr_read.specs.Reading.{Each}
+use Rattle.stencil_xdr_read.specs.ReadBack.{ShowsList, StandAlike}
 use Rattle.stencil_xdr_read.specs.Atoms.{name_atoms, binding_atoms, scope_atoms, operand_atoms, instruction_atoms, code_atoms, function_atoms, closed_atoms, record_atoms, entry_atoms, stencil_atoms}
 use Rattle.stencil_xdr_read.specs.UniqueWhole.{unique_stencils}
 use Rattle.stencil_xdr_read.proofs.Firsts.{has, place_found, each_first, seen_below}
@@ -25,10 +26,6 @@ use Rattle.stencil_xdr_read.proofs.Renamed.{AreSmall, renamed_binding, renamed_s
 use Rattle.stencil_xdr_read.proofs.Ranges.{each_front, each_back, in_range}
 use Rattle.stencil_xdr_read.proofs.Anew.{width_anew}
 use Rattle.stencil_xdr_read.proofs.Complete.{order_of, anew, canonical_of, anew_small, named_texts, canonical_fits, canonical_bytes, is_canonical}
-
--- bytes stand for these instructions
-abbrev pub ShowsList : List (List ℕ) → List ℕ → List Listed → Type 0
-ShowsList texts code ls = listed texts code ≡ ls
 
 -- the new numbers name the same texts
 abbrev Alike : List (List ℕ) → List (List ℕ) → (ℕ → ℕ) → ℕ → Type 0
@@ -205,3 +202,6 @@ one_canonical m other bytes i j = (unique_stencils (canonical_of m) (canonical_o
 -- two stencils with one image stand for the same values
 pub one_image_one_value : (m other : MergedView) (bytes : List ℕ) (n : NamedMerged (List Listed)) → IsImageOf m bytes → IsImageOf other bytes → MergedStandsFor ShowsList m n → MergedStandsFor ShowsList other n
 one_image_one_value m other bytes n i j s = stands_back other bytes n j (subst (λ (c : MergedView). MergedStandsFor ShowsList c n) (one_canonical m other bytes i j) (stands_to m bytes n i s))
+
+pub one_image_alike : (m other : MergedView) (bytes : List ℕ) → IsImageOf m bytes → IsImageOf other bytes → StandAlike m other
+one_image_alike m other bytes i j value = (one_image_one_value m other bytes value i j, one_image_one_value other m bytes value j i)

@@ -46,18 +46,19 @@ by_parts m rest is =
         ∙ (ap (λ (l : List ℕ). a ++ l) (sym (append_assoc b c (d ++ (e ++ f))) ∙ (ap (λ (l : List ℕ). (b ++ c) ++ l) (sym (append_assoc d e f)) ∙ sym (append_assoc (b ++ c) (d ++ e) f)))
         ∙ sym (append_assoc a ((b ++ c) ++ (d ++ e)) f)))
 
+pub texts_in_order : (m : MergedView) → IsCanonical m → firsts (named m.texts (items m)) ≡ m.texts
+texts_in_order m canonical =
+    ap firsts (named_atoms m.texts (items m) ∙ ap (map (text_at m.texts)) (atoms_items m)) ∙ numbered_firsts m.texts (stencil_atoms m) canonical.2 canonical.1
+
 pub is_image : (m : MergedView) (bytes : List ℕ) → bytes ≡ stencil_bytes m → FitStencil m → IsCanonical m → IsImageOf m bytes
 is_image m bytes is fit canonical = record {
   range = in_range m fit canonical.0 below;
   widths = numbers_fit m fit;
-  is = is ∙ (sym (by_parts m (flat_map (item_bytes m.texts m.texts) (items m)) rest) ∙ ap (λ (l : List (List ℕ)). bytes_by l m) (sym first));
+  is = is ∙ (sym (by_parts m (flat_map (item_bytes m.texts m.texts) (items m)) rest) ∙ ap (λ (l : List (List ℕ)). bytes_by l m) (sym (texts_in_order m canonical)));
 }
   where
     below : Each (λ a. a < length m.texts) (stencil_atoms m)
     below = seen_below 0 (length m.texts) (stencil_atoms m) canonical.1
-
-    first : firsts (named m.texts (items m)) ≡ m.texts
-    first = ap firsts (named_atoms m.texts (items m) ∙ ap (map (text_at m.texts)) (atoms_items m)) ∙ numbered_firsts m.texts (stencil_atoms m) canonical.2 canonical.1
 
     rest : flat_map (item_bytes m.texts m.texts) (items m) ≡ rest_bytes m
     rest = items_plain m.texts (items m) canonical.2 (subst (Each (λ a. a < length m.texts)) (sym (atoms_items m)) below)

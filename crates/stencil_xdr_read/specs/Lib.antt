@@ -1,6 +1,7 @@
 pub mod Atoms
 pub mod Canonical
 pub mod Parts
+pub mod ReadBack
 pub mod Reading
 pub mod Unique
 pub mod UniqueParts

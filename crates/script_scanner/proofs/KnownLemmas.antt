@@ -16,6 +16,7 @@ use Rattle.script_scanner.specs.declared.scanning.Scanner.{Scanner}
 use Rattle.script_scanner.specs.Advances.{Moves}
 use Rattle.script_scanner.specs.Blanks.{blank_at}
 use Rattle.script_scanner.specs.Braces.{in_substitution}
+use Rattle.script_scanner.specs.Fronts.{BeginsName}
 use Rattle.script_scanner.specs.Known.{IsKnownName, TakesName}
 use Rattle.script_scanner.specs.Names.{is_name_start, is_name_part, name_length}
 use Rattle.script_scanner.specs.Stands.{is_last}
@@ -49,16 +50,17 @@ units_all points units at all same before =
     before (ap (λ ps. text_units (map code_of ps)) (drop_of_length-le points (omega (arith, all, same))) ∙ sym (drop_of_length-le units all))
 
 -- a name that was compared with the text at an atom
-pub known_is : (texts : List (List ℕ)) (points others name : List Point) (first : Point) (units : List ℕ) (atom n : ℕ) (k : Kind) → points ≡ first ∷ others → is_name_start first.code ≡ true
+pub known_is : (texts : List (List ℕ)) (points name : List Point) (units : List ℕ) (atom n : ℕ) (k : Kind) → BeginsName (map code_of points)
     → n ≡ 1 + prefix_len (λ (p : Point). is_name_part p.code) (drop 1 points) → name ≡ take n points → text_units (map code_of name) ≡ units → slice_get texts atom ≡ Some units
     → k ≡ name_kind (option_map word_index (word_at units)) → IsKnownName texts (map code_of points) (record { kind = k; atom = atom; length = n })
-known_is texts points others name first units atom n k split starts reach front same at is =
-    let some : 0 < length points = (let e : length points ≡ suc (length others) = ap length split in omega (arith, e)) in
-    let long : n ≡ name_length (map code_of points) = reach ∙ sym (name_reaches points some) in
+known_is texts [] name units atom n k begins reach front same at is = absurd begins
+known_is texts (first ∷ others) name units atom n k begins reach front same at is =
+    let points = first ∷ others in
+    let long : n ≡ name_length (map code_of points) = reach ∙ sym (name_reaches points (omega arith)) in
     let text : units ≡ text_units (take (name_length (map code_of points)) (map code_of points)) =
     sym same ∙ ap (λ ps. text_units (map code_of ps)) front ∙ ap text_units (map_take code_of n points) ∙ ap (λ i. text_units (take i (map code_of points))) long in
     record {
-      token = λ in_template. subst (λ (ps : List Point). token_at in_template (map code_of ps) ≡ Some (name_piece (map code_of ps))) (sym split) (token_is_name in_template first.code (map code_of others) starts);
+      token = λ in_template. token_is_name in_template first.code (map code_of others) begins;
       kind = is ∙ ap (λ us. name_kind (option_map word_index (word_at us))) text;
       length = long;
       positive = omega (arith, reach);

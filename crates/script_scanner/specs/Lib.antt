@@ -4,6 +4,7 @@ pub mod Blanks
 pub mod Braces
 pub mod Escapes
 pub mod Fits
+pub mod Fronts
 pub mod Known
 pub mod Lexemes
 pub mod Marks

@@ -1,11 +1,12 @@
 //! Names whose texts have atoms already. In most scripts nearly each name has stood before, and then its code points
 //! are compared with the text that stands there: no text is put together for it.
-ghost use Rattle.std.specs.Prelude.{◌≡◌, ◌≤◌, true, length, map, IfSome};
+ghost use Rattle.std.specs.Prelude.{◌≡◌, ◌≤◌, ◌<◌, true, length, map, IfSome};
 ghost use Rattle.unit_text.specs.Points.{code_of};
 ghost use Rattle.unit_text.specs.Units.{text_units};
+ghost use Rattle.script_scanner.specs.Fronts.{BeginsName};
 ghost use Rattle.script_scanner.specs.Known.{IsKnownName};
 
-use crate::names::{is_name_start, spelled_name};
+use crate::names::spelled_name;
 use crate::pieces::kind_of_name;
 use crate::points::front;
 use crate::words::word_at;
@@ -40,15 +41,14 @@ fn are_units(points: &[Point], units: &[u16]) -> bool
     true
 }
 
-/// The name at the front, where one stands there, and its text stands where the texts' guess is.
+/// The name at the front, where its text stands where the texts' guess is.
+#[inline]
 pub fn known_name(rest: &[Point], atoms: &Atoms) -> Option<KnownName>
+    requires begins { BeginsName (map code_of rest.now) }
+    requires some { 0 < length rest.now }
     ensures value { IfSome result (IsKnownName atoms.now (map code_of rest.now)) }
     ensures within { IfSome result (λ known. known.length ≤ length rest.now) }
 {
-    let (first, _) = rest.split_first()?;
-    if !is_name_start(first.code) {
-        return None;
-    }
     let name = spelled_name(rest);
     let atom = atoms.guess(name.digest)?;
     let units = atoms.text(atom).units();

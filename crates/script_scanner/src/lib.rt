@@ -9,6 +9,7 @@
 mod blanks;
 mod braces;
 mod escapes;
+mod fronts;
 mod known_names;
 mod marks;
 mod names;

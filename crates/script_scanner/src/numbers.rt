@@ -22,6 +22,7 @@ pub struct Numeral {
 }
 
 /// How many code points one more digit takes, with the `_` before it; 0 where none follows.
+#[inline]
 fn digit_length(rest: &[Point], radix: u32) -> usize
     requires low { 2 ≤ radix }
     requires high { radix ≤ 36 }
@@ -49,6 +50,7 @@ fn digit_length(rest: &[Point], radix: u32) -> usize
 }
 
 /// How many code points the digits take that follow a digit.
+#[inline]
 fn more_digits(rest: &[Point], radix: u32) -> usize
     requires low { 2 ≤ radix }
     requires high { radix ≤ 36 }
@@ -67,6 +69,7 @@ fn more_digits(rest: &[Point], radix: u32) -> usize
 }
 
 /// The value so far, with one more digit.
+#[inline]
 fn with_digit(value: u64, radix: u32, code: char) -> u64
     requires low { 2 ≤ radix }
     requires high { radix ≤ 36 }
@@ -80,6 +83,7 @@ fn with_digit(value: u64, radix: u32, code: char) -> u64
 }
 
 /// The value of digits, if it is at most 2^53 - 1.
+#[inline]
 pub fn digits_value(digits: &[Point], radix: u32) -> Option<u64>
     requires low { 2 ≤ radix }
     requires high { radix ≤ 36 }

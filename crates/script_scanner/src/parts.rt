@@ -31,6 +31,7 @@ pub struct Extent {
 }
 
 /// What the code points at the front of a string's rest do.
+#[inline]
 fn string_step(quote: char, rest: &[Point]) -> Step
     ensures value { result ≡ string_step quote (map code_of rest.now) }
     ensures fits { StepFits (length rest.now) result }
@@ -86,6 +87,7 @@ fn template_step(rest: &[Point]) -> Step
 }
 
 /// The steps of a string or of a template part.
+#[inline]
 fn step_at(ending: Ending, rest: &[Point]) -> Step
     ensures value { result ≡ step_at ending (map code_of rest.now) }
     ensures fits { StepFits (length rest.now) result }

@@ -8,10 +8,13 @@ ghost use Rattle.script_scanner.specs.Tokens.{braces_after, last_token, place, t
 ghost use Rattle.script_scanner.specs.Stands.{StandFor, StandsFor, GainsOnly, HasOneLast, Keeps};
 ghost use Rattle.script_scanner.specs.Advances.{Advances, TakesValue, TakesToken, EndsWith};
 ghost use Rattle.script_scanner.specs.Blanks.{blank_at};
+ghost use Rattle.script_scanner.specs.Fronts.{BeginsName, StandsAt, found_mark};
+ghost use Rattle.script_scanner.specs.declared.fronts.Front.TheVariants.{Close};
 ghost use Rattle.script_scanner.specs.Known.{TakesName};
 
 use crate::blanks::{blank_at, first_line_length};
 use crate::braces::Brace;
+use crate::fronts::{Front, front_at};
 use crate::known_names::{KnownName, known_name};
 use crate::pieces::{Content, FoundToken, token_at};
 use crate::points::{behind, front};
@@ -42,6 +45,7 @@ fn in_substitution(braces: &[Brace]) -> bool
 }
 
 /// Opens and closes what a token opens and closes.
+#[inline]
 fn update_braces(braces: &mut Vec<Brace>, kind: Kind) -> Result<(), AllocError>
     ensures { OnOk result (braces.new.items ≡ braces_after braces.old.items kind) }
 {
@@ -183,6 +187,7 @@ impl Scanner {
     }
 
     /// Takes the name that was found with its atom; answers how many code points it takes.
+    #[inline]
     fn take_name(&mut self, known: KnownName, rest: &[Point], to: u32) -> Result<usize, AllocError>
         requires { known.length ≤ length rest.now }
         ensures taken { IfOk result (λ taken. taken ≡ known.length) }
@@ -200,6 +205,7 @@ impl Scanner {
     }
 
     /// Takes a token at the front, of whatever kind; answers how many code points that is, and 0 after the last token.
+    #[inline(never)]
     fn take_any(
         &mut self,
         alloc: Global,
@@ -229,9 +235,10 @@ impl Scanner {
         }
     }
 
-    /// The same. A name whose text has an atom is the token most often, and has a shorter way.
-    #[inline(never)]
-    fn take_front(
+    /// Takes the name or word at the front; answers how many code points that is. Its text has an atom most often, and then it has a
+    /// shorter way.
+    #[inline]
+    fn take_word(
         &mut self,
         alloc: Global,
         rest: &[Point],
@@ -240,6 +247,8 @@ impl Scanner {
     ) -> Result<usize, AllocError>
         requires few { length atoms.old < 2 ^ 32 - 1 }
         requires bare { blank_at (map code_of rest.now) ≡ None }
+        requires begins { BeginsName (map code_of rest.now) }
+        requires some { 0 < length rest.now }
         ensures value { IfOk result (Advances to rest.now self.old self.new atoms.old atoms.new) }
         ensures within { IfOk result (λ taken. taken ≤ length rest.now) }
         ensures keeps { Keeps atoms.old atoms.new }
@@ -256,9 +265,53 @@ impl Scanner {
         }
     }
 
-    /// Skips a blank or takes a token at the front; answers how many code points that is, and 0 after the last token.
+    /// Takes the mark at the front, which takes one code point: so many it answers.
     #[inline]
-    fn step(
+    fn take_mark(&mut self, index: u8, rest: &[Point], to: u32) -> Result<usize, AllocError>
+        requires { 0 < length rest.now }
+        ensures taken { IfOk result (λ taken. taken ≡ 1) }
+        ensures value { (texts : List (List ℕ)) → OnOk result (TakesToken to rest.now (found_mark index) self.old self.new texts texts) }
+    {
+        self.tokens.push(Token {
+            kind: Kind::Mark(index),
+            value: 0,
+            start: place(to, rest),
+            end: place(to, behind(rest, 1)),
+            after_line: self.after_line,
+        })?;
+        update_braces(&mut self.braces, Kind::Mark(index))?;
+        self.after_line = false;
+        Ok(1)
+    }
+
+    /// Takes what begins with the `}` at the front; answers how many code points that is.
+    #[inline]
+    fn take_close(
+        &mut self,
+        alloc: Global,
+        rest: &[Point],
+        to: u32,
+        atoms: &mut Atoms,
+    ) -> Result<usize, AllocError>
+        requires few { length atoms.old < 2 ^ 32 - 1 }
+        requires closes { StandsAt (map code_of rest.now) Close }
+        requires some { 0 < length rest.now }
+        ensures value { IfOk result (Advances to rest.now self.old self.new atoms.old atoms.new) }
+        ensures within { IfOk result (λ taken. taken ≤ length rest.now) }
+        ensures keeps { Keeps atoms.old atoms.new }
+    {
+        if in_substitution(self.braces.as_slice()) {
+            let taken = self.take_any(alloc, rest, to, atoms)?;
+            Ok(taken)
+        } else {
+            let taken = self.take_mark(mark::CLOSE_BRACE, rest, to)?;
+            Ok(taken)
+        }
+    }
+
+    /// Skips a blank or takes a token at the front, of whatever kind; answers how many code points that is, and 0 after the last token.
+    #[inline(never)]
+    fn step_any(
         &mut self,
         alloc: Global,
         rest: &[Point],
@@ -276,7 +329,46 @@ impl Scanner {
                 Ok(blank.length)
             }
             None => {
-                let taken = self.take_front(alloc, rest, to, atoms)?;
+                let taken = self.take_any(alloc, rest, to, atoms)?;
+                Ok(taken)
+            }
+        }
+    }
+
+    /// The same. The blanks and tokens that are most of any script have shorter ways.
+    #[inline]
+    fn step(
+        &mut self,
+        alloc: Global,
+        rest: &[Point],
+        to: u32,
+        atoms: &mut Atoms,
+    ) -> Result<usize, AllocError>
+        requires { length atoms.old < 2 ^ 32 - 1 }
+        ensures value { IfOk result (Advances to rest.now self.old self.new atoms.old atoms.new) }
+        ensures within { IfOk result (λ taken. taken ≤ length rest.now) }
+        ensures keeps { Keeps atoms.old atoms.new }
+    {
+        match front_at(rest) {
+            Front::Space => Ok(1),
+            Front::LineFeed => {
+                self.after_line = true;
+                Ok(1)
+            }
+            Front::Name => {
+                let taken = self.take_word(alloc, rest, to, atoms)?;
+                Ok(taken)
+            }
+            Front::Mark(index) => {
+                let taken = self.take_mark(index, rest, to)?;
+                Ok(taken)
+            }
+            Front::Close => {
+                let taken = self.take_close(alloc, rest, to, atoms)?;
+                Ok(taken)
+            }
+            Front::Other => {
+                let taken = self.step_any(alloc, rest, to, atoms)?;
                 Ok(taken)
             }
         }

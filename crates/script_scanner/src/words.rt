@@ -5,26 +5,22 @@ ghost use Rattle.script_scanner.specs.Words.{word_at, word_from, word_index};
 
 use script_grammar::token::word;
 
-/// Whether a text is this word. Most texts that are not have another length.
+/// Whether a text is this word. Most texts that are not have another length. The word is known where this is called, so each of its
+/// letters is compared without a loop.
 #[inline]
-#[tactic(auto, using(crate::proofs::WordLemmas::other_length))]
+#[tactic(auto, using(crate::proofs::WordLemmas::other_length, crate::proofs::WordLemmas::letter_more, crate::proofs::WordLemmas::letter_other, crate::proofs::WordLemmas::letters_all))]
 fn is_text(text: &[u16], word: &[u8]) -> bool
     ensures { result ≡ bytes_eq text.now word.now }
 {
-    text.len() == word.len() && has_letters(text, word)
-}
-
-/// The same, unit by unit.
-fn has_letters(text: &[u16], word: &[u8]) -> bool
-    ensures { result ≡ bytes_eq text.now word.now }
-{
-    match text.split_first() {
-        None => word.is_empty(),
-        Some((unit, units)) => match word.split_first() {
-            None => false,
-            Some((letter, letters)) => *unit == u16::from(*letter) && has_letters(units, letters),
-        },
+    if text.len() != word.len() {
+        return false;
     }
+    for at in 0..word.len() {
+        if text[at] != u16::from(word[at]) {
+            return false;
+        }
+    }
+    true
 }
 
 fn word_with_b(text: &[u16]) -> Option<u8>

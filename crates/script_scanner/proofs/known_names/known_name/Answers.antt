@@ -6,10 +6,9 @@ use Rattle.script_scanner.proofs.known_names.known_name.Goals as goal
 
 pub returns-clause-value : goal.returns-clause-value
 returns-clause-value c =
-    known_is c.args.atoms.now c.args.rest.now c.in_ok-first.field-0-1.now c.front.result.now c.in_ok-first.first.now c.units-units.result.now c.in_ok-atom.atom
+    known_is c.args.atoms.now c.args.rest.now c.front.result.now c.units-units.result.now c.in_ok-atom.atom
     c.spelled_name-name.result.length c.kind_of_name.result
-    c.in_ok-first.ensures.cases.0
-    (sym c.is_name_start.ensures ∙ c.if-not-is_name_start.false)
+    c.requires.begins
     c.spelled_name-name.ensures.value
     c.front.ensures
     (c.are_units.ensures c.if-not-are_units.false)

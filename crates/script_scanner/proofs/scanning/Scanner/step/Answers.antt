@@ -1,8 +1,14 @@
-use Rattle.std.proofs.Common.{◌∙◌, sym, refl}
-use Rattle.script_scanner.proofs.ScanLemmas.{moves_blank}
+use Rattle.script_scanner.proofs.FrontLemmas.{moves_space, moves_line, moves_mark}
+use Rattle.script_scanner.specs.Braces.{in_substitution}
 use Rattle.script_scanner.proofs.scanning.Scanner.step.Goals as goal
 
-pub returns-in-Some-clause-value : goal.returns-in-Some-clause-value
-returns-in-Some-clause-value c =
-    moves_blank c.args.to c.args.rest.now c.args.self.now.tokens.items c.args.self.now.braces.items c.args.self.now.after_line _ c.args.atoms.now c.in-Some.blank
-    (sym c.blank_at.ensures.value ∙ c.in-Some.is) c.in-Some.ensures.within.0 refl
+pub returns-in-Space-clause-value : goal.returns-in-Space-clause-value
+returns-in-Space-clause-value c = moves_space c.args.to c.args.rest.now c.args.self.now.tokens.items c.args.self.now.braces.items c.args.self.now.after_line c.args.atoms.now c.in-Space.ensures.value
+
+pub returns-in-LineFeed-clause-value : goal.returns-in-LineFeed-clause-value
+returns-in-LineFeed-clause-value c = moves_line c.args.to c.args.rest.now c.args.self.now.tokens.items c.args.self.now.braces.items c.args.self.now.after_line c.args.atoms.now c.in-LineFeed.ensures.value
+
+pub returns-in_ok-taken-in-Mark-clause-value : goal.returns-in_ok-taken-in-Mark-clause-value
+returns-in_ok-taken-in-Mark-clause-value c =
+    moves_mark c.args.to c.in-Mark.index c.args.rest.now c.args.self.now c.take_mark.new.self c.args.atoms.now c.in_ok-taken-in-Mark.taken
+    c.in-Mark.ensures.value.0 (c.in-Mark.ensures.value.1 (in_substitution c.args.self.now.braces.items)) (c.in_ok-taken-in-Mark.ensures.value c.args.atoms.now) c.in_ok-taken-in-Mark.ensures.taken

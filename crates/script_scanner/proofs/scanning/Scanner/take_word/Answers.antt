@@ -1,5 +1,5 @@
 use Rattle.script_scanner.proofs.KnownLemmas.{moves_name}
-use Rattle.script_scanner.proofs.scanning.Scanner.take_front.Goals as goal
+use Rattle.script_scanner.proofs.scanning.Scanner.take_word.Goals as goal
 
 pub returns-in_ok-taken-in-Some-clause-value : goal.returns-in_ok-taken-in-Some-clause-value
 returns-in_ok-taken-in-Some-clause-value c =

@@ -1,5 +1,0 @@
-use Rattle.std.proofs.Common.{length}
-use Rattle.script_scanner.proofs.words.+has_letters.Given as goal
-
-abbrev pub decreases-has_letters : goal.decreases-has_letters
-decreases-has_letters l = length l.word.now

@@ -19,4 +19,5 @@ pub mod Seeking
 pub mod RegionOffsets
 pub mod FirstClash
 pub mod ClashSteps
+pub mod Keeping
 pub mod JumpSteps

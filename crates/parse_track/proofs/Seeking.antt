@@ -90,16 +90,6 @@ seek_outer_end rule rows left index now e h =
 pub seek_leaf : (before : RuleOffsets) (rule : RegionRule) → offset_of before rule ≡ smaller (offset_of before rule) None
 seek_leaf before rule = sym (smaller_none (offset_of before rule))
 
--- of each rule the smaller offset
-pub each_smaller : (old other now : RuleOffsets) → now.twice_lexical ≡ smaller old.twice_lexical other.twice_lexical → now.catch_and_lexical ≡ smaller old.catch_and_lexical other.catch_and_lexical
-    → now.param_and_lexical ≡ smaller old.param_and_lexical other.param_and_lexical → now.twice_param ≡ smaller old.twice_param other.twice_param
-    → now.binds_reserved ≡ smaller old.binds_reserved other.binds_reserved → (rule : RegionRule) → offset_of now rule ≡ smaller (offset_of old rule) (offset_of other rule)
-each_smaller old other now a b c d e TwiceLexical = a
-each_smaller old other now a b c d e CatchAndLexical = b
-each_smaller old other now a b c d e ParamAndLexical = c
-each_smaller old other now a b c d e TwiceParam = d
-each_smaller old other now a b c d e BindsReserved = e
-
 -- what holds at each of the rules holds at all
 pub at_each : (o : RuleOffsets) (g : RegionRule → Option ℕ) → o.twice_lexical ≡ g TwiceLexical → o.catch_and_lexical ≡ g CatchAndLexical → o.param_and_lexical ≡ g ParamAndLexical
     → o.twice_param ≡ g TwiceParam → o.binds_reserved ≡ g BindsReserved → (rule : RegionRule) → offset_of o rule ≡ g rule

@@ -1,7 +1,7 @@
 -- How var names clash with lexical names of the regions around them, from the outside in: the counterpart of the
 -- rules on lexical and var names for one walk, with the smallest offset of each lexical name. Only clauses of private
 -- functions cite it; that it gives those rules is proved.
-use Rattle.std.specs.Prelude.{ℕ, ◌≡◌, max, Bool, true, false, cond, not, nat_eq, Option, None, Some, List, [], ◌∷◌}
+use Rattle.std.specs.Prelude.{ℕ, max, Bool, true, false, cond, not, nat_eq, Option, None, Some, List, [], ◌∷◌}
 use Rattle.parse_track.specs.Told.{Name, Region, Told, nothing, leaf, inner}
 use Rattle.parse_track.specs.RegionNames.{is_lexical, is_var, is_head, stops_vars, declared_by, directly, vars}
 use Rattle.parse_track.specs.EarlyErrors.{smaller, later, also_in}
@@ -30,10 +30,13 @@ abbrev pub clash_all : Bool → Firsts → List (Name ℕ) → Option ℕ
 clash_all heads firsts [] = None
 clash_all heads firsts (v ∷ vs) = smaller (clash_at heads (firsts v.name) v.at) (clash_all heads firsts vs)
 
--- whether the lexical names of a region count: those of heads, or those of the others
+-- whether the lexical names of a head, or of another region, count: those of heads do, or those of the others
+abbrev pub counts : Bool → Bool → Bool
+counts true is_head = is_head
+counts false is_head = not is_head
+
 abbrev pub opens : Bool → Region ℕ → Bool
-opens true k = is_head k
-opens false k = not (is_head k)
+opens heads k = counts heads (is_head k)
 
 -- what is around inside a region
 abbrev pub base : Region ℕ → Firsts → Firsts
@@ -54,7 +57,3 @@ pairs false xs ys = later nat_eq xs ys
 
 abbrev pub clash_rule : Bool → Region ℕ → Told ℕ → List ℕ
 clash_rule heads k i = cond (opens heads k) (pairs heads (directly is_lexical i) (vars i)) []
-
--- what a visit of the code finds, with the names as they were
-abbrev pub IsClash : Bool → Firsts → Firsts → Told ℕ → Option ℕ → Type 0
-IsClash heads before now t first = (first ≡ clashes heads before t) × ((y : ℕ) → now y ≡ before y)

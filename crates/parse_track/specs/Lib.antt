@@ -14,7 +14,7 @@ pub mod Scopes
 pub mod Visited
 pub mod Rules
 pub mod Clashes
+pub mod LexicalNames
 pub mod Targets
-pub mod Errors
 pub mod Tells
 pub mod Notes

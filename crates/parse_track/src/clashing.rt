@@ -1,14 +1,17 @@
 //! The first var name that clashes with a lexical name of a region around it, by one walk from the outside in.
 
-ghost use Rattle.std.specs.Prelude.{◌≡◌, ◌<◌, ◌≤◌, ◌-◌, ◌^◌, ◌∷◌, [], ℕ, Bool, Option, None, Some, true, false, cond, length, slice_get, IfOk, OnOk, map, nat_eq};
-ghost use Rattle.std.specs.Ordering.{nat_cmp};
-ghost use Rattle.std.specs.BTreeMap.{get};
-ghost use Rattle.parse_track.specs.RegionNames.{is_lexical, directly};
-ghost use Rattle.parse_track.specs.EarlyErrors.{has, smaller};
-ghost use Rattle.parse_track.specs.Log.{Inner, name_of, region_of, kind_of, told_items, told_region, told_of, outermost_if};
+ghost use Rattle.std.specs.Prelude.{◌≡◌, ◌<◌, ◌≤◌, ◌+◌, ◌-◌, ◌^◌, ◌∷◌, [], ℕ, Bool, true, false, None, Some, length, slice_get, cond, IfOk, OnOk, map, nat_eq};
+ghost use Rattle.parse_track.specs.RegionNames.{is_head, is_lexical, is_var, stops_vars, declared_by, directly};
+ghost use Rattle.parse_track.specs.EarlyErrors.{smaller};
+ghost use Rattle.parse_track.specs.Log.{name_of, region_of, told_items, told_region, told_of, outermost_if};
 ghost use Rattle.parse_track.specs.Rows.{item_of, row_of};
-ghost use Rattle.parse_track.specs.Clashes.{no_firsts, open_all, clash_at, opens, clashes, IsClash};
+ghost use Rattle.parse_track.specs.Told.{Declared};
+ghost use Rattle.parse_track.specs.AtomTables.{entry};
+ghost use Rattle.parse_track.specs.Walk.{deeper};
+ghost use Rattle.parse_track.specs.Clashes.{no_firsts, open_all, clash_at, clash_all, opens, clashes};
+ghost use Rattle.parse_track.specs.LexicalNames.{offset_for, no_offsets, lessened, first_in, firsts_of, keep, keep_all, AreKeptTo, AreClashes};
 
+use crate::atom_table::{AtomTable, look_up, put_back};
 use crate::closed::kind_at;
 use crate::names::{Asked, items_at, stops_vars};
 use crate::offsets::lesser;
@@ -18,234 +21,282 @@ use crate::scopes::atoms_of;
 use crate::track::{Item, RegionRow};
 use script_grammar::tree::Ident;
 use std::alloc::{AllocError, Global};
-use std::collections::BTreeMap;
 
-/// Whether the lexical names of a region count: those of heads of `for` statements, or those of the other regions.
-fn opens(heads: bool, kind: Region) -> bool
-    ensures { result ≡ opens heads (region_of kind) }
-{
-    let is_head = matches!(kind, Region::ForHead);
-    if heads { is_head } else { !is_head }
+/// An offset for the names that heads of `for` statements declare, and one for other lexical names.
+#[derive(Clone, Copy, Debug)]
+pub struct LexicalOffsets {
+    pub head: Option<u32>,
+    pub other: Option<u32>,
 }
 
-/// Where a var name clashes, if it does.
-fn clash(firsts: &BTreeMap<u32, u32>, heads: bool, name: Ident) -> Option<u32>
-    ensures { result ≡ clash_at heads (get nat_cmp firsts.now name.atom) name.at }
+/// A name that regions around declare lexically: how many functions are around them, and where it stands first in them.
+#[derive(Clone, Copy, Debug)]
+pub struct LexicalName {
+    pub depth: u32,
+    pub first: LexicalOffsets,
+}
+
+impl LexicalOffsets {
+    /// There is no offset.
+    fn none() -> LexicalOffsets
+        ensures { result ≡ no_offsets }
+    {
+        LexicalOffsets {
+            head: None,
+            other: None,
+        }
+    }
+
+    /// Of each the smaller of two offsets.
+    fn lessen(&mut self, other: LexicalOffsets)
+        ensures { (heads : Bool) → offset_for heads self.new ≡ smaller (offset_for heads self.old) (offset_for heads other) }
+    {
+        self.head = lesser(self.head, other.head);
+        self.other = lesser(self.other, other.other);
+    }
+
+    /// With an offset more of a name that a head declares, or another region.
+    fn with(self, is_head: bool, at: u32) -> LexicalOffsets
+        ensures { result ≡ lessened is_head at self }
+    {
+        if is_head {
+            LexicalOffsets {
+                head: lesser(Some(at), self.head),
+                other: self.other,
+            }
+        } else {
+            LexicalOffsets {
+                head: self.head,
+                other: lesser(Some(at), self.other),
+            }
+        }
+    }
+
+    /// Where a var name at this offset clashes with names that stand first at these.
+    fn clashes_at(self, at: u32) -> LexicalOffsets
+        ensures { (heads : Bool) → offset_for heads result ≡ clash_at heads (offset_for heads self) at }
+    {
+        LexicalOffsets {
+            head: with_head(self.head, at),
+            other: with_other(self.other, at),
+        }
+    }
+}
+
+/// Where a var name clashes with a name of a head: at the var name.
+fn with_head(first: Option<u32>, at: u32) -> Option<u32>
+    ensures { result ≡ clash_at true first at }
 {
-    match firsts.get(&name.atom) {
+    match first {
+        Some(_) => Some(at),
         None => None,
-        Some(first) => {
-            if heads {
-                Some(name.at)
+    }
+}
+
+/// Where a var name clashes with another lexical name: at the later of the two.
+fn with_other(first: Option<u32>, at: u32) -> Option<u32>
+    ensures { result ≡ clash_at false first at }
+{
+    match first {
+        Some(first) => Some(at.max(first)),
+        None => None,
+    }
+}
+
+/// Whether a region is the head of a `for` statement.
+fn is_head(kind: Region) -> bool
+    ensures { result ≡ is_head (region_of kind) }
+{
+    matches!(kind, Region::ForHead)
+}
+
+/// How many functions are around what stands in a region.
+fn depth_inside(depth: u32, kind: Region) -> u32
+    requires { depth + 1 < 2 ^ 32 }
+    ensures { result ≡ deeper (stops_vars (region_of kind)) depth }
+{
+    if stops_vars(kind) { depth + 1 } else { depth }
+}
+
+/// Where a name stands first in the regions around that are of the present function.
+fn first_of(names: &AtomTable<LexicalName>, depth: u32, atom: u32) -> LexicalOffsets
+    ensures { result ≡ first_in depth (entry names.now.entries.items atom) }
+{
+    match names.get(atom) {
+        Some(name) => {
+            if name.depth == depth {
+                name.first
             } else {
-                Some(name.at.max(*first))
+                LexicalOffsets::none()
             }
         }
+        None => LexicalOffsets::none(),
     }
 }
 
-/// No name has an offset.
-fn no_names(alloc: Global) -> BTreeMap<u32, u32>
-    ensures { (y : ℕ) → get nat_cmp result y ≡ None }
-{
-    BTreeMap::new(alloc)
-}
-
-/// The smallest offset of a name, with this one.
-fn first_with(firsts: &BTreeMap<u32, u32>, name: Ident) -> u32
-    ensures { Some result ≡ smaller (Some name.at) (get nat_cmp firsts.now name.atom) }
-{
-    match firsts.get(&name.atom) {
-        None => name.at,
-        Some(first) => name.at.min(*first),
-    }
-}
-
-/// The offsets that these names have.
-fn look_up(
-    alloc: Global,
-    firsts: &BTreeMap<u32, u32>,
-    names: &[u32],
-) -> Result<Vec<Option<u32>>, AllocError>
-    ensures { IfOk result (λ saved. saved.items ≡ map (get nat_cmp firsts.now) names.now) }
-{
-    names
-        .iter()
-        .map(|name| firsts.get(name).copied())
-        .collect(alloc)
-}
-
-/// Gives these names the offsets that they had.
-fn put_back(
-    firsts: &mut BTreeMap<u32, u32>,
-    names: &[u32],
-    saved: &[Option<u32>],
+/// A name that a region declares lexically.
+fn open_name(
+    names: &mut AtomTable<LexicalName>,
+    depth: u32,
+    is_head: bool,
+    name: Ident,
 ) -> Result<(), AllocError>
-    requires { length names.now ≡ length saved.now }
-    ensures { (tops : ℕ → Option ℕ) → saved.now ≡ map tops names.now → ((y : ℕ) → has nat_eq y names.now ≡ false → get nat_cmp firsts.old y ≡ tops y) → OnOk result ((y : ℕ) → get nat_cmp firsts.new y ≡ tops y) }
+    ensures { OnOk result ((y : ℕ) → entry names.new.entries.items y ≡ keep depth is_head (entry names.old.entries.items) (name_of name) y) }
 {
-    for (name, top) in names.iter().zip(saved) {
-        match top {
-            Some(top) => {
-                firsts.insert(*name, *top)?;
-            }
-            None => {
-                firsts.remove(name);
-            }
-        }
+    let first = first_of(names, depth, name.atom).with(is_head, name.at);
+    names.set(name.atom, Some(LexicalName { depth, first }))?;
+    Ok(())
+}
+
+/// The names that a region declares lexically.
+fn open_names(
+    names: &mut AtomTable<LexicalName>,
+    depth: u32,
+    is_head: bool,
+    opened: &[Ident],
+) -> Result<(), AllocError>
+    ensures { OnOk result ((y : ℕ) → entry names.new.entries.items y ≡ keep_all depth is_head (map name_of opened.now) (entry names.old.entries.items) y) }
+{
+    for name in opened {
+        open_name(names, depth, is_head, *name)?;
     }
     Ok(())
 }
 
-/// Each of these names has its smallest offset.
-fn open_names(firsts: &mut BTreeMap<u32, u32>, names: &[Ident]) -> Result<(), AllocError>
-    ensures { OnOk result ((y : ℕ) → get nat_cmp firsts.new y ≡ open_all (map name_of names.now) (get nat_cmp firsts.old) y) }
+/// Takes the clashes of a declaration.
+fn clash_of_declared(
+    names: &AtomTable<LexicalName>,
+    depth: u32,
+    how: Declare,
+    name: Ident,
+    found: &mut LexicalOffsets,
+)
+    ensures { (heads : Bool) → offset_for heads found.new ≡ smaller (offset_for heads found.old) (clash_all heads (firsts_of heads depth (entry names.now.entries.items)) (declared_by is_var (Declared how (name_of name)))) }
 {
-    for name in names {
-        let first = first_with(firsts, *name);
-        firsts.insert(name.atom, first)?;
+    match how {
+        Declare::Var => found.lessen(first_of(names, depth, name.atom).clashes_at(name.at)),
+        Declare::Lexical => (),
+        Declare::Param => (),
+        Declare::Catch => (),
     }
-    Ok(())
 }
 
-/// The first clash in what an item tells.
+/// Takes the clashes of what an item tells.
 #[cycle(clashing)]
 fn clash_in_item(
     alloc: Global,
     rows: &[RegionRow],
     room: usize,
-    heads: bool,
     item: Item,
-    firsts: &mut BTreeMap<u32, u32>,
-) -> Result<Option<u32>, AllocError>
-    ensures { IfOk result (IsClash heads (get nat_cmp firsts.old) (get nat_cmp firsts.new) (told_items (map row_of rows.now) (told_region room (map row_of rows.now)) (item_of item ∷ []))) }
+    depth: u32,
+    names: &mut AtomTable<LexicalName>,
+    found: &mut LexicalOffsets,
+) -> Result<(), AllocError>
+    requires { depth + room + 1 < 2 ^ 32 }
+    ensures same { OnOk result ((y : ℕ) → entry names.new.entries.items y ≡ entry names.old.entries.items y) }
+    ensures found { OnOk result (AreKeptTo depth (entry names.old.entries.items) → AreClashes depth (entry names.old.entries.items) found.old found.new (told_items (map row_of rows.now) (told_region room (map row_of rows.now)) (item_of item ∷ []))) }
 {
     match item {
-        Item::Declared(Declare::Var, name) => Ok(clash(firsts, heads, name)),
-        Item::Declared(Declare::Lexical, _) => Ok(None),
-        Item::Declared(Declare::Param, _) => Ok(None),
-        Item::Declared(Declare::Catch, _) => Ok(None),
-        Item::Used(_) => Ok(None),
-        Item::Jumped(_, _, _) => Ok(None),
+        Item::Declared(how, name) => {
+            clash_of_declared(names, depth, how, name, found);
+            Ok(())
+        }
+        Item::Used(_) => Ok(()),
+        Item::Jumped(_, _, _) => Ok(()),
         Item::Inner(region) => {
             let kind = kind_at(rows, region);
-            if stops_vars(kind) {
-                return clash_in_function(alloc, rows, room, heads, kind, region);
-            }
-            clash_in_open(alloc, rows, room, heads, kind, region, firsts)
+            let inside = depth_inside(depth, kind);
+            clash_inside(alloc, rows, room, kind, region, inside, names, found)?;
+            Ok(())
         }
     }
 }
 
-/// The first clash inside a region out of which no var name hoists.
+/// Takes the clashes inside a region of this kind, in which its lexical names are known; then of these is known what was before.
 #[cycle(clashing)]
-fn clash_in_function(
+fn clash_inside(
     alloc: Global,
     rows: &[RegionRow],
     room: usize,
-    heads: bool,
     kind: Region,
     region: u32,
-) -> Result<Option<u32>, AllocError>
-    ensures { IfOk result (λ first. first ≡ clashes heads (cond (opens heads (region_of kind)) (open_all (directly is_lexical (told_region room (map row_of rows.now) region)) no_firsts) no_firsts) (told_region room (map row_of rows.now) region)) }
+    depth: u32,
+    names: &mut AtomTable<LexicalName>,
+    found: &mut LexicalOffsets,
+) -> Result<(), AllocError>
+    requires { depth + room < 2 ^ 32 }
+    ensures same { OnOk result ((y : ℕ) → entry names.new.entries.items y ≡ entry names.old.entries.items y) }
+    ensures found { OnOk result (AreKeptTo depth (entry names.old.entries.items) → (heads : Bool) → let told = told_region room (map row_of rows.now) region in let firsts = firsts_of heads depth (entry names.old.entries.items) in offset_for heads found.new ≡ smaller (offset_for heads found.old) (clashes heads (cond (opens heads (region_of kind)) (open_all (directly is_lexical told) firsts) firsts) told)) }
 {
-    let mut firsts = no_names(alloc);
-    if !opens(heads, kind) {
-        let first = clash_in(alloc, rows, room, heads, region, &mut firsts)?;
-        return Ok(first);
-    }
-    let names = names_in(alloc, rows, room, region, Asked::Lexical)?;
-    open_names(&mut firsts, &names)?;
-    let first = clash_in(alloc, rows, room, heads, region, &mut firsts)?;
-    Ok(first)
+    let opened = names_in(alloc, rows, room, region, Asked::Lexical)?;
+    let atoms = atoms_of(alloc, &opened)?;
+    let saved = look_up(alloc, names, &atoms)?;
+    open_names(names, depth, is_head(kind), &opened)?;
+    clash_in(alloc, rows, room, region, depth, names, found)?;
+    put_back(names, &atoms, &saved)?;
+    Ok(())
 }
 
-/// The first clash inside a region out of which var names hoist.
-#[cycle(clashing)]
-fn clash_in_open(
-    alloc: Global,
-    rows: &[RegionRow],
-    room: usize,
-    heads: bool,
-    kind: Region,
-    region: u32,
-    firsts: &mut BTreeMap<u32, u32>,
-) -> Result<Option<u32>, AllocError>
-    ensures { IfOk result (λ first. (first ≡ clashes heads (cond (opens heads (region_of kind)) (open_all (directly is_lexical (told_region room (map row_of rows.now) region)) (get nat_cmp firsts.old)) (get nat_cmp firsts.old)) (told_region room (map row_of rows.now) region)) × ((y : ℕ) → get nat_cmp firsts.new y ≡ get nat_cmp firsts.old y)) }
-{
-    if !opens(heads, kind) {
-        return clash_in(alloc, rows, room, heads, region, firsts);
-    }
-    let names = names_in(alloc, rows, room, region, Asked::Lexical)?;
-    let atoms = atoms_of(alloc, &names)?;
-    let saved = look_up(alloc, firsts, &atoms)?;
-    open_names(firsts, &names)?;
-    let first = clash_in(alloc, rows, room, heads, region, firsts)?;
-    put_back(firsts, &atoms, &saved)?;
-    Ok(first)
-}
-
-/// The first clash in what a region tells.
+/// Takes the clashes of what stands in a region.
 #[cycle(clashing)]
 fn clash_in(
     alloc: Global,
     rows: &[RegionRow],
     room: usize,
-    heads: bool,
     region: u32,
-    firsts: &mut BTreeMap<u32, u32>,
-) -> Result<Option<u32>, AllocError>
-    ensures { IfOk result (IsClash heads (get nat_cmp firsts.old) (get nat_cmp firsts.new) (told_region room (map row_of rows.now) region)) }
+    depth: u32,
+    names: &mut AtomTable<LexicalName>,
+    found: &mut LexicalOffsets,
+) -> Result<(), AllocError>
+    requires { depth + room < 2 ^ 32 }
+    ensures same { OnOk result ((y : ℕ) → entry names.new.entries.items y ≡ entry names.old.entries.items y) }
+    ensures found { OnOk result (AreKeptTo depth (entry names.old.entries.items) → AreClashes depth (entry names.old.entries.items) found.old found.new (told_region room (map row_of rows.now) region)) }
 {
-    let mut first = None;
     let items = items_at(rows, room, region);
     for item in items {
-        let here = clash_in_item(alloc, rows, room - 1, heads, *item, firsts)?;
-        first = lesser(first, here);
+        clash_in_item(alloc, rows, room - 1, *item, depth, names, found)?;
     }
-    Ok(first)
+    Ok(())
 }
 
-/// The first clash in an outermost region.
+/// Takes the clashes of an outermost region, around which no name is declared.
 fn clash_in_outermost(
     alloc: Global,
     rows: &[RegionRow],
-    heads: bool,
     region: u32,
     around: Option<u32>,
-) -> Result<Option<u32>, AllocError>
-    ensures { IfOk result (λ first. first ≡ clashes heads no_firsts (told_items (map row_of rows.now) (told_region (length rows.now) (map row_of rows.now)) (outermost_if region around))) }
+    found: &mut LexicalOffsets,
+) -> Result<(), AllocError>
+    requires { length rows.now ≤ 2 ^ 32 - 2 }
+    ensures { OnOk result ((heads : Bool) → offset_for heads found.new ≡ smaller (offset_for heads found.old) (clashes heads no_firsts (told_items (map row_of rows.now) (told_region (length rows.now) (map row_of rows.now)) (outermost_if region around)))) }
 {
     match around {
-        Some(_) => Ok(None),
+        Some(_) => Ok(()),
         None => {
-            let mut firsts = no_names(alloc);
-            let first = clash_in_item(
+            let mut names = AtomTable::new(alloc);
+            clash_in_item(
                 alloc,
                 rows,
                 rows.len(),
-                heads,
                 Item::Inner(region),
-                &mut firsts,
+                0,
+                &mut names,
+                found,
             )?;
-            Ok(first)
+            Ok(())
         }
     }
 }
 
-/// The first clash of a var name with a name that the head of a `for` statement declares, or with another lexical name.
-pub fn first_clash(
-    alloc: Global,
-    rows: &[RegionRow],
-    heads: bool,
-) -> Result<Option<u32>, AllocError>
+/// The first clash of a var name with a name that the head of a `for` statement declares, and the first with another lexical
+/// name.
+pub fn first_clashes(alloc: Global, rows: &[RegionRow]) -> Result<LexicalOffsets, AllocError>
     requires { length rows.now ≤ 2 ^ 32 - 2 }
-    ensures { IfOk result (λ first. first ≡ clashes heads no_firsts (told_of (map row_of rows.now))) }
+    ensures { IfOk result (λ found. (heads : Bool) → offset_for heads found ≡ clashes heads no_firsts (told_of (map row_of rows.now))) }
 {
-    let mut first = None;
+    let mut found = LexicalOffsets::none();
     for (region, row) in rows.iter().enumerate() {
-        let here = clash_in_outermost(alloc, rows, heads, region as u32, row.around)?;
-        first = lesser(first, here);
+        clash_in_outermost(alloc, rows, region as u32, row.around, &mut found)?;
     }
-    Ok(first)
+    Ok(found)
 }

@@ -4,9 +4,8 @@ ghost use Rattle.std.specs.Prelude.{◌≡◌, ◌≤◌, ◌-◌, ◌^◌, ◌<
 ghost use Rattle.parse_track.specs.EarlyErrors.{sooner, error_of, first_error};
 ghost use Rattle.parse_track.specs.Log.{known_names, told_of};
 ghost use Rattle.parse_track.specs.Rows.{row_of};
-ghost use Rattle.parse_track.specs.Errors.{clash_error};
 
-use crate::clashing::first_clash;
+use crate::clashing::first_clashes;
 use crate::jumps::first_wrong_jump;
 use crate::region::{Early, WellKnownAtoms};
 use crate::rules::rule_offsets;
@@ -40,23 +39,6 @@ fn error_of(rule: u8, offset: Option<u32>) -> Option<Early>
     }
 }
 
-/// The first clash of a lexical and a var name, of heads of `for` statements or of other regions.
-fn error_of_clash(
-    alloc: Global,
-    rows: &[RegionRow],
-    heads: bool,
-) -> Result<Option<Early>, AllocError>
-    requires { length rows.now ≤ 2 ^ 32 - 2 }
-    ensures { IfOk result (λ error. error ≡ clash_error heads (told_of (map row_of rows.now))) }
-{
-    let first = first_clash(alloc, rows, heads)?;
-    if heads {
-        Ok(error_of(3, first))
-    } else {
-        Ok(error_of(2, first))
-    }
-}
-
 /// The first early error of all rules, where the first of those that were noted is `noted`.
 pub fn first_error(
     alloc: Global,
@@ -69,8 +51,9 @@ pub fn first_error(
 {
     let offsets = rule_offsets(alloc, known, rows)?;
     let lexical = error_of(1, offsets.twice_lexical);
-    let clash = error_of_clash(alloc, rows, false)?;
-    let head = error_of_clash(alloc, rows, true)?;
+    let clashes = first_clashes(alloc, rows)?;
+    let clash = error_of(2, clashes.other);
+    let head = error_of(3, clashes.head);
     let catch = error_of(4, offsets.catch_and_lexical);
     let param = error_of(5, offsets.param_and_lexical);
     let params = error_of(6, offsets.twice_param);

@@ -82,9 +82,10 @@ letter_range c e = elim (cases_Bool (is_in_range 65 90 c)) as (λ _. (65 ≤ c) 
 
 -- a letter begins a name
 pub stands_letter : (c : ℕ) (codes : List ℕ) → is_ascii_alphabetic c ≡ true → StandsAt (c ∷ codes) Name
-stands_letter c codes e = let r : (65 ≤ c) × (c ≤ 122) = letter_range c e in
-    (plain_is_no_blank c codes (omega (arith, r.0)) (omega (arith, r.1)) (λ is. absurd (omega (arith, r.0, is))),
-     start_ascii c (omega (arith, r.1)) ∙ ap (λ (x : Bool). (x || (c == 0x24)) || (c == 0x5F)) e)
+stands_letter c codes e = let r : (65 ≤ c) × (c ≤ 122) = letter_range c e in (
+  plain_is_no_blank c codes (omega (arith, r.0)) (omega (arith, r.1)) (λ is. absurd (omega (arith, r.0, is))),
+  start_ascii c (omega (arith, r.1)) ∙ ap (λ (x : Bool). (x || (c == 0x24)) || (c == 0x5F)) e,
+)
 
 -- a dot before what is neither a dot nor a digit
 pub stands_46 : (d : ℕ) (codes : List ℕ) → d ≢ 46 → is_digit d 10 ≡ false → StandsAt (46 ∷ d ∷ codes) (Mark 51)

@@ -26,6 +26,7 @@ use Rattle.parse_track_handler.proofs.Saying.{passed-says, read-says, told-same}
 use Rattle.parse_skim_handler.specs.Kept.{body_means, function_around, function_means, has_braces, have_initializer, inside_means, named_means, own_means, param_means}
 use Rattle.parse_skim_handler.specs.Meaning.{Meaning, all_meant}
 use Rattle.parse_skim_handler.specs.Means.{Owed, Stands, error_owed, name_owed, then_owed}
+use Rattle.parse_skim_handler.specs.Packed.{expr_errors}
 use Rattle.parse_skim_handler.specs.Skims.{SkimsBody, SkimsExpr}
 use Rattle.parse_skim_handler.specs.declared.nodes.SkimBody.{SkimBody}
 use Rattle.parse_skim_handler.specs.declared.nodes.SkimExpr.{SkimExpr}
@@ -110,7 +111,7 @@ module _ (i : Interpretation) where
       record {
         says = h.1.stands.says;
         puts = h.1.stands.puts;
-        first = λ e k. (short-first i e k more x.errors h.0 h.1.errors).is;
+        first = λ e k. (short-first i e k more (expr_errors x) h.0 h.1.errors).is;
       },
     ),
   )

@@ -32,7 +32,8 @@ use Rattle.parse_early_handler.specs.HasErrors.{HasErrorsExpr, HasErrorsProp, Ha
 use Rattle.parse_early_handler.proofs.Expressions.{inside, items_args}
 use Rattle.parse_early_handler.proofs.Statements.{const-first}
 use Rattle.parse_early_handler.proofs.Targets.{target-first}
-use Rattle.parse_skim_handler.specs.Kept.{args_mean, bind_means, binds_mean, block_means, clause_means, each_means, expr_errors, expr_means, handling_means, init_means, key_means, labelled_as, operand_means, part_means, prop_errors, prop_means, stmt_errors, stmt_means, tail_means, target_means}
+use Rattle.parse_skim_handler.specs.Kept.{args_mean, bind_means, binds_mean, block_means, clause_means, each_means, expr_means, handling_means, init_means, key_means, labelled_as, operand_means, part_means, prop_means, stmt_means, tail_means, target_means}
+use Rattle.parse_skim_handler.specs.Packed.{expr_errors, prop_errors, stmt_errors, whole_stmt}
 use Rattle.parse_skim_handler.specs.Meaning.{all_meant, maybe_meant, region_meant, then_meant}
 use Rattle.parse_skim_handler.specs.Means.{Owed, Stands, error_owed, expr_owed, name_owed, prop_owed, region_owed, stmt_owed, stmts_owed, then_owed}
 use Rattle.parse_skim_handler.specs.Skims.{SkimsExpr, SkimsProp, SkimsStmt}
@@ -181,7 +182,7 @@ module _ (i : Interpretation) where
   init-stands (inits.Binds decl ns) t h = stands-as i init_owed h.2 (binds-stand decl ns.items h.0 h.1)
 
   pub target-stands : (n : SkimExpr) (t : model.Expr) → SkimsExpr i n t → Stands i (target_means i n) (target_owed t)
-  target-stands n t h = record { says = h.stands.says; puts = h.stands.puts; first = λ e k. (target-first n.errors t (h.errors.holds e k)).is }
+  target-stands n t h = record { says = h.stands.says; puts = h.stands.puts; first = λ e k. (target-first (expr_errors n) t (h.errors.holds e k)).is }
 
   pub each-stands : (n : NodeEach SkimExpr) (t : model.Each) → ShowEach i (SkimsExpr i) n t → Stands i (each_means i n) (each_owed t)
   each-stands (eaches.Target e) t h = stands-as i each_owed h.2 (target-stands e h.0 h.1)
@@ -224,8 +225,8 @@ module _ (i : Interpretation) where
   label-whole name n s false h = region-stands i (told.Label (tell.spelled (named i name))) 0 (region-stands i told.Block 0 h)
 
   pub label-stands : (name : Ident) (n : SkimStmt) (s : model.Stmt) → SkimsStmt i n s
-      → Stands i (region_meant (told.Label (tell.spelled (named i name))) 0 (labelled_as i n.labels_on n)) (label_owed name s (tell.labels_on s))
-  label-stands name n s h = stands-as i (label_owed name s) (sym h.labels) (label-whole name n s n.labels_on (h.stands false))
+      → Stands i (region_meant (told.Label (tell.spelled (named i name))) 0 (labelled_as i (whole_stmt n).labels_on n)) (label_owed name s (tell.labels_on s))
+  label-stands name n s h = stands-as i (label_owed name s) (sym h.labels) (label-whole name n s (whole_stmt n).labels_on (h.stands false))
 
   pub block-stands : (ns : List SkimStmt) (ss : List model.Stmt) → ShowAll (SkimsStmt i) ns ss → Stands i (block_means i ns) (region_owed told.Block 0 (stmts_owed false (stmts_of ss)))
   block-stands ns ss h = region-stands i told.Block 0 (stmts-stand false ns ss h)

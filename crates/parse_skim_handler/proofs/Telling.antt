@@ -1,13 +1,14 @@
 -- Pieces and functions that are put after others.
-use Rattle.std.proofs.Common.{List, [], ap, refl, sym, ◌++◌, ◌∙◌, ◌∷◌, ◌≡◌}
+use Rattle.std.proofs.Common.{List, [], ap, refl, subst, sym, ℕ, ◌++◌, ◌∙◌, ◌∷◌, ◌≡◌}
 use Rattle.script_grammar.specs.Interpretation.{Interpretation}
 use Rattle.parse_handlers.specs.FoundOf.{before, found_of, founds_before}
 use Rattle.parse_handlers.specs.Inner.{Inner}
 use Rattle.parse_handlers.specs.declared.found.FoundFunction.{FoundFunction}
 use Rattle.parse_track_handler.specs.Pieces.{Rest, piece_says, pieces_say}
 use Rattle.parse_track_handler.specs.declared.piece.Piece.{Piece}
-use Rattle.parse_skim_handler.specs.Telling.{ArePartsOf, Tells}
+use Rattle.parse_skim_handler.specs.Telling.{ArePartsOf, Joins, Tells, UsesBefore, use_says}
 use Rattle.parse_skim_handler.specs.declared.told.Parts.{Parts}
+use Rattle.parse_skim_handler.specs.declared.told.Told.TheVariants as told
 use Rattle.parse_skim_handler.specs.declared.told.Told.{Told}
 
 pub founds-then : (i : Interpretation) (xs ys : List FoundFunction) (r : Inner) → founds_before i (xs ++ ys) r ≡ founds_before i xs (founds_before i ys r)
@@ -26,4 +27,30 @@ pub tells-more : (old new : Told) (opened closed : Parts) (says : Interpretation
 tells-more old new opened closed says found o n s f = record {
   says = λ i rest. sym (n.says i rest) ∙ s i rest ∙ o.says i (says i rest);
   found = sym n.found ∙ f ∙ ap (λ (l : List FoundFunction). l ++ found) o.found;
+}
+
+-- parts after a name that is used
+pub used-tells : (old new : Told) (atom : ℕ) (others made : Parts) → old ≡ told.Used atom → ArePartsOf new made → UsesBefore atom others made
+    → Tells old new (λ i. pieces_say i others.pieces.items) others.found.items
+used-tells old new atom others made is n u =
+    subst (λ (t : Told). Tells t new (λ i. pieces_say i others.pieces.items) others.found.items) (sym is) (record {
+      says = λ i rest. sym (n.says i rest) ∙ u.says i rest;
+      found = sym n.found ∙ u.found;
+    })
+
+-- parts after two names that are used
+pub two-tell : (old new : Told) (first second : ℕ) (others rest made : Parts) → old ≡ told.Two first second → ArePartsOf new made → UsesBefore second others rest → UsesBefore first rest made
+    → Tells old new (λ i. pieces_say i others.pieces.items) others.found.items
+two-tell old new first second others rest made is n u v =
+    subst (λ (t : Told). Tells t new (λ i. pieces_say i others.pieces.items) others.found.items) (sym is) (record {
+      says = λ i r. sym (n.says i r) ∙ v.says i r ∙ ap (use_says i first) (u.says i r);
+      found = sym n.found ∙ v.found ∙ u.found;
+    })
+
+-- parts after parts
+pub joined-tell : (old new : Told) (some others made : Parts) → ArePartsOf old some → ArePartsOf new made → Joins some others made
+    → Tells old new (λ i. pieces_say i others.pieces.items) others.found.items
+joined-tell old new some others made o n j = record {
+  says = λ i rest. sym (n.says i rest) ∙ j.says i rest ∙ o.says i (pieces_say i others.pieces.items rest);
+  found = sym n.found ∙ j.found ∙ ap (λ (l : List FoundFunction). l ++ others.found.items) o.found;
 }

@@ -26,9 +26,6 @@ use Rattle.parse_track.specs.EarlyErrors.{sooner}
 use Rattle.parse_track.specs.Tells.{function_region, function_declares, declared_as}
 use Rattle.parse_track.specs.Told as told
 use Rattle.parse_handlers.specs.Inner.{Inner, no_inner, more_inner, kind_of, text_of_name}
-use Rattle.parse_early_handler.specs.declared.nodes.ExprErrors.{ExprErrors}
-use Rattle.parse_early_handler.specs.declared.nodes.PropErrors.{PropErrors}
-use Rattle.parse_early_handler.specs.declared.nodes.StmtErrors.{StmtErrors}
 use Rattle.parse_early_handler.specs.Firsts.{are_more, const_first, is_some_or, many_args, many_params, strict_error, target_first}
 use Rattle.parse_track_handler.specs.Pieces.{Rest, piece_says, says_passed, says_read, says_region}
 use Rattle.parse_track_handler.specs.Parts.{declares_as}
@@ -37,7 +34,11 @@ use Rattle.parse_skim_handler.specs.declared.nodes.SkimBody.{SkimBody}
 use Rattle.parse_skim_handler.specs.declared.nodes.SkimExpr.{SkimExpr}
 use Rattle.parse_skim_handler.specs.declared.nodes.SkimProp.{SkimProp}
 use Rattle.parse_skim_handler.specs.declared.nodes.SkimStmt.{SkimStmt}
+use Rattle.parse_skim_handler.specs.declared.nodes.WholeExpr.{WholeExpr}
+use Rattle.parse_skim_handler.specs.declared.nodes.WholeProp.{WholeProp}
+use Rattle.parse_skim_handler.specs.declared.packed.Whole.{Whole}
 use Rattle.parse_skim_handler.specs.Meaning.{Meaning, nothing_meant, then_meant, all_meant, maybe_meant, error_meant, said_meant, name_meant, region_meant}
+use Rattle.parse_skim_handler.specs.Packed.{expr_errors, whole_expr, whole_prop, whole_stmt}
 use Rattle.parse_skim_handler.specs.Telling.{told_says, told_puts}
 
 -- what is kept by now
@@ -56,24 +57,26 @@ pub record Adds (i : Interpretation) (old new : Kept) (m : Meaning) : Type 0 whe
   pub puts : (inner : Inner) → told_puts i new.told inner ≡ told_puts i old.told (m.puts inner)
   pub first : new.first ≡ sooner old.first m.first
 
+-- an expression
+abbrev pub whole_expr_means : Interpretation → WholeExpr → Meaning
+whole_expr_means i w = record { says = told_says i w.told; puts = told_puts i w.told; first = w.errors.first }
+
 abbrev pub expr_means : Interpretation → SkimExpr → Meaning
-expr_means i n = record { says = told_says i n.told; puts = told_puts i n.told; first = n.errors.first }
+expr_means i n = whole_expr_means i (whole_expr n)
 
-abbrev pub expr_errors : SkimExpr → ExprErrors
-expr_errors n = n.errors
-
-abbrev pub prop_errors : SkimProp → PropErrors
-prop_errors n = n.errors
-
-abbrev pub stmt_errors : SkimStmt → StmtErrors
-stmt_errors n = n.errors
+-- a property
+abbrev pub whole_prop_means : Interpretation → WholeProp → Meaning
+whole_prop_means i w = record { says = told_says i w.told; puts = told_puts i w.told; first = w.errors.first }
 
 abbrev pub prop_means : Interpretation → SkimProp → Meaning
-prop_means i n = record { says = told_says i n.told; puts = told_puts i n.told; first = n.errors.first }
+prop_means i n = whole_prop_means i (whole_prop n)
 
 -- a statement; a function that it declares is declared in this way
+abbrev pub whole_as : Interpretation → Declare → Whole → Meaning
+whole_as i how w = record { says = λ rest. declares_as i how w.declares (told_says i w.told rest); puts = told_puts i w.told; first = w.errors.first }
+
 abbrev pub stmt_as : Interpretation → Declare → SkimStmt → Meaning
-stmt_as i how n = record { says = λ rest. declares_as i how n.declares (told_says i n.told rest); puts = told_puts i n.told; first = n.errors.first }
+stmt_as i how n = whole_as i how (whole_stmt n)
 
 -- a statement; the test says whether it stands at the top of a script or of a function's body
 abbrev pub stmt_means : Interpretation → (top : Bool) → SkimStmt → Meaning
@@ -115,7 +118,7 @@ init_means i (inits.Binds decl ns) = binds_mean i decl ns.items
 
 -- an expression that is assigned to
 abbrev pub target_means : Interpretation → SkimExpr → Meaning
-target_means i n = record { says = told_says i n.told; puts = told_puts i n.told; first = target_first n.errors }
+target_means i n = record { says = told_says i (whole_expr n).told; puts = told_puts i (whole_expr n).told; first = target_first (expr_errors n) }
 
 abbrev pub each_means : Interpretation → NodeEach SkimExpr → Meaning
 each_means i (eaches.Target e) = target_means i e

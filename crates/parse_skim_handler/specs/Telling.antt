@@ -17,11 +17,13 @@ use_says i atom rest = telling rest (tells_use (text_of i atom) rest.told)
 abbrev pub told_says : Interpretation → Told → Rest → Rest
 told_says i told.Nothing rest = rest
 told_says i (told.Used atom) rest = use_says i atom rest
+told_says i (told.Two first second) rest = use_says i first (use_says i second rest)
 told_says i (told.Parts parts) rest = pieces_say i parts.value.pieces.items rest
 
 abbrev pub told_found : Told → List FoundFunction
 told_found told.Nothing = []
 told_found (told.Used atom) = []
+told_found (told.Two first second) = []
 told_found (told.Parts parts) = parts.value.found.items
 
 -- the functions that were found, and then these
@@ -37,3 +39,13 @@ pub record ArePartsOf (told : Told) (parts : Parts) : Type 0 where
 pub record Tells (old new : Told) (more : Interpretation → Rest → Rest) (others : List FoundFunction) : Type 0 where
   pub says : (i : Interpretation) (rest : Rest) → told_says i new rest ≡ told_says i old (more i rest)
   pub found : told_found new ≡ told_found old ++ others
+
+-- These parts say that a name is used, and then what the others say; they have the functions of the others.
+pub record UsesBefore (atom : ℕ) (others parts : Parts) : Type 0 where
+  pub says : (i : Interpretation) (rest : Rest) → pieces_say i parts.pieces.items rest ≡ use_says i atom (pieces_say i others.pieces.items rest)
+  pub found : parts.found.items ≡ others.found.items
+
+-- These parts say what some say and then what others say, and have the functions of the first and then those of the others.
+pub record Joins (some others parts : Parts) : Type 0 where
+  pub says : (i : Interpretation) (rest : Rest) → pieces_say i parts.pieces.items rest ≡ pieces_say i some.pieces.items (pieces_say i others.pieces.items rest)
+  pub found : parts.found.items ≡ some.found.items ++ others.found.items

@@ -2,7 +2,7 @@
 
 ghost use Rattle.std.specs.Prelude.{◌≡◌, false, map};
 ghost use Rattle.parse_early_handler.specs.Firsts.{many_args, protos_first, start_of_first, strict_first};
-ghost use Rattle.parse_skim_handler.specs.Kept.{expr_errors, prop_errors, stmt_errors};
+ghost use Rattle.parse_skim_handler.specs.Packed.{expr_errors, prop_errors, stmt_errors};
 
 use crate::nodes::{SkimExpr, SkimProp, SkimStmt};
 use parse_early_handler::early::{smaller, sooner};
@@ -18,7 +18,7 @@ pub(crate) fn many_args(items: &[SkimExpr]) -> Option<Early>
 {
     match items.get(LIMIT) {
         Some(item) => Some(Early {
-            offset: item.errors.start,
+            offset: item.start,
             rule: 13,
         }),
         None => None,
@@ -32,7 +32,7 @@ pub(crate) fn later_protos(props: &[SkimProp]) -> Option<Early>
     let mut seen = false;
     let mut first = None;
     for prop in props {
-        let proto = prop.errors.proto;
+        let proto = prop.proto;
         let error = proto_error(seen, proto);
         first = sooner(first, error);
         seen = is_seen(seen, proto);
@@ -45,7 +45,7 @@ pub(crate) fn start_of_first(items: &[SkimExpr]) -> u32
     ensures { result ≡ start_of_first (map expr_errors items.now) }
 {
     match items.first() {
-        Some(first) => first.errors.start,
+        Some(first) => first.start,
         None => 0,
     }
 }
@@ -56,7 +56,7 @@ pub(crate) fn first_strict(items: &[SkimStmt]) -> Option<u32>
 {
     let mut first = None;
     for item in items {
-        let directive = item.errors.directive;
+        let directive = item.directive();
         if directive.ends() {
             return first;
         }

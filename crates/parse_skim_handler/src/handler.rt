@@ -9,12 +9,14 @@ ghost use Rattle.script_grammar.specs.TreeLists.{exprs_of, maybe_expr_of, items_
 ghost use Rattle.parse_early_handler.specs.declared.directive.Directive.TheVariants as kind;
 ghost use Rattle.parse_early_handler.specs.declared.shape.Shape.TheVariants as form;
 ghost use Rattle.parse_skim_handler.specs.declared.told.Told.TheVariants as told;
+ghost use Rattle.parse_skim_handler.specs.Packed.{whole_expr, whole_prop, whole_stmt};
 ghost use Rattle.parse_skim_handler.specs.Skims.{SkimsExpr, SkimsStmt, SkimsProp, SkimsBody};
 
 use crate::forms::{first_strict, later_protos, start_of_first};
 use crate::functions::{named_function, skim_function};
 use crate::kept::{Kept, Skim, nothing, of_error, of_expr, of_target, region, skim_top, with_said};
-use crate::nodes::{SkimBody, SkimExpr, SkimProp, SkimStmt};
+use crate::nodes::{SkimBody, SkimExpr, SkimProp, SkimStmt, WholeExpr, WholeProp};
+use crate::packed::{Whole, pack_expr, pack_prop, pack_stmt};
 use crate::parts::{skim_binds, skim_block, skim_handling, skim_labelled};
 use crate::told::{Parts, Told, parts_of};
 use parse_early_handler::keys::proto_key;
@@ -50,74 +52,77 @@ impl Skimming {
 }
 
 /// An expression in which nothing is told.
-fn quiet(errors: ExprErrors) -> SkimExpr
-    ensures { result ≡ record { told = told.Nothing; errors = errors } }
+fn quiet(alloc: Global, errors: ExprErrors) -> Result<SkimExpr, AllocError>
+    ensures { IfOk result (λ made. whole_expr made ≡ record { told = told.Nothing; errors = errors }) }
 {
     let told = Told::Nothing;
-    SkimExpr { told, errors }
+    pack_expr(alloc, WholeExpr { told, errors })
 }
 
 /// An expression of this form, of which this is kept.
-fn expr(kept: Kept, start: u32, shape: Shape) -> SkimExpr
-    ensures { result ≡ record { told = kept.told; errors = record { first = kept.first; start = start; shape = shape } } }
+fn expr(alloc: Global, kept: Kept, start: u32, shape: Shape) -> Result<SkimExpr, AllocError>
+    ensures { IfOk result (λ made. whole_expr made ≡ record { told = kept.told; errors = record { first = kept.first; start = start; shape = shape } }) }
 {
     let Kept { told, first } = kept;
-    SkimExpr {
-        told,
-        errors: ExprErrors {
-            first,
-            start,
-            shape,
-        },
-    }
+    let errors = ExprErrors {
+        first,
+        start,
+        shape,
+    };
+    pack_expr(alloc, WholeExpr { told, errors })
 }
 
 /// An expression whose form no rule looks at.
-fn other(kept: Kept, start: u32) -> SkimExpr
-    ensures { result ≡ record { told = kept.told; errors = record { first = kept.first; start = start; shape = form.Other } } }
+fn other(alloc: Global, kept: Kept, start: u32) -> Result<SkimExpr, AllocError>
+    ensures { IfOk result (λ made. whole_expr made ≡ record { told = kept.told; errors = record { first = kept.first; start = start; shape = form.Other } }) }
 {
-    expr(kept, start, Shape::Other)
+    expr(alloc, kept, start, Shape::Other)
 }
 
 /// A property, of which this is kept.
-fn prop(kept: Kept, proto: Option<u32>) -> SkimProp
-    ensures { result ≡ record { told = kept.told; errors = record { first = kept.first; proto = proto } } }
+fn prop(alloc: Global, kept: Kept, proto: Option<u32>) -> Result<SkimProp, AllocError>
+    ensures { IfOk result (λ made. whole_prop made ≡ record { told = kept.told; errors = record { first = kept.first; proto = proto } }) }
 {
     let Kept { told, first } = kept;
-    SkimProp {
-        told,
-        errors: PropErrors { first, proto },
-    }
+    let errors = PropErrors { first, proto };
+    pack_prop(alloc, WholeProp { told, errors })
 }
 
 /// A statement that is no directive, of which this is kept.
-fn stmt(kept: Kept, declares: Option<Ident>, labels_on: bool) -> SkimStmt
-    ensures { result ≡ record { declares = declares; labels_on = labels_on; told = kept.told; errors = record { first = kept.first; directive = kind.No } } }
+fn stmt(
+    alloc: Global,
+    kept: Kept,
+    declares: Option<Ident>,
+    labels_on: bool,
+) -> Result<SkimStmt, AllocError>
+    ensures { IfOk result (λ made. whole_stmt made ≡ record { declares = declares; labels_on = labels_on; told = kept.told; errors = record { first = kept.first; directive = kind.No } }) }
 {
     let Kept { told, first } = kept;
-    SkimStmt {
+    let errors = StmtErrors {
+        first,
+        directive: Directive::No,
+    };
+    let whole = Whole {
         declares,
         labels_on,
         told,
-        errors: StmtErrors {
-            first,
-            directive: Directive::No,
-        },
-    }
+        errors,
+    };
+    pack_stmt(alloc, whole)
 }
 
 /// A statement that declares no function and is neither a loop nor a label.
-fn plain(kept: Kept) -> SkimStmt
-    ensures { result ≡ record { declares = None; labels_on = false; told = kept.told; errors = record { first = kept.first; directive = kind.No } } }
+fn plain(alloc: Global, kept: Kept) -> Result<SkimStmt, AllocError>
+    ensures { IfOk result (λ made. whole_stmt made ≡ record { declares = None; labels_on = false; told = kept.told; errors = record { first = kept.first; directive = kind.No } }) }
 {
-    stmt(kept, None, false)
+    stmt(alloc, kept, None, false)
 }
 
 /// A loop, or a statement after a label.
-fn looping(kept: Kept) -> SkimStmt
-    ensures { result ≡ record { declares = None; labels_on = true; told = kept.told; errors = record { first = kept.first; directive = kind.No } } }
+fn looping(alloc: Global, kept: Kept) -> Result<SkimStmt, AllocError>
+    ensures { IfOk result (λ made. whole_stmt made ≡ record { declares = None; labels_on = true; told = kept.told; errors = record { first = kept.first; directive = kind.No } }) }
 {
-    stmt(kept, None, true)
+    stmt(alloc, kept, None, true)
 }
 
 impl Handler for Skimming {
@@ -143,52 +148,57 @@ impl Handler for Skimming {
         let errors = self.errors.make_this(at)?;
         let kept = with_said(self.alloc, nothing(), Piece::This)?;
         let told = kept.told;
-        Ok(SkimExpr { told, errors })
+        let node = pack_expr(self.alloc, WholeExpr { told, errors })?;
+        Ok(node)
     }
 
     fn make_name(&mut self, name: Ident) -> Result<SkimExpr, AllocError>
         ensures { (i : Interpretation) → IfOk result (λ e. SkimsExpr i e (model.Name (named i name))) }
     {
         let errors = self.errors.make_name(name)?;
-        Ok(SkimExpr {
-            told: Told::Used { atom: name.atom },
-            errors,
-        })
+        let told = Told::Used { atom: name.atom };
+        let node = pack_expr(self.alloc, WholeExpr { told, errors })?;
+        Ok(node)
     }
 
     fn make_null(&mut self, at: u32) -> Result<SkimExpr, AllocError>
         ensures { (i : Interpretation) → IfOk result (λ e. SkimsExpr i e (model.Null at)) }
     {
         let errors = self.errors.make_null(at)?;
-        Ok(quiet(errors))
+        let node = quiet(self.alloc, errors)?;
+        Ok(node)
     }
 
     fn make_true(&mut self, at: u32) -> Result<SkimExpr, AllocError>
         ensures { (i : Interpretation) → IfOk result (λ e. SkimsExpr i e (model.True at)) }
     {
         let errors = self.errors.make_true(at)?;
-        Ok(quiet(errors))
+        let node = quiet(self.alloc, errors)?;
+        Ok(node)
     }
 
     fn make_false(&mut self, at: u32) -> Result<SkimExpr, AllocError>
         ensures { (i : Interpretation) → IfOk result (λ e. SkimsExpr i e (model.False at)) }
     {
         let errors = self.errors.make_false(at)?;
-        Ok(quiet(errors))
+        let node = quiet(self.alloc, errors)?;
+        Ok(node)
     }
 
     fn make_number(&mut self, at: u32, value: u64) -> Result<SkimExpr, AllocError>
         ensures { (i : Interpretation) → IfOk result (λ e. SkimsExpr i e (model.Number at value)) }
     {
         let errors = self.errors.make_number(at, value)?;
-        Ok(quiet(errors))
+        let node = quiet(self.alloc, errors)?;
+        Ok(node)
     }
 
     fn make_str(&mut self, at: u32, end: u32, atom: u32) -> Result<SkimExpr, AllocError>
         ensures { (i : Interpretation) → IfOk result (λ e. SkimsExpr i e (model.Str at end (text_of i atom))) }
     {
         let errors = self.errors.make_str(at, end, atom)?;
-        Ok(quiet(errors))
+        let node = quiet(self.alloc, errors)?;
+        Ok(node)
     }
 
     fn make_template(
@@ -201,7 +211,8 @@ impl Handler for Skimming {
             → IfOk result (λ e. SkimsExpr i e (model.Template at (text_of i _first) (parts_of ps))) }
     {
         let kept = parts.skim(self.alloc, nothing())?;
-        Ok(other(kept, at))
+        let node = other(self.alloc, kept, at)?;
+        Ok(node)
     }
 
     fn make_array(
@@ -214,7 +225,8 @@ impl Handler for Skimming {
             → IfOk result (λ e. SkimsExpr i e (model.Array at (items_of ts) _comma)) }
     {
         let kept = items.skim(self.alloc, nothing())?;
-        Ok(other(kept, at))
+        let node = other(self.alloc, kept, at)?;
+        Ok(node)
     }
 
     fn make_object(
@@ -228,7 +240,8 @@ impl Handler for Skimming {
     {
         let later = later_protos(&props);
         let kept = props.skim(self.alloc, of_error(later))?;
-        Ok(other(kept, at))
+        let node = other(self.alloc, kept, at)?;
+        Ok(node)
     }
 
     fn make_func(
@@ -240,16 +253,18 @@ impl Handler for Skimming {
             → IfOk result (λ e. SkimsExpr i e (model.Func at f)) }
     {
         let kept = named_function(self.alloc, func)?;
-        Ok(other(kept, at))
+        let node = other(self.alloc, kept, at)?;
+        Ok(node)
     }
 
     fn make_paren(&mut self, at: u32, inner: SkimExpr) -> Result<SkimExpr, AllocError>
         ensures { (i : Interpretation) (t : model.Expr) → SkimsExpr i inner t
             → IfOk result (λ e. SkimsExpr i e (model.Paren at t)) }
     {
-        let SkimExpr { told, errors } = inner;
+        let WholeExpr { told, errors } = inner.whole();
         let errors = self.errors.make_paren(at, errors)?;
-        Ok(SkimExpr { told, errors })
+        let node = pack_expr(self.alloc, WholeExpr { told, errors })?;
+        Ok(node)
     }
 
     fn make_chain(
@@ -260,11 +275,12 @@ impl Handler for Skimming {
         ensures { (i : Interpretation) (t : model.Expr) (ts : List model.Tail) → SkimsExpr i head t → ShowAll (ShowTail i (SkimsExpr i)) tails.items ts
             → IfOk result (λ e. SkimsExpr i e (model.Chain t (tails_of ts))) }
     {
-        let start = head.errors.start;
+        let start = head.start;
         let property = end_in_property(&tails);
         let shape = Shape::of_chain(property);
         let kept = tails.skim(self.alloc, of_expr(head))?;
-        Ok(expr(kept, start, shape))
+        let node = expr(self.alloc, kept, start, shape)?;
+        Ok(node)
     }
 
     fn make_new(
@@ -277,7 +293,8 @@ impl Handler for Skimming {
             → IfOk result (λ e. SkimsExpr i e (model.New at t (maybe_args_of a))) }
     {
         let kept = args.skim(self.alloc, of_expr(callee))?;
-        Ok(other(kept, at))
+        let node = other(self.alloc, kept, at)?;
+        Ok(node)
     }
 
     fn make_unary(
@@ -290,9 +307,10 @@ impl Handler for Skimming {
         ensures { (i : Interpretation) (t : model.Expr) → SkimsExpr i of t
             → IfOk result (λ e. SkimsExpr i e (model.Unary at op t is_word)) }
     {
-        let SkimExpr { told, errors } = of;
+        let WholeExpr { told, errors } = of.whole();
         let errors = self.errors.make_unary(at, op, errors, is_word)?;
-        Ok(SkimExpr { told, errors })
+        let node = pack_expr(self.alloc, WholeExpr { told, errors })?;
+        Ok(node)
     }
 
     fn make_update(
@@ -305,9 +323,10 @@ impl Handler for Skimming {
         ensures { (i : Interpretation) (t : model.Expr) → SkimsExpr i of t
             → IfOk result (λ e. SkimsExpr i e (model.Update at op prefix t)) }
     {
-        let SkimExpr { told, errors } = of;
+        let WholeExpr { told, errors } = of.whole();
         let errors = self.errors.make_update(at, op, prefix, errors)?;
-        Ok(SkimExpr { told, errors })
+        let node = pack_expr(self.alloc, WholeExpr { told, errors })?;
+        Ok(node)
     }
 
     fn make_binary(
@@ -318,9 +337,10 @@ impl Handler for Skimming {
         ensures { (i : Interpretation) (t : model.Expr) (os : List part.Operand) → SkimsExpr i first t → ShowAll (ShowOperand (SkimsExpr i)) rest.items os
             → IfOk result (λ e. SkimsExpr i e (model.Binary t (operands_of os))) }
     {
-        let start = first.errors.start;
+        let start = first.start;
         let kept = rest.skim(self.alloc, of_expr(first))?;
-        Ok(other(kept, start))
+        let node = other(self.alloc, kept, start)?;
+        Ok(node)
     }
 
     fn make_cond(
@@ -332,10 +352,11 @@ impl Handler for Skimming {
         ensures { (i : Interpretation) (t u v : model.Expr) → SkimsExpr i test t → SkimsExpr i yes u → SkimsExpr i no v
             → IfOk result (λ e. SkimsExpr i e (model.Cond t u v)) }
     {
-        let start = test.errors.start;
+        let start = test.start;
         let chosen = yes.skim(self.alloc, of_expr(test))?;
         let kept = no.skim(self.alloc, chosen)?;
-        Ok(other(kept, start))
+        let node = other(self.alloc, kept, start)?;
+        Ok(node)
     }
 
     fn make_assign(
@@ -347,9 +368,10 @@ impl Handler for Skimming {
         ensures { (i : Interpretation) (t v : model.Expr) → SkimsExpr i target t → SkimsExpr i value v
             → IfOk result (λ e. SkimsExpr i e (model.Assign _op t v)) }
     {
-        let start = target.errors.start;
+        let start = target.start;
         let kept = value.skim(self.alloc, of_target(target))?;
-        Ok(other(kept, start))
+        let node = other(self.alloc, kept, start)?;
+        Ok(node)
     }
 
     fn make_comma(&mut self, items: Vec<SkimExpr>) -> Result<SkimExpr, AllocError>
@@ -358,17 +380,17 @@ impl Handler for Skimming {
     {
         let start = start_of_first(&items);
         let kept = items.skim(self.alloc, nothing())?;
-        Ok(other(kept, start))
+        let node = other(self.alloc, kept, start)?;
+        Ok(node)
     }
 
     fn make_short(&mut self, name: Ident) -> Result<SkimProp, AllocError>
         ensures { (i : Interpretation) → IfOk result (λ p. SkimsProp i p (model.Short (named i name))) }
     {
         let errors = self.errors.make_short(name)?;
-        Ok(SkimProp {
-            told: Told::Used { atom: name.atom },
-            errors,
-        })
+        let told = Told::Used { atom: name.atom };
+        let node = pack_prop(self.alloc, WholeProp { told, errors })?;
+        Ok(node)
     }
 
     fn make_pair(&mut self, key: NodeKey<SkimExpr>, value: SkimExpr) -> Result<SkimProp, AllocError>
@@ -378,7 +400,8 @@ impl Handler for Skimming {
         let proto = proto_key(&key);
         let named = key.skim(self.alloc, nothing())?;
         let kept = value.skim(self.alloc, named)?;
-        Ok(prop(kept, proto))
+        let node = prop(self.alloc, kept, proto)?;
+        Ok(node)
     }
 
     fn make_method(
@@ -391,7 +414,8 @@ impl Handler for Skimming {
     {
         let named = key.skim(self.alloc, nothing())?;
         let kept = skim_function(self.alloc, named, false, func)?;
-        Ok(prop(kept, None))
+        let node = prop(self.alloc, kept, None)?;
+        Ok(node)
     }
 
     fn make_get(
@@ -404,7 +428,8 @@ impl Handler for Skimming {
     {
         let named = key.skim(self.alloc, nothing())?;
         let kept = skim_function(self.alloc, named, false, func)?;
-        Ok(prop(kept, None))
+        let node = prop(self.alloc, kept, None)?;
+        Ok(node)
     }
 
     fn make_set(
@@ -417,7 +442,8 @@ impl Handler for Skimming {
     {
         let named = key.skim(self.alloc, nothing())?;
         let kept = skim_function(self.alloc, named, false, func)?;
-        Ok(prop(kept, None))
+        let node = prop(self.alloc, kept, None)?;
+        Ok(node)
     }
 
     fn make_block(&mut self, items: Vec<SkimStmt>) -> Result<SkimStmt, AllocError>
@@ -425,19 +451,22 @@ impl Handler for Skimming {
             → IfOk result (λ s. SkimsStmt i s (model.Block (stmts_of ss))) }
     {
         let kept = skim_block(self.alloc, nothing(), items)?;
-        Ok(plain(kept))
+        let node = plain(self.alloc, kept)?;
+        Ok(node)
     }
 
     fn make_empty(&mut self) -> Result<SkimStmt, AllocError>
         ensures { (i : Interpretation) → IfOk result (λ s. SkimsStmt i s model.Empty) }
     {
-        Ok(plain(nothing()))
+        let node = plain(self.alloc, nothing())?;
+        Ok(node)
     }
 
     fn make_debugger(&mut self, _semi: bool) -> Result<SkimStmt, AllocError>
         ensures { (i : Interpretation) → IfOk result (λ s. SkimsStmt i s (model.Debugger _semi)) }
     {
-        Ok(plain(nothing()))
+        let node = plain(self.alloc, nothing())?;
+        Ok(node)
     }
 
     fn make_binds(
@@ -450,21 +479,24 @@ impl Handler for Skimming {
             → IfOk result (λ s. SkimsStmt i s (model.Binding decl (binds_of bs) _semi)) }
     {
         let kept = skim_binds(self.alloc, nothing(), decl, binds)?;
-        Ok(plain(kept))
+        let node = plain(self.alloc, kept)?;
+        Ok(node)
     }
 
     fn make_value(&mut self, value: SkimExpr, semi: bool) -> Result<SkimStmt, AllocError>
         ensures { (i : Interpretation) (t : model.Expr) → SkimsExpr i value t
             → IfOk result (λ s. SkimsStmt i s (model.Value t semi)) }
     {
-        let SkimExpr { told, errors } = value;
+        let WholeExpr { told, errors } = value.whole();
         let errors = self.errors.make_value(errors, semi)?;
-        Ok(SkimStmt {
+        let whole = Whole {
             declares: None,
             labels_on: false,
             told,
             errors,
-        })
+        };
+        let node = pack_stmt(self.alloc, whole)?;
+        Ok(node)
     }
 
     fn make_if(
@@ -478,7 +510,8 @@ impl Handler for Skimming {
     {
         let chosen = yes.skim(self.alloc, of_expr(test))?;
         let kept = no.skim(self.alloc, chosen)?;
-        Ok(plain(kept))
+        let node = plain(self.alloc, kept)?;
+        Ok(node)
     }
 
     fn make_do(
@@ -493,7 +526,8 @@ impl Handler for Skimming {
         let done = body.skim(self.alloc, nothing())?;
         let inside = test.skim(self.alloc, done)?;
         let kept = region(self.alloc, nothing(), Region::Loop, inside)?;
-        Ok(looping(kept))
+        let node = looping(self.alloc, kept)?;
+        Ok(node)
     }
 
     fn make_while(&mut self, test: SkimExpr, body: SkimStmt) -> Result<SkimStmt, AllocError>
@@ -502,7 +536,8 @@ impl Handler for Skimming {
     {
         let inside = body.skim(self.alloc, of_expr(test))?;
         let kept = region(self.alloc, nothing(), Region::Loop, inside)?;
-        Ok(looping(kept))
+        let node = looping(self.alloc, kept)?;
+        Ok(node)
     }
 
     fn make_for(
@@ -522,7 +557,8 @@ impl Handler for Skimming {
         let inside = body.skim(self.alloc, updated)?;
         let head = region(self.alloc, nothing(), Region::ForHead, inside)?;
         let kept = region(self.alloc, nothing(), Region::Loop, head)?;
-        Ok(looping(kept))
+        let node = looping(self.alloc, kept)?;
+        Ok(node)
     }
 
     fn make_forin(
@@ -539,7 +575,8 @@ impl Handler for Skimming {
         let inside = body.skim(self.alloc, listed)?;
         let head = region(self.alloc, nothing(), Region::ForHead, inside)?;
         let kept = region(self.alloc, nothing(), Region::Loop, head)?;
-        Ok(looping(kept))
+        let node = looping(self.alloc, kept)?;
+        Ok(node)
     }
 
     fn make_continue(
@@ -552,7 +589,8 @@ impl Handler for Skimming {
     {
         let word = Jump::Continue;
         let kept = with_said(self.alloc, nothing(), Piece::Jumped { word, at, label })?;
-        Ok(plain(kept))
+        let node = plain(self.alloc, kept)?;
+        Ok(node)
     }
 
     fn make_break(
@@ -565,7 +603,8 @@ impl Handler for Skimming {
     {
         let word = Jump::Break;
         let kept = with_said(self.alloc, nothing(), Piece::Jumped { word, at, label })?;
-        Ok(plain(kept))
+        let node = plain(self.alloc, kept)?;
+        Ok(node)
     }
 
     fn make_return(&mut self, value: Option<SkimExpr>, _semi: bool) -> Result<SkimStmt, AllocError>
@@ -573,14 +612,16 @@ impl Handler for Skimming {
             → IfOk result (λ s. SkimsStmt i s (model.Return (maybe_expr_of t) _semi)) }
     {
         let kept = value.skim(self.alloc, nothing())?;
-        Ok(plain(kept))
+        let node = plain(self.alloc, kept)?;
+        Ok(node)
     }
 
     fn make_throw(&mut self, value: SkimExpr, _semi: bool) -> Result<SkimStmt, AllocError>
         ensures { (i : Interpretation) (t : model.Expr) → SkimsExpr i value t
             → IfOk result (λ s. SkimsStmt i s (model.Throw t _semi)) }
     {
-        Ok(plain(of_expr(value)))
+        let node = plain(self.alloc, of_expr(value))?;
+        Ok(node)
     }
 
     fn make_switch(
@@ -593,7 +634,8 @@ impl Handler for Skimming {
     {
         let inside = clauses.skim(self.alloc, nothing())?;
         let kept = region(self.alloc, of_expr(of), Region::Switch, inside)?;
-        Ok(plain(kept))
+        let node = plain(self.alloc, kept)?;
+        Ok(node)
     }
 
     fn make_label(&mut self, name: Ident, body: SkimStmt) -> Result<SkimStmt, AllocError>
@@ -602,7 +644,8 @@ impl Handler for Skimming {
     {
         let inside = skim_labelled(self.alloc, body)?;
         let kept = region(self.alloc, nothing(), Region::Label(name), inside)?;
-        Ok(looping(kept))
+        let node = looping(self.alloc, kept)?;
+        Ok(node)
     }
 
     fn make_try(
@@ -616,7 +659,8 @@ impl Handler for Skimming {
     {
         let tried = skim_block(self.alloc, nothing(), body)?;
         let kept = skim_handling(self.alloc, tried, param, handler)?;
-        Ok(plain(kept))
+        let node = plain(self.alloc, kept)?;
+        Ok(node)
     }
 
     fn make_declared(&mut self, func: NodeFunc<SkimExpr, SkimBody>) -> Result<SkimStmt, AllocError>
@@ -625,7 +669,8 @@ impl Handler for Skimming {
     {
         let declares = func.name;
         let kept = skim_function(self.alloc, nothing(), true, func)?;
-        Ok(stmt(kept, declares, false))
+        let node = stmt(self.alloc, kept, declares, false)?;
+        Ok(node)
     }
 
     fn body(&mut self, items: Vec<SkimStmt>) -> Result<SkimBody, AllocError>

@@ -9,7 +9,8 @@ ghost use Rattle.parse_skim_handler.specs.Meaning.{Meaning, all_meant, error_mea
 ghost use Rattle.parse_skim_handler.specs.Kept.{Adds, Means, expr_means, kept_means, prop_means, stmt_as, stmt_means, target_means};
 ghost use Rattle.parse_skim_handler.specs.Telling.{told_puts, told_says};
 
-use crate::nodes::{SkimExpr, SkimProp, SkimStmt};
+use crate::nodes::{SkimExpr, SkimProp, SkimStmt, WholeExpr, WholeProp};
+use crate::packed::Whole;
 use crate::told::{Told, then, with_piece, with_region};
 use parse_early_handler::early::sooner;
 use parse_early_handler::parts::target_first;
@@ -60,7 +61,7 @@ pub(crate) fn of_error(first: Option<Early>) -> Kept
 pub(crate) fn of_expr(expr: SkimExpr) -> Kept
     ensures { (i : Interpretation) → Means i result (expr_means i expr) }
 {
-    let SkimExpr { told, errors } = expr;
+    let WholeExpr { told, errors } = expr.whole();
     Kept {
         told,
         first: errors.first,
@@ -71,7 +72,7 @@ pub(crate) fn of_expr(expr: SkimExpr) -> Kept
 pub(crate) fn of_target(expr: SkimExpr) -> Kept
     ensures { (i : Interpretation) → Means i result (target_means i expr) }
 {
-    let SkimExpr { told, errors } = expr;
+    let WholeExpr { told, errors } = expr.whole();
     let first = target_first(errors);
     Kept { told, first }
 }
@@ -142,7 +143,7 @@ impl Skim for SkimProp {
     ghost means = { prop_means };
 
     fn skim(self, alloc: Global, kept: Kept) -> Result<Kept, AllocError> {
-        let SkimProp { told, errors } = self;
+        let WholeProp { told, errors } = self.whole();
         let first = errors.first;
         then_kept(alloc, kept, Kept { told, first })
     }
@@ -152,12 +153,12 @@ impl Skim for SkimProp {
 fn skim_stmt(alloc: Global, kept: Kept, how: Declare, stmt: SkimStmt) -> Result<Kept, AllocError>
     ensures { IfOk result (λ made. (i : Interpretation) → Adds i kept made (stmt_as i how stmt)) }
 {
-    let SkimStmt {
+    let Whole {
         declares,
         labels_on: _,
         told,
         errors,
-    } = stmt;
+    } = stmt.whole();
     let first = errors.first;
     let other = Kept { told, first };
     match declares {

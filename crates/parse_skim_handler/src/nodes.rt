@@ -1,7 +1,8 @@
-//! The nodes of the handler.
+//! The nodes of the handler. A list of statements or of arguments may be as long as the text, so a node takes little memory.
 
+use crate::packed::Packed;
 use crate::told::Told;
-use parse_early_handler::{BodyErrors, ExprErrors, PropErrors, StmtErrors};
+use parse_early_handler::{BodyErrors, ExprErrors, PropErrors, Shape};
 use parse_handlers::SyntaxBody;
 use parse_track_handler::Piece;
 use script_grammar::tree::Ident;
@@ -9,27 +10,44 @@ use script_grammar::tree::Ident;
 /// What is kept of an expression.
 #[derive(Drop)]
 pub struct SkimExpr {
-    pub told: Told,
-    pub errors: ExprErrors,
+    pub kept: Packed,
+    /// The offset of its first token, in bytes.
+    pub start: u32,
+    pub shape: Shape,
 }
+
+const _: () = prove!(size_of::<SkimExpr>() == 24);
 
 /// What is kept of a property of an object literal.
 #[derive(Drop)]
 pub struct SkimProp {
-    pub told: Told,
-    pub errors: PropErrors,
+    pub kept: Packed,
+    /// The offset of its key, in bytes, where it sets the prototype.
+    pub proto: Option<u32>,
 }
+
+const _: () = prove!(size_of::<SkimProp>() == 24);
 
 /// What is kept of a statement.
 #[derive(Drop)]
 pub struct SkimStmt {
-    /// The name of the function that the statement declares, which depends on where the statement stands how it is declared.
-    pub declares: Option<Ident>,
-    /// Whether the statement is a loop or has a label, so that a label before it labels a loop.
-    pub labels_on: bool,
-    /// All else that it tells, and the functions in it.
+    pub kept: Packed,
+}
+
+const _: () = prove!(size_of::<SkimStmt>() == 16);
+
+/// What is kept of an expression, unpacked.
+#[derive(Drop)]
+pub struct WholeExpr {
     pub told: Told,
-    pub errors: StmtErrors,
+    pub errors: ExprErrors,
+}
+
+/// What is kept of a property, unpacked.
+#[derive(Drop)]
+pub struct WholeProp {
+    pub told: Told,
+    pub errors: PropErrors,
 }
 
 /// What is kept of the statements of a script or of a function's body.

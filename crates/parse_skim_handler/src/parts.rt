@@ -4,6 +4,7 @@ ghost use Rattle.std.specs.Prelude.{◌≡◌, IfOk};
 ghost use Rattle.script_grammar.specs.Interpretation.{Interpretation};
 ghost use Rattle.parse_track.specs.Tells as tell;
 ghost use Rattle.parse_skim_handler.specs.Meaning.{all_meant};
+ghost use Rattle.parse_skim_handler.specs.Packed.{whole_stmt};
 ghost use Rattle.parse_skim_handler.specs.Kept.{Adds, Means, args_mean, bind_means, binds_mean, block_means, clause_means, each_means, handling_means, init_means, key_means, labelled_as, operand_means, part_means, tail_means};
 
 use crate::forms::many_args;
@@ -170,10 +171,11 @@ impl Skim for NodeClause<SkimExpr, SkimStmt> {
 
 /// A statement after a label.
 pub(crate) fn skim_labelled(alloc: Global, body: SkimStmt) -> Result<Kept, AllocError>
-    ensures { IfOk result (λ made. (i : Interpretation) → Means i made (labelled_as i body.labels_on body)) }
+    ensures { IfOk result (λ made. (i : Interpretation) → Means i made (labelled_as i (whole_stmt body).labels_on body)) }
 {
     let begin = nothing();
-    if body.labels_on {
+    let on = body.labels_on();
+    if on {
         body.skim(alloc, begin)
     } else {
         let inside = body.skim(alloc, begin)?;

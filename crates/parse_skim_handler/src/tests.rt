@@ -2,6 +2,7 @@
 
 use crate::handler::Skimming;
 use crate::nodes::{SkimBody, SkimExpr};
+use crate::packed::Packed;
 use crate::told::Told;
 use parse_track::region::Early;
 use parse_track_handler::Piece;
@@ -87,9 +88,10 @@ fn used_at(pieces: &[Piece], place: usize) -> u32 {
 fn names_are_told_in_their_order(rt: HostRuntime) -> Result<(), Fail> {
     let mut handler = Skimming::new(rt.alloc());
     let node: SkimExpr = used(rt.alloc(), &mut handler)?;
-    assert!(rt; node.errors.first.is_none());
-    assert_eq!(rt; node.errors.start, 0);
-    match &node.told {
+    let whole = node.whole();
+    assert!(rt; whole.errors.first.is_none());
+    assert_eq!(rt; whole.errors.start, 0);
+    match &whole.told {
         Told::Parts(parts) => {
             assert_eq!(rt; parts.pieces.len(), 3);
             assert_eq!(rt; used_at(&parts.pieces, 0), 10);
@@ -106,8 +108,44 @@ fn names_are_told_in_their_order(rt: HostRuntime) -> Result<(), Fail> {
 fn a_name_takes_no_memory(rt: HostRuntime) -> Result<(), Fail> {
     let mut handler = Skimming::new(rt.alloc());
     let node = handler.make_name(Ident { atom: 10, at: 0 })?;
-    match node.told {
-        Told::Used { atom } => assert_eq!(rt; atom, 10),
+    match node.kept {
+        Packed::Used { atom } => assert_eq!(rt; atom, 10),
+        _ => assert!(rt; false),
+    }
+    Ok(())
+}
+
+// a = b
+#[test]
+fn two_names_take_no_memory(rt: HostRuntime) -> Result<(), Fail> {
+    let mut handler = Skimming::new(rt.alloc());
+    let target = handler.make_name(Ident { atom: 10, at: 0 })?;
+    let value = handler.make_name(Ident { atom: 11, at: 4 })?;
+    let node = handler.make_assign(0, target, value)?;
+    match node.kept {
+        Packed::Two { first, second } => {
+            assert_eq!(rt; first, 10);
+            assert_eq!(rt; second, 11);
+        }
+        _ => assert!(rt; false),
+    }
+    Ok(())
+}
+
+// x = f(a, b)
+#[test]
+fn a_name_stands_before_parts(rt: HostRuntime) -> Result<(), Fail> {
+    let mut handler = Skimming::new(rt.alloc());
+    let target = handler.make_name(Ident { atom: 9, at: 0 })?;
+    let value = used(rt.alloc(), &mut handler)?;
+    let node = handler.make_assign(0, target, value)?;
+    match node.whole().told {
+        Told::Parts(parts) => {
+            assert_eq!(rt; parts.pieces.len(), 4);
+            assert_eq!(rt; used_at(&parts.pieces, 0), 9);
+            assert_eq!(rt; used_at(&parts.pieces, 1), 10);
+            assert_eq!(rt; used_at(&parts.pieces, 3), 12);
+        }
         _ => assert!(rt; false),
     }
     Ok(())

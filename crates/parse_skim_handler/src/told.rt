@@ -1,12 +1,13 @@
 //! What a part of a script tells, and the functions in it, in as little memory as can be.
 
-ghost use Rattle.std.specs.Prelude.{◌≡◌, ◌++◌, List, [], ◌∷◌, IfOk, OnOk};
+ghost use Rattle.std.specs.Prelude.{◌≡◌, ◌≤◌, ◌++◌, List, [], ◌∷◌, IfOk, OnOk};
 ghost use Rattle.script_grammar.specs.Interpretation.{Interpretation};
 ghost use Rattle.parse_track.specs.Log.{region_of};
 ghost use Rattle.track_log_laws.specs.Spelled.{region_text};
 ghost use Rattle.parse_track_handler.specs.Pieces.{piece_says, pieces_say, says_region};
 ghost use Rattle.parse_track_handler.specs.Parts.{Appends};
-ghost use Rattle.parse_skim_handler.specs.Telling.{ArePartsOf, Tells, told_found, told_says, use_says};
+ghost use Rattle.parse_track_handler.specs.declared.piece.Piece.TheVariants as piece;
+ghost use Rattle.parse_skim_handler.specs.Telling.{ArePartsOf, Joins, Tells, UsesBefore, told_found, told_says, use_says};
 
 use parse_handlers::FoundFunction;
 use parse_track::region::Region;
@@ -20,30 +21,42 @@ pub struct Parts {
     pub found: Vec<FoundFunction>,
 }
 
-/// What a part of a script tells, and the functions in it. Most parts tell nothing or use one name, and take no memory.
+/// What a part of a script tells, and the functions in it. Most parts tell nothing or use a name or two, and take no memory.
 #[derive(Drop)]
 pub enum Told {
     Nothing,
     /// A name is used, by its atom.
     Used { atom: u32 },
+    /// Two names are used, one after the other.
+    Two { first: u32, second: u32 },
     Parts(Box<Parts>),
 }
 
 /// As many pieces are moved one by one after others; more stay together, so that a piece that stands deep is moved seldom.
 const FEW: usize = 8;
 
-/// The parts that tell what is told.
-pub(crate) fn parts_of(alloc: Global, told: Told) -> Result<Parts, AllocError>
+/// The parts that tell what is told, with room for more pieces.
+fn roomy_parts(alloc: Global, told: Told, more: usize) -> Result<Parts, AllocError>
+    requires { more ≤ 2 }
     ensures { IfOk result (ArePartsOf told) }
 {
     match told {
         Told::Nothing => Ok(Parts {
-            pieces: Vec::new(alloc),
+            pieces: Vec::with_capacity(alloc, more)?,
             found: Vec::new(alloc),
         }),
         Told::Used { atom } => {
-            let mut pieces = Vec::new(alloc);
+            let mut pieces = Vec::with_capacity(alloc, 1 + more)?;
             pieces.push(Piece::Used { atom })?;
+            Ok(Parts {
+                pieces,
+                found: Vec::new(alloc),
+            })
+        }
+        Told::Two { first, second } => {
+            let mut pieces = Vec::with_capacity(alloc, 2 + more)?;
+            pieces.push(Piece::Used { atom: first })?;
+            pieces.push(Piece::Used { atom: second })?;
             Ok(Parts {
                 pieces,
                 found: Vec::new(alloc),
@@ -53,14 +66,22 @@ pub(crate) fn parts_of(alloc: Global, told: Told) -> Result<Parts, AllocError>
     }
 }
 
-/// The same parts in a box, which is there where they are.
-fn opened(alloc: Global, told: Told) -> Result<Box<Parts>, AllocError>
+/// The parts that tell what is told.
+pub(crate) fn parts_of(alloc: Global, told: Told) -> Result<Parts, AllocError>
+    ensures { IfOk result (ArePartsOf told) }
+{
+    roomy_parts(alloc, told, 0)
+}
+
+/// The same parts in a box, which is there where they are; with room for more pieces where it is not.
+fn opened(alloc: Global, told: Told, more: usize) -> Result<Box<Parts>, AllocError>
+    requires { more ≤ 2 }
     ensures { IfOk result (λ parts. ArePartsOf told parts.value) }
 {
     match told {
         Told::Parts(parts) => Ok(parts),
         other => {
-            let parts = parts_of(alloc, other)?;
+            let parts = roomy_parts(alloc, other, more)?;
             let boxed = Box::new(alloc, parts)?;
             Ok(boxed)
         }
@@ -112,7 +133,7 @@ fn push_all(parts: &mut Parts, mut pieces: Vec<Piece>) -> Result<(), AllocError>
 pub(crate) fn with_piece(alloc: Global, told: Told, piece: Piece) -> Result<Told, AllocError>
     ensures { IfOk result (λ new. Tells told new (λ i. piece_says i piece) []) }
 {
-    let mut parts = opened(alloc, told)?;
+    let mut parts = opened(alloc, told, 2)?;
     push(&mut *parts, piece)?;
     Ok(Told::Parts(parts))
 }
@@ -123,8 +144,57 @@ fn with_use(alloc: Global, told: Told, atom: u32) -> Result<Told, AllocError>
 {
     match told {
         Told::Nothing => Ok(Told::Used { atom }),
+        Told::Used { atom: first } => Ok(Told::Two {
+            first,
+            second: atom,
+        }),
         other => with_piece(alloc, other, Piece::Used { atom }),
     }
+}
+
+/// A name that is used, before many parts, which stay together.
+fn used_and_many(alloc: Global, atom: u32, others: Parts) -> Result<Box<Parts>, AllocError>
+    ensures { IfOk result (λ parts. UsesBefore atom others parts.value) }
+{
+    let Parts {
+        pieces: many,
+        found,
+    } = others;
+    let mut pieces = Vec::with_capacity(alloc, 2)?;
+    pieces.push(Piece::Used { atom })?;
+    pieces.push(Piece::Many { pieces: many })?;
+    let boxed = Box::new(alloc, Parts { pieces, found })?;
+    Ok(boxed)
+}
+
+/// A name that is used, before the pieces that are there.
+fn insert_use(parts: &mut Parts, atom: u32) -> Result<(), AllocError>
+    ensures pieces { OnOk result (parts.new.pieces.items ≡ piece.Used atom ∷ parts.old.pieces.items) }
+    ensures found { OnOk result (parts.new.found.items ≡ parts.old.found.items) }
+{
+    parts.pieces.insert(0, Piece::Used { atom })?;
+    Ok(())
+}
+
+/// A name that is used, and parts after it.
+fn use_before(alloc: Global, atom: u32, mut others: Box<Parts>) -> Result<Box<Parts>, AllocError>
+    ensures { IfOk result (λ parts. UsesBefore atom others.value parts.value) }
+{
+    if others.pieces.len() > FEW {
+        return used_and_many(alloc, atom, Box::into_inner(others));
+    }
+    insert_use(&mut *others, atom)?;
+    Ok(others)
+}
+
+/// Parts after parts.
+fn join(mut parts: Box<Parts>, others: Box<Parts>) -> Result<Box<Parts>, AllocError>
+    ensures { IfOk result (λ made. Joins parts.value others.value made.value) }
+{
+    let Parts { pieces, found } = Box::into_inner(others);
+    push_all(&mut *parts, pieces)?;
+    find_all(&mut *parts, found)?;
+    Ok(parts)
 }
 
 /// Parts after what is told.
@@ -133,11 +203,17 @@ fn with_parts(alloc: Global, told: Told, others: Box<Parts>) -> Result<Told, All
 {
     match told {
         Told::Nothing => Ok(Told::Parts(others)),
-        other => {
-            let mut parts = opened(alloc, other)?;
-            let Parts { pieces, found } = Box::into_inner(others);
-            push_all(&mut *parts, pieces)?;
-            find_all(&mut *parts, found)?;
+        Told::Used { atom } => {
+            let parts = use_before(alloc, atom, others)?;
+            Ok(Told::Parts(parts))
+        }
+        Told::Two { first, second } => {
+            let rest = use_before(alloc, second, others)?;
+            let parts = use_before(alloc, first, rest)?;
+            Ok(Told::Parts(parts))
+        }
+        Told::Parts(parts) => {
+            let parts = join(parts, others)?;
             Ok(Told::Parts(parts))
         }
     }
@@ -150,6 +226,10 @@ pub(crate) fn then(alloc: Global, told: Told, other: Told) -> Result<Told, Alloc
     match other {
         Told::Nothing => Ok(told),
         Told::Used { atom } => with_use(alloc, told, atom),
+        Told::Two { first, second } => {
+            let one = with_use(alloc, told, first)?;
+            with_use(alloc, one, second)
+        }
         Told::Parts(others) => with_parts(alloc, told, others),
     }
 }
@@ -166,7 +246,7 @@ pub(crate) fn with_region(
     ensures { IfOk result (λ new. Tells told new (λ i. says_region (region_text i (region_of kind)) at (told_says i inside)) (told_found inside)) }
 {
     let Parts { pieces, found } = parts_of(alloc, inside)?;
-    let mut parts = opened(alloc, told)?;
+    let mut parts = opened(alloc, told, 1)?;
     push(&mut *parts, Piece::Inside { kind, at, pieces })?;
     find_all(&mut *parts, found)?;
     Ok(Told::Parts(parts))
@@ -184,7 +264,7 @@ pub(crate) fn with_function(
 ) -> Result<Told, AllocError>
     ensures { IfOk result (λ new. Tells told new (λ i. says_region (region_text i (region_of kind)) at (pieces_say i pieces.items)) (found ∷ [])) }
 {
-    let mut parts = opened(alloc, told)?;
+    let mut parts = opened(alloc, told, 1)?;
     push(&mut *parts, Piece::Inside { kind, at, pieces })?;
     find(&mut *parts, found)?;
     Ok(Told::Parts(parts))

@@ -4,7 +4,7 @@ use Rattle.parse_early_handler.specs.Firsts.{protos_first}
 use Rattle.parse_early_handler.specs.declared.nodes.PropErrors.{PropErrors}
 use Rattle.parse_early_handler.proofs.Sooner.{sooner_none}
 use Rattle.parse_early_handler.proofs.Turns.{protos_on}
-use Rattle.parse_skim_handler.specs.Kept.{prop_errors}
+use Rattle.parse_skim_handler.specs.Packed.{prop_errors}
 use Rattle.parse_skim_handler.proofs.Images.{ended_image, next_image}
 use Rattle.parse_skim_handler.proofs.forms.later_protos.Goals as goal
 

@@ -1,20 +1,17 @@
-use Rattle.std.proofs.Common.{ap, refl, ◌++◌, ◌∙◌}
-use Rattle.parse_track_handler.specs.Pieces.{pieces_say}
-use Rattle.parse_skim_handler.proofs.Telling.{tells-more}
+use Rattle.std.proofs.Common.{refl, subst, sym}
+use Rattle.parse_skim_handler.specs.Telling.{ArePartsOf}
+use Rattle.parse_skim_handler.proofs.Telling.{joined-tell, two-tell, used-tells}
 use Rattle.parse_skim_handler.proofs.told.with_parts.Goals as goal
 
-pub returns-in_ok-find_all-in_default : goal.returns-in_ok-find_all-in_default
-returns-in_ok-find_all-in_default c =
-    let opened = c.in_ok-parts-in_default.parts.value in
-    let others = c.into_inner-pieces.result in
-    let same = c.into_inner-pieces.ensures in
-    let found =
-    c.in_ok-find_all-in_default.ensures.found ∙ (ap (λ p. p.found.items ++ others.found.items) c.deref_mut-in_default.ensures.value
-    ∙ (ap (λ l. l ++ others.found.items) (c.in_ok-push_all-in_default.ensures.found ∙ ap (λ p. p.found.items) c.deref_mut.ensures.value)
-    ∙ ap (λ p. opened.found.items ++ p.found.items) same)) in
-    tells-more c.args.told _ opened c.find_all.new.parts (λ i. pieces_say i c.args.others.value.pieces.items) c.args.others.value.found.items c.in_ok-parts-in_default.ensures (record { says = λ i rest. refl; found = refl })
-    (λ i rest.
-    ap (λ l. pieces_say i l rest) (c.in_ok-find_all-in_default.ensures.pieces ∙ ap (λ p. p.pieces.items) c.deref_mut-in_default.ensures.value)
-    ∙ (c.in_ok-push_all-in_default.ensures.pieces i rest
-    ∙ (ap (λ p. pieces_say i p.pieces.items (pieces_say i others.pieces.items rest)) c.deref_mut.ensures.value
-    ∙ ap (λ p. pieces_say i opened.pieces.items (pieces_say i p.pieces.items rest)) same))) found
+pub returns-in_ok-parts-in-Used : goal.returns-in_ok-parts-in-Used
+returns-in_ok-parts-in-Used c = used-tells c.args.told _ c.in-Used.atom c.args.others.value c.in_ok-parts-in-Used.parts.value c.in-Used.is (record { says = λ i rest. refl; found = refl }) c.in_ok-parts-in-Used.ensures
+
+pub returns-in_ok-parts-in-Two : goal.returns-in_ok-parts-in-Two
+returns-in_ok-parts-in-Two c =
+    two-tell c.args.told _ c.in-Two.first c.in-Two.second c.args.others.value c.in_ok-rest-in-Two.rest.value c.in_ok-parts-in-Two.parts.value c.in-Two.is (record { says = λ i rest. refl; found = refl }) c.in_ok-rest-in-Two.ensures
+    c.in_ok-parts-in-Two.ensures
+
+pub returns-in_ok-parts-in-Parts : goal.returns-in_ok-parts-in-Parts
+returns-in_ok-parts-in-Parts c =
+    joined-tell c.args.told _ c.in-Parts.parts.value c.args.others.value c.in_ok-parts-in-Parts.parts.value (subst (λ t. ArePartsOf t c.in-Parts.parts.value) (sym c.in-Parts.is) (record { says = λ i rest. refl; found = refl }))
+    (record { says = λ i rest. refl; found = refl }) c.in_ok-parts-in-Parts.ensures

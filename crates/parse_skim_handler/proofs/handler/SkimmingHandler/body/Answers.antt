@@ -5,7 +5,7 @@ use Rattle.parse_early_handler.specs.Firsts.{strict_first}
 use Rattle.parse_early_handler.proofs.Statements.{strict-first}
 use Rattle.parse_track_handler.proofs.PieceEquations.{says-Many}
 use Rattle.parse_track_handler.proofs.Saying.{same-says}
-use Rattle.parse_skim_handler.specs.Kept.{stmt_errors}
+use Rattle.parse_skim_handler.specs.Packed.{stmt_errors}
 use Rattle.parse_skim_handler.proofs.Meanings.{begun}
 use Rattle.parse_skim_handler.proofs.StandingParts.{stmt_errors-shown, stmts-stand}
 use Rattle.parse_skim_handler.proofs.handler.SkimmingHandler.body.Goals as goal

@@ -7,4 +7,4 @@ use Rattle.parse_skim_handler.proofs.StandingParts.{items-stand}
 use Rattle.parse_skim_handler.proofs.handler.SkimmingHandler.make_array.Goals as goal
 
 pub returns : goal.returns
-returns c = λ i ts h. expr-made i c.other.result (model.Array c.args.at (items_of ts) c.args._comma) _ _ c.other.ensures (begun i (c.nothing.ensures i) (c.in_ok-kept.ensures i)) (items-stand i c.args.items.items ts h) (λ e k. (refl, refl))
+returns c = λ i ts h. expr-made i c.in_ok-node.node (model.Array c.args.at (items_of ts) c.args._comma) _ _ c.in_ok-node.ensures (begun i (c.nothing.ensures i) (c.in_ok-kept.ensures i)) (items-stand i c.args.items.items ts h) (λ e k. (refl, refl))

@@ -7,4 +7,4 @@ use Rattle.parse_skim_handler.proofs.StandingParts.{binds-stand}
 use Rattle.parse_skim_handler.proofs.handler.SkimmingHandler.make_binds.Goals as goal
 
 pub returns : goal.returns
-returns c = λ i bs h. stmt-made i c.plain.result (model.Binding c.args.decl (binds_of bs) c.args._semi) false c.plain.ensures refl refl (begun i (c.nothing.ensures i) (c.in_ok-kept.ensures i)) (λ top. binds-stand i c.args.decl c.args.binds.items bs h)
+returns c = λ i bs h. stmt-made i c.in_ok-node.node (model.Binding c.args.decl (binds_of bs) c.args._semi) false c.in_ok-node.ensures refl refl (begun i (c.nothing.ensures i) (c.in_ok-kept.ensures i)) (λ top. binds-stand i c.args.decl c.args.binds.items bs h)

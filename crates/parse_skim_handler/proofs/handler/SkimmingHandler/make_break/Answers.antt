@@ -11,7 +11,7 @@ use Rattle.parse_skim_handler.proofs.handler.SkimmingHandler.make_break.Goals as
 
 pub returns : goal.returns
 returns c = λ i.
-    stmt-made i c.plain.result (model.Break c.args.at (maybe_named i c.args.label) c.args._semi) false c.plain.ensures refl refl (begun i (c.nothing.ensures i) (c.in_ok-kept.ensures i))
+    stmt-made i c.in_ok-node.node (model.Break c.args.at (maybe_named i c.args.label) c.args._semi) false c.in_ok-node.ensures refl refl (begun i (c.nothing.ensures i) (c.in_ok-kept.ensures i))
     (λ top. record {
       says = same-says (says-Jumped i jump.Break c.args.at c.args.label) (tell-says (tell.tells_jump jump.Break c.args.at (maybe_named i c.args.label)));
       puts = λ r. refl;

@@ -11,7 +11,7 @@ use Rattle.parse_skim_handler.proofs.handler.SkimmingHandler.make_continue.Goals
 
 pub returns : goal.returns
 returns c = λ i.
-    stmt-made i c.plain.result (model.Continue c.args.at (maybe_named i c.args.label) c.args._semi) false c.plain.ensures refl refl (begun i (c.nothing.ensures i) (c.in_ok-kept.ensures i))
+    stmt-made i c.in_ok-node.node (model.Continue c.args.at (maybe_named i c.args.label) c.args._semi) false c.in_ok-node.ensures refl refl (begun i (c.nothing.ensures i) (c.in_ok-kept.ensures i))
     (λ top. record {
       says = same-says (says-Jumped i jump.Continue c.args.at c.args.label) (tell-says (tell.tells_jump jump.Continue c.args.at (maybe_named i c.args.label)));
       puts = λ r. refl;

@@ -5,4 +5,4 @@ use Rattle.parse_skim_handler.proofs.Standing.{nothing-stands}
 use Rattle.parse_skim_handler.proofs.handler.SkimmingHandler.make_debugger.Goals as goal
 
 pub returns : goal.returns
-returns c = λ i. stmt-made i c.plain.result (model.Debugger c.args._semi) false c.plain.ensures refl refl (c.nothing.ensures i) (λ top. nothing-stands i)
+returns c = λ i. stmt-made i c.in_ok-node.node (model.Debugger c.args._semi) false c.in_ok-node.ensures refl refl (c.nothing.ensures i) (λ top. nothing-stands i)

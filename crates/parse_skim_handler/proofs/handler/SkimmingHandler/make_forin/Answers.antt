@@ -12,5 +12,5 @@ returns c = λ i n t b h q w.
     let inside = begun i (c.nothing.ensures i) (adds-then i (c.in_ok-begun.ensures i) (adds-then i (c.in_ok-listed.ensures i) (c.in_ok-inside.ensures i))) in
     let parts = then-stands i (each-stands i c.args.each n h) (then-stands i q.stands (w.stands false)) in
     let head = begun i (c.nothing-2.ensures i) (c.in_ok-head.ensures i) in
-    stmt-made i c.looping.result (model.ForIn n t b) true c.looping.ensures refl refl (begun i (c.nothing-3.ensures i) (c.in_ok-kept.ensures i))
+    stmt-made i c.in_ok-node.node (model.ForIn n t b) true c.in_ok-node.ensures refl refl (begun i (c.nothing-3.ensures i) (c.in_ok-kept.ensures i))
     (λ top. region-stands i told.Loop 0 (kept-stands i head (region-stands i told.ForHead 0 (kept-stands i inside parts))))

@@ -11,5 +11,5 @@ use Rattle.parse_skim_handler.proofs.handler.SkimmingHandler.make_label.Goals as
 
 pub returns : goal.returns
 returns c = λ i b h.
-    stmt-made i c.looping.result (model.Label (named i c.args.name) b) true c.looping.ensures refl refl (begun i (c.nothing.ensures i) (c.in_ok-kept.ensures i))
+    stmt-made i c.in_ok-node.node (model.Label (named i c.args.name) b) true c.in_ok-node.ensures refl refl (begun i (c.nothing.ensures i) (c.in_ok-kept.ensures i))
     (λ top. region-kept i (told.Label (tell.spelled (named i c.args.name))) 0 (c.in_ok-inside.ensures i) (label-stands i c.args.name c.args.body b h))

@@ -8,4 +8,4 @@ use Rattle.parse_skim_handler.proofs.StandingParts.{maybe_args-stand}
 use Rattle.parse_skim_handler.proofs.handler.SkimmingHandler.make_new.Goals as goal
 
 pub returns : goal.returns
-returns c = λ i t a h q. expr-made i c.other.result (model.New c.args.at t (maybe_args_of a)) _ _ c.other.ensures (from i (c.of_expr.ensures i) (c.in_ok-kept.ensures i)) (then-stands i h.stands (maybe_args-stand i c.args.args a q)) (λ e k. (refl, refl))
+returns c = λ i t a h q. expr-made i c.in_ok-node.node (model.New c.args.at t (maybe_args_of a)) _ _ c.in_ok-node.ensures (from i (c.of_expr.ensures i) (c.in_ok-kept.ensures i)) (then-stands i h.stands (maybe_args-stand i c.args.args a q)) (λ e k. (refl, refl))

@@ -7,4 +7,4 @@ use Rattle.parse_skim_handler.proofs.StandingParts.{maybe_expr-stands}
 use Rattle.parse_skim_handler.proofs.handler.SkimmingHandler.make_return.Goals as goal
 
 pub returns : goal.returns
-returns c = λ i t h. stmt-made i c.plain.result (model.Return (maybe_expr_of t) c.args._semi) false c.plain.ensures refl refl (begun i (c.nothing.ensures i) (c.in_ok-kept.ensures i)) (λ top. maybe_expr-stands i c.args.value t h)
+returns c = λ i t h. stmt-made i c.in_ok-node.node (model.Return (maybe_expr_of t) c.args._semi) false c.in_ok-node.ensures refl refl (begun i (c.nothing.ensures i) (c.in_ok-kept.ensures i)) (λ top. maybe_expr-stands i c.args.value t h)

@@ -8,4 +8,4 @@ use Rattle.parse_skim_handler.proofs.StandingParts.{key-stands}
 use Rattle.parse_skim_handler.proofs.handler.SkimmingHandler.make_set.Goals as goal
 
 pub returns : goal.returns
-returns c = λ i k f h q. prop-made i c.prop.result (model.Set k f) _ c.prop.ensures (begun i (c.nothing.ensures i) (adds-then i (c.in_ok-named.ensures i) (c.in_ok-kept.ensures i))) (then-stands i (key-stands i c.args.key k h) (function-stands i false c.args.func f q)) (λ e w. refl)
+returns c = λ i k f h q. prop-made i c.in_ok-node.node (model.Set k f) _ c.in_ok-node.ensures (begun i (c.nothing.ensures i) (adds-then i (c.in_ok-named.ensures i) (c.in_ok-kept.ensures i))) (then-stands i (key-stands i c.args.key k h) (function-stands i false c.args.func f q)) (λ e w. refl)

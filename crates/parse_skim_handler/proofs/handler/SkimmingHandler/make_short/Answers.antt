@@ -7,4 +7,4 @@ use Rattle.parse_skim_handler.proofs.Made.{prop-noted}
 use Rattle.parse_skim_handler.proofs.handler.SkimmingHandler.make_short.Goals as goal
 
 pub returns : goal.returns
-returns c = λ i. prop-noted i _ (model.Short (named i c.args.name)) (tell-says (tell.tells_use (text_of i c.args.name.atom))) (λ r. refl) (c.in_ok-errors.ensures i)
+returns c = λ i. prop-noted i _ _ c.in_ok-node.ensures (model.Short (named i c.args.name)) (tell-says (tell.tells_use (text_of i c.args.name.atom))) (λ r. refl) (c.in_ok-errors.ensures i)

@@ -6,4 +6,4 @@ use Rattle.parse_skim_handler.proofs.Made.{quiet-made}
 use Rattle.parse_skim_handler.proofs.handler.SkimmingHandler.make_str.Goals as goal
 
 pub returns : goal.returns
-returns c = λ i. quiet-made i c.quiet.result (model.Str c.args.at c.args.end (text_of i c.args.atom)) c.in_ok-errors.errors c.quiet.ensures none-says (λ r. refl) (c.in_ok-errors.ensures i)
+returns c = λ i. quiet-made i c.in_ok-node.node (model.Str c.args.at c.args.end (text_of i c.args.atom)) c.in_ok-errors.errors c.in_ok-node.ensures none-says (λ r. refl) (c.in_ok-errors.ensures i)

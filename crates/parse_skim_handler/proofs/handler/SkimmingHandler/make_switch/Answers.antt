@@ -11,5 +11,5 @@ use Rattle.parse_skim_handler.proofs.handler.SkimmingHandler.make_switch.Goals a
 pub returns : goal.returns
 returns c = λ i t cs h q.
     let inside = begun i (c.nothing.ensures i) (c.in_ok-inside.ensures i) in
-    stmt-made i c.plain.result (model.Switch t (clauses_of cs)) false c.plain.ensures refl refl (from i (c.of_expr.ensures i) (c.in_ok-kept.ensures i))
+    stmt-made i c.in_ok-node.node (model.Switch t (clauses_of cs)) false c.in_ok-node.ensures refl refl (from i (c.of_expr.ensures i) (c.in_ok-kept.ensures i))
     (λ top. then-stands i h.stands (region-stands i told.Switch 0 (kept-stands i inside (clauses-stand i c.args.clauses.items cs q))))

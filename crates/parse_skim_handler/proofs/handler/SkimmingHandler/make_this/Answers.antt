@@ -10,4 +10,4 @@ use Rattle.parse_skim_handler.proofs.handler.SkimmingHandler.make_this.Goals as 
 pub returns : goal.returns
 returns c = λ i.
     let kept = begun i (c.nothing.ensures i) (c.in_ok-kept.ensures i) in
-    expr-noted i _ (model.This c.args.at) (same-says kept.says (same-says (says-This i) (tell-says (tell.tells_use (codes ".this"))))) kept.puts (c.in_ok-errors.ensures i)
+    expr-noted i _ _ c.in_ok-node.ensures (model.This c.args.at) (same-says kept.says (same-says (says-This i) (tell-says (tell.tells_use (codes ".this"))))) kept.puts (c.in_ok-errors.ensures i)

@@ -9,5 +9,5 @@ use Rattle.parse_skim_handler.proofs.handler.SkimmingHandler.make_try.Goals as g
 
 pub returns : goal.returns
 returns c = λ i bs hs h q.
-    stmt-made i c.plain.result (model.Try (stmts_of bs) (maybe_named i c.args.param) (stmts_of hs)) false c.plain.ensures refl refl (begun i (c.nothing.ensures i) (adds-then i (c.in_ok-tried.ensures i) (c.in_ok-kept.ensures i)))
+    stmt-made i c.in_ok-node.node (model.Try (stmts_of bs) (maybe_named i c.args.param) (stmts_of hs)) false c.in_ok-node.ensures refl refl (begun i (c.nothing.ensures i) (adds-then i (c.in_ok-tried.ensures i) (c.in_ok-kept.ensures i)))
     (λ top. try-stands i top c.args.param c.args.body.items c.args.handler.items bs hs h q)

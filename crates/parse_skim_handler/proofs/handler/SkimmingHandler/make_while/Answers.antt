@@ -9,5 +9,5 @@ use Rattle.parse_skim_handler.proofs.handler.SkimmingHandler.make_while.Goals as
 pub returns : goal.returns
 returns c = λ i t b h q.
     let inside = from i (c.of_expr.ensures i) (c.in_ok-inside.ensures i) in
-    stmt-made i c.looping.result (model.While t b) true c.looping.ensures refl refl (begun i (c.nothing.ensures i) (c.in_ok-kept.ensures i))
+    stmt-made i c.in_ok-node.node (model.While t b) true c.in_ok-node.ensures refl refl (begun i (c.nothing.ensures i) (c.in_ok-kept.ensures i))
     (λ top. region-stands i told.Loop 0 (kept-stands i inside (then-stands i h.stands (q.stands false))))

@@ -1,6 +1,6 @@
 use Rattle.std.proofs.Common.{ap, map, sym, ◌∙◌}
 use Rattle.parse_early_handler.specs.Firsts.{many_args}
-use Rattle.parse_skim_handler.specs.Kept.{expr_errors}
+use Rattle.parse_skim_handler.specs.Packed.{expr_errors}
 use Rattle.parse_skim_handler.specs.Meaning.{error_meant}
 use Rattle.parse_skim_handler.proofs.Meanings.{adds-as, adds-then, if_ok}
 use Rattle.parse_skim_handler.proofs.parts.NodeArgsSkimExprSkim.skim.Goals as goal

@@ -1,0 +1,45 @@
+-- What is packed, whole again.
+use Rattle.std.specs.Prelude.{false, None}
+use Rattle.parse_early_handler.specs.declared.directive.Directive.TheVariants as kind
+use Rattle.parse_early_handler.specs.declared.nodes.ExprErrors.{ExprErrors}
+use Rattle.parse_early_handler.specs.declared.nodes.PropErrors.{PropErrors}
+use Rattle.parse_early_handler.specs.declared.nodes.StmtErrors.{StmtErrors}
+use Rattle.parse_skim_handler.specs.declared.nodes.SkimExpr.{SkimExpr}
+use Rattle.parse_skim_handler.specs.declared.nodes.SkimProp.{SkimProp}
+use Rattle.parse_skim_handler.specs.declared.nodes.SkimStmt.{SkimStmt}
+use Rattle.parse_skim_handler.specs.declared.nodes.WholeExpr.{WholeExpr}
+use Rattle.parse_skim_handler.specs.declared.nodes.WholeProp.{WholeProp}
+use Rattle.parse_skim_handler.specs.declared.packed.Packed.{Packed}
+use Rattle.parse_skim_handler.specs.declared.packed.Packed.TheVariants as packed
+use Rattle.parse_skim_handler.specs.declared.packed.Whole.{Whole}
+use Rattle.parse_skim_handler.specs.declared.told.Told.{Told}
+use Rattle.parse_skim_handler.specs.declared.told.Told.TheVariants as told
+
+-- nothing but what is told
+abbrev pub plain : Told → Whole
+plain t = record { declares = None; labels_on = false; told = t; errors = record { first = None; directive = kind.No } }
+
+abbrev pub unpacked : Packed → Whole
+unpacked packed.Nothing = plain told.Nothing
+unpacked (packed.Used atom) = plain (told.Used atom)
+unpacked (packed.Two first second) = plain (told.Two first second)
+unpacked (packed.Parts parts) = plain (told.Parts parts)
+unpacked (packed.More whole) = whole.value
+
+abbrev pub whole_expr : SkimExpr → WholeExpr
+whole_expr n = record { told = (unpacked n.kept).told; errors = record { first = (unpacked n.kept).errors.first; start = n.start; shape = n.shape } }
+
+abbrev pub whole_prop : SkimProp → WholeProp
+whole_prop n = record { told = (unpacked n.kept).told; errors = record { first = (unpacked n.kept).errors.first; proto = n.proto } }
+
+abbrev pub whole_stmt : SkimStmt → Whole
+whole_stmt n = unpacked n.kept
+
+abbrev pub expr_errors : SkimExpr → ExprErrors
+expr_errors n = (whole_expr n).errors
+
+abbrev pub prop_errors : SkimProp → PropErrors
+prop_errors n = (whole_prop n).errors
+
+abbrev pub stmt_errors : SkimStmt → StmtErrors
+stmt_errors n = (whole_stmt n).errors

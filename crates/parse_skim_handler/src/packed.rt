@@ -1,0 +1,234 @@
+//! What is kept of a part, in 16 bytes of memory.
+
+ghost use Rattle.std.specs.Prelude.{◌≡◌, IfOk};
+ghost use Rattle.parse_skim_handler.specs.Packed.{plain, stmt_errors, unpacked, whole_expr, whole_prop, whole_stmt};
+
+use crate::nodes::{SkimExpr, SkimProp, SkimStmt, WholeExpr, WholeProp};
+use crate::told::{Parts, Told};
+use parse_early_handler::{Directive, ExprErrors, PropErrors, StmtErrors};
+use script_grammar::tree::Ident;
+use std::alloc::{AllocError, Global};
+
+/// What is kept of a statement; of an expression and of a property, the told and the first early error in it.
+#[derive(Drop)]
+pub struct Whole {
+    /// The name of the function that the statement declares, which depends on where the statement stands how it is declared.
+    pub declares: Option<Ident>,
+    /// Whether the statement is a loop or has a label, so that a label before it labels a loop.
+    pub labels_on: bool,
+    /// All else that it tells, and the functions in it.
+    pub told: Told,
+    pub errors: StmtErrors,
+}
+
+/// The same, packed. Of most parts nothing is kept but what they tell: only what has more takes a box for it.
+#[derive(Drop)]
+pub enum Packed {
+    Nothing,
+    /// A name is used, by its atom.
+    Used { atom: u32 },
+    /// Two names are used, one after the other.
+    Two { first: u32, second: u32 },
+    Parts(Box<Parts>),
+    /// More is kept than what is told.
+    More(Box<Whole>),
+}
+
+const _: () = prove!(size_of::<Packed>() == 16);
+
+/// Of a part nothing is kept but what it tells.
+fn pack_told(told: Told) -> Packed
+    ensures { unpacked result ≡ plain told }
+{
+    match told {
+        Told::Nothing => Packed::Nothing,
+        Told::Used { atom } => Packed::Used { atom },
+        Told::Two { first, second } => Packed::Two { first, second },
+        Told::Parts(parts) => Packed::Parts(parts),
+    }
+}
+
+/// Of a part nothing is kept but what it tells.
+fn plain(told: Told) -> Whole
+    ensures { result ≡ plain told }
+{
+    Whole {
+        declares: None,
+        labels_on: false,
+        told,
+        errors: StmtErrors {
+            first: None,
+            directive: Directive::No,
+        },
+    }
+}
+
+/// What is kept, packed.
+pub(crate) fn pack(alloc: Global, whole: Whole) -> Result<Packed, AllocError>
+    ensures { IfOk result (λ made. unpacked made ≡ whole) }
+{
+    match whole {
+        Whole {
+            declares: None,
+            labels_on: false,
+            told,
+            errors: StmtErrors {
+                first: None,
+                directive: Directive::No,
+            },
+        } => Ok(pack_told(told)),
+        more => Ok(Packed::More(Box::new(alloc, more)?)),
+    }
+}
+
+impl Packed {
+    /// What is kept, unpacked.
+    pub(crate) fn whole(self) -> Whole
+        ensures { result ≡ unpacked self }
+    {
+        match self {
+            Packed::Nothing => plain(Told::Nothing),
+            Packed::Used { atom } => plain(Told::Used { atom }),
+            Packed::Two { first, second } => plain(Told::Two { first, second }),
+            Packed::Parts(parts) => plain(Told::Parts(parts)),
+            Packed::More(whole) => Box::into_inner(whole),
+        }
+    }
+}
+
+/// What is kept of an expression, packed.
+pub(crate) fn pack_expr(alloc: Global, expr: WholeExpr) -> Result<SkimExpr, AllocError>
+    ensures { IfOk result (λ made. whole_expr made ≡ expr) }
+{
+    let WholeExpr { told, errors } = expr;
+    let ExprErrors {
+        first,
+        start,
+        shape,
+    } = errors;
+    let errors = StmtErrors {
+        first,
+        directive: Directive::No,
+    };
+    let whole = Whole {
+        declares: None,
+        labels_on: false,
+        told,
+        errors,
+    };
+    let kept = pack(alloc, whole)?;
+    Ok(SkimExpr { kept, start, shape })
+}
+
+/// What is kept of a property, packed.
+pub(crate) fn pack_prop(alloc: Global, prop: WholeProp) -> Result<SkimProp, AllocError>
+    ensures { IfOk result (λ made. whole_prop made ≡ prop) }
+{
+    let WholeProp { told, errors } = prop;
+    let PropErrors { first, proto } = errors;
+    let errors = StmtErrors {
+        first,
+        directive: Directive::No,
+    };
+    let whole = Whole {
+        declares: None,
+        labels_on: false,
+        told,
+        errors,
+    };
+    let kept = pack(alloc, whole)?;
+    Ok(SkimProp { kept, proto })
+}
+
+/// What is kept of a statement, packed.
+pub(crate) fn pack_stmt(alloc: Global, whole: Whole) -> Result<SkimStmt, AllocError>
+    ensures { IfOk result (λ made. whole_stmt made ≡ whole) }
+{
+    let kept = pack(alloc, whole)?;
+    Ok(SkimStmt { kept })
+}
+
+impl SkimExpr {
+    /// What is kept of the expression, unpacked.
+    pub fn whole(self) -> WholeExpr
+        ensures { result ≡ whole_expr self }
+    {
+        let SkimExpr { kept, start, shape } = self;
+        let Whole {
+            declares: _,
+            labels_on: _,
+            told,
+            errors,
+        } = kept.whole();
+        let first = errors.first;
+        WholeExpr {
+            told,
+            errors: ExprErrors {
+                first,
+                start,
+                shape,
+            },
+        }
+    }
+}
+
+impl SkimProp {
+    /// What is kept of the property, unpacked.
+    pub(crate) fn whole(self) -> WholeProp
+        ensures { result ≡ whole_prop self }
+    {
+        let SkimProp { kept, proto } = self;
+        let Whole {
+            declares: _,
+            labels_on: _,
+            told,
+            errors,
+        } = kept.whole();
+        let first = errors.first;
+        WholeProp {
+            told,
+            errors: PropErrors { first, proto },
+        }
+    }
+}
+
+impl SkimStmt {
+    /// What is kept of the statement, unpacked.
+    pub(crate) fn whole(self) -> Whole
+        ensures { result ≡ whole_stmt self }
+    {
+        self.kept.whole()
+    }
+
+    /// Whether the statement is a loop or has a label.
+    pub(crate) fn labels_on(&self) -> bool
+        ensures { result ≡ (whole_stmt self.now).labels_on }
+    {
+        match &self.kept {
+            Packed::Nothing => false,
+            Packed::Used { atom: _ } => false,
+            Packed::Two {
+                first: _,
+                second: _,
+            } => false,
+            Packed::Parts(_) => false,
+            Packed::More(whole) => whole.labels_on,
+        }
+    }
+
+    /// Which directive the statement is.
+    pub(crate) fn directive(&self) -> Directive
+        ensures { result ≡ (stmt_errors self.now).directive }
+    {
+        match &self.kept {
+            Packed::Nothing => Directive::No,
+            Packed::Used { atom: _ } => Directive::No,
+            Packed::Two {
+                first: _,
+                second: _,
+            } => Directive::No,
+            Packed::Parts(_) => Directive::No,
+            Packed::More(whole) => whole.errors.directive,
+        }
+    }
+}

@@ -12,7 +12,7 @@ use std::sync::Wait;
 use std::thread::Threads;
 
 /// How many pieces are made before they are written.
-pub(crate) const ROUND: usize = 32;
+pub(crate) const ROUND: usize = 128;
 
 /// Pieces as tasks: the task of a number makes the text of the piece of that number.
 #[derive(Drop)]
@@ -96,7 +96,7 @@ pub(crate) fn texts_of<R: Threads + Wait + Sync, G: Gate>(
     gate: &G,
 ) -> Result<Vec<Vec<u8>>, AllocError>
     requires pieces { AllArePieces script.now pieces.now }
-    requires few { length pieces.now ≤ 32 }
+    requires few { length pieces.now ≤ 128 }
     requires workers { (1 ≤ workers) × (workers ≤ 16) }
     ensures { IfOk result (λ texts. AreTextsOf script.now pieces.now texts.items) }
 {

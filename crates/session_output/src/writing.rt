@@ -43,7 +43,7 @@ fn write_round<R: Threads + Wait + Sync, G: Gate, K: Sink>(
 ) -> Result<(), SinkRefusal>
     requires faults { K.faults sink.old < 2 ^ 64 - 1 }
     requires pieces { AllArePieces script.now pieces.now }
-    requires few { length pieces.now ≤ 32 }
+    requires few { length pieces.now ≤ 128 }
     requires workers { (1 ≤ workers) × (workers ≤ 16) }
     ensures count { CountsSink (K.faults sink.old) (K.faults sink.new) result }
     ensures took { (from to : Place) → Lead script.now.listing script.now.stencil from pieces.now to → GainsBetween script.now from to (K.taken sink.old) (K.taken sink.new) result }
@@ -59,7 +59,7 @@ fn pieces_behind(pieces: &[Piece], done: usize) -> &[Piece]
     requires { done < length pieces.now }
     ensures are { result.now ≡ take (length result.now) (drop done pieces.now) }
     ensures some { 0 < length result.now }
-    ensures few { length result.now ≤ 32 }
+    ensures few { length result.now ≤ 128 }
     ensures within { length result.now ≤ length pieces.now - done }
 {
     let count = (pieces.len() - done).min(ROUND);

@@ -1,9 +1,8 @@
 -- Texts that are interned one after another, and their atoms.
-use Rattle.std.proofs.Common.{◌≡◌, ℕ, zero, suc, ◌+◌, ◌-◌, ◌^◌, ◌<◌, ◌≤◌, ◌⊎◌, inl, inr, List, [], ◌∷◌, ◌++◌, length, map, take, drop, get_or, Option, Some, None, refl, sym, ◌∙◌, ap, ap₂, subst, append_assoc, append-nil, arith, length-append, take-append-drop}
+use Rattle.std.proofs.Common.{◌≡◌, ℕ, zero, suc, ◌+◌, ◌-◌, ◌^◌, ◌<◌, ◌≤◌, ◌⊎◌, inl, inr, List, [], ◌∷◌, ◌++◌, length, take, drop, get_or, Option, Some, refl, sym, ◌∙◌, ap, ap₂, subst, append_assoc, append-nil, arith, length-append, take-append-drop}
 use Rattle.std.specs.Prelude.{slice_get}
 use Rattle.std.proofs.lemmas.List.{get_or_past, get_or_append_left, get_or_read, map-append, take_all, take_more}
 use Rattle.std.proofs.lemmas.Option.{get_or_from_slice_get, slice_get_within}
-use Rattle.stencil_data.specs.StandsFor.{text_at}
 use Rattle.parser_atoms.specs.Places.{AreWithoutEquals, StandsIn, Interns}
 use Rattle.parser_atoms.proofs.Interning.{slice_get-append_old, slice_get-append_last, slice_get-append_cases}
 use Rattle.stencil_merge.specs.Atoms.{no_text, atom_by, AreAtoms, TakesIn}

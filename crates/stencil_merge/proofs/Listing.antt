@@ -1,14 +1,14 @@
 -- What code stands for by other texts, once its atoms are changed for those of equal texts and its functions are numbered.
-use Rattle.std.proofs.Common.{◌≡◌, ℕ, ◌+◌, List, [], ◌∷◌, map, Option, Some, None, refl, sym, ◌∙◌, ap, ap₂}
+use Rattle.std.proofs.Common.{◌≡◌, ℕ, ◌+◌, List, [], ◌∷◌, map, refl, ◌∙◌, ap, ap₂}
 use Rattle.std.specs.Prelude.{unwrap_or}
 use Rattle.stencil_data.specs.StandsFor.{text_at}
 use Rattle.bytecode_buf.specs.declared.opcode.Op.{Op}
 use Rattle.bytecode_buf.specs.declared.opcode.Op.TheVariants as op
 use Rattle.bytecode_buf.specs.Width.{shape_of, width_of}
 use Rattle.bytecode_buf.specs.Layout.{Numbered, instructions}
-use Rattle.bytecode_buf.specs.Command.{Nothing, Number, Text, Aliased, Distance, Target, Operand, Command, command_of, command_at, operand_of, operand_at, Listed, listed, listed_from, placed_from, placed}
+use Rattle.bytecode_buf.specs.Command.{Nothing, Number, Text, Aliased, Distance, Target, Operand, Command, operand_of, operand_at, Listed, listed, listed_from, placed_from}
 use Rattle.stencil_merge.specs.Atoms.{atom_by}
-use Rattle.stencil_merge.specs.Instructions.{new_operand, instruction_by, AreInstructionsBy, numbered_operand, numbered_command, numbered_listed, numbered_commands, numbered_list}
+use Rattle.stencil_merge.specs.Instructions.{new_operand, instruction_by, AreInstructionsBy, numbered_operand, numbered_listed, numbered_commands, numbered_list}
 
 -- each atom of the one list, and what is none, is changed for one of an equal text of the other
 abbrev pub AreEqualTexts : List (List ℕ) → List (List ℕ) → List ℕ → Type 0

@@ -1,16 +1,15 @@
 -- What parts stand for once their atoms are changed, texts are put after theirs, or a function is added.
-use Rattle.std.proofs.Common.{◌≡◌, ℕ, zero, suc, ◌+◌, ◌-◌, ◌^◌, ◌<◌, ◌≤◌, List, [], ◌∷◌, ◌++◌, length, map, get_or, Option, Some, None, option_map, refl, sym, ◌∙◌, ap, ap₂, subst, append_assoc, arith}
+use Rattle.std.proofs.Common.{◌≡◌, ℕ, zero, suc, ◌-◌, ◌^◌, ◌<◌, List, [], ◌∷◌, ◌++◌, length, map, get_or, Option, Some, None, option_map, refl, sym, ◌∙◌, ap, subst, append_assoc, arith}
 use Rattle.std.proofs.Math.ListN.{set, replicate}
 use Rattle.stencil_data.specs.declared.stencils.Entry.{Entry}
 use Rattle.stencil_data.specs.declared.stencils.Entry.TheVariants as entry
 use Rattle.stencil_data.specs.MergedView.{MergedView}
-use Rattle.stencil_data.specs.Named.{NamedScope, NamedFunction, NamedRecord, NamedInitial, NamedMerged}
+use Rattle.stencil_data.specs.Named.{NamedFunction, NamedRecord, NamedInitial, NamedMerged}
 use Rattle.stencil_data.specs.StandsFor.{text_at, named_record, NameWithin, ScopesStandFor, RecordsStandFor, FunctionStandsFor, EntryStandsFor, EntriesStandFor, InitialStandsFor, MergedStandsFor}
 use Rattle.stencil_data.specs.Views.{ScopeView, RecordView, FunctionView, InitialView}
-use Rattle.bytecode_buf.specs.Command.{Command, Listed, ShowsCommands, listed}
+use Rattle.bytecode_buf.specs.Command.{ShowsCommands, listed}
 use Rattle.bytecode_buf.specs.Layout.{IsWhole}
-use Rattle.parser_atoms.specs.Places.{AreWithoutEquals}
-use Rattle.stencil_merge.specs.Atoms.{atom_by, record_by, AreAtoms, TakesIn}
+use Rattle.stencil_merge.specs.Atoms.{atom_by, record_by, AreAtoms}
 use Rattle.stencil_merge.specs.Functions.{inner_of, named_inner_of, numbers_in, outermost}
 use Rattle.stencil_merge.specs.Instructions.{AreInstructionsBy, ShowsListed, numbered_list, numbered_commands}
 use Rattle.stencil_merge.specs.Parts.{IsFunctionBy}

@@ -1,16 +1,13 @@
 -- Parts whose atoms are changed for others of equal texts stand for the same.
-use Rattle.std.proofs.Common.{◌≡◌, ℕ, ◌<◌, List, [], ◌∷◌, length, map, Option, Some, None, option_map, refl, sym, ◌∙◌, ap, ap₂, subst}
+use Rattle.std.proofs.Common.{◌≡◌, ℕ, ◌<◌, List, [], ◌∷◌, length, map, Option, Some, None, option_map, refl, ◌∙◌, ap, ap₂}
 use Rattle.stencil_data.specs.declared.chains.LinkName.{LinkName}
 use Rattle.stencil_data.specs.declared.records.ClosedName.{ClosedName}
 use Rattle.stencil_data.specs.declared.scopes.Binding.{Binding}
 use Rattle.stencil_data.specs.declared.scopes.BindKind.{BindKind}
 use Rattle.stencil_data.specs.declared.scopes.Slot.{Slot}
-use Rattle.stencil_data.specs.declared.scopes.ScopeKind.{ScopeKind}
-use Rattle.stencil_data.specs.declared.functions.Extent.{Extent}
-use Rattle.stencil_data.specs.declared.functions.FuncKind.{FuncKind}
-use Rattle.stencil_data.specs.Named.{NamedScope, NamedFunction, NamedClosed, NamedRecord}
-use Rattle.stencil_data.specs.StandsFor.{text_at, named_binding, named_bindings, named_scope, named_closed, named_record, BindingsWithin, ScopesWithin, ClosedWithin, NameWithin, RecordWithin, RecordsWithin, ScopesStandFor, RecordsStandFor, FunctionStandsFor}
-use Rattle.stencil_data.specs.Views.{ScopeView, RecordView, FunctionView}
+use Rattle.stencil_data.specs.Named.{NamedScope, NamedClosed, NamedRecord}
+use Rattle.stencil_data.specs.StandsFor.{text_at, named_bindings, named_scope, named_closed, named_record, BindingsWithin, ScopesWithin, ClosedWithin, NameWithin, RecordWithin, RecordsWithin, ScopesStandFor, RecordsStandFor}
+use Rattle.stencil_data.specs.Views.{ScopeView, RecordView}
 
 -- each atom is changed for one of an equal text among others
 pub record Moves (texts other : List (List ℕ)) (to : ℕ → ℕ) : Type 0 where

@@ -1,5 +1,5 @@
 -- A loop over instructions, some of which get another operand.
-use Rattle.std.proofs.Common.{◌≡◌, ℕ, ◌+◌, ◌<◌, ◌≤◌, List, [], ◌∷◌, ◌++◌, length, take, drop, map, Option, Some, None, option_map, refl, sym, ◌∙◌, ap, ap₂, subst, append_assoc, arith, length-drop, length-take-le, take-append-drop, take-add, drop-drop, take_at, drop_at, IsTrue, IsSomeAnd, Bool, true, false}
+use Rattle.std.proofs.Common.{◌≡◌, ℕ, ◌+◌, ◌-◌, ◌<◌, ◌≤◌, List, [], ◌∷◌, ◌++◌, length, take, drop, map, Option, Some, None, option_map, refl, sym, ◌∙◌, ap, ap₂, subst, append_assoc, arith, length-drop, length-take-le, take-append-drop, take-add, drop-drop, take_at, drop_at, IsTrue, IsSomeAnd, Bool, true, false}
 use Rattle.std.specs.Prelude.{unwrap_or}
 use Rattle.bytecode_buf.specs.declared.instruction.Instr.{Instr}
 use Rattle.bytecode_buf.specs.declared.opcode.Op.{Op}
@@ -8,10 +8,11 @@ use Rattle.bytecode_buf.specs.declared.opcode.Shape.{Shape}
 use Rattle.bytecode_buf.specs.declared.opcode.Shape.TheVariants as shape
 use Rattle.bytecode_buf.specs.Bytes.{le_bytes, written}
 use Rattle.bytecode_buf.specs.Width.{shape_of, width_of, first_of, second_of, is_jump, is_jump_shape, has_number, has_number_shape}
-use Rattle.bytecode_buf.specs.Layout.{Numbered, decoded, instructions, instr_at, instr_by, renumbered, BeginsNumbered, IsWhole, laid, layout}
-use Rattle.bytecode_buf.proofs.Decode.{numbered_widths}
+use Rattle.bytecode_buf.specs.Layout.{Numbered, decoded, decoded_as, instructions, instr_at, instr_by, renumbered, BeginsNumbered, IsWhole, laid, layout}
+use Rattle.bytecode_buf.proofs.Decode.{decoded_as-whole, numbered_widths}
 use Rattle.bytecode_buf.proofs.ReadBack.{length-laid}
-use Rattle.stencil_merge.specs.Instructions.{made_number, new_operand_of, new_operand, instruction_by, AreInstructionsBy}
+use Rattle.stencil_merge.specs.declared.code.Step.{Step}
+use Rattle.stencil_merge.specs.Instructions.{made_number, new_operand_of, new_operand, instruction_by, AreInstructionsBy, step_at, makes_function, is_numbered}
 use Rattle.stencil_merge.proofs.Decoding.{instructions_some, instructions_no, decoded_local, decoded_room, take_written, drop_written, laid_written}
 
 -- ---- the loop
@@ -144,29 +145,13 @@ no_jump shape.Num is = refl
 no_jump shape.Jump is = absurd (cc)
 no_jump _ is = refl
 
-is_numbered : (atoms numbers : List ℕ) (o : Op) (a n : ℕ) → new_operand atoms numbers o a ≡ Some n → has_number o ≡ true
-is_numbered atoms numbers o a n made = numbered_by atoms numbers o (shape_of o) a n refl made
+made_numbered : (atoms numbers : List ℕ) (o : Op) (a n : ℕ) → new_operand atoms numbers o a ≡ Some n → has_number o ≡ true
+made_numbered atoms numbers o a n made = numbered_by atoms numbers o (shape_of o) a n refl made
 
 -- ---- the parts of a proof
 
 pub begins : (atoms numbers code : List ℕ) → Renumbering atoms numbers code code 0
 begins atoms numbers code = (refl, λ rest is. is, λ whole. (whole, λ rest is. is))
-
--- the loop's measure falls
-pub falls : (code : List ℕ) (at : ℕ) (instr : Instr) → Some instr ≡ option_map (instr_at at) (decoded (drop at code)) → (at < instr.next) × (instr.next ≤ length code)
-falls code at instr is = (omega (arith, next), omega (arith, next, room, length-drop at code, some))
-  where
-    r : Reads code at instr
-    r = reads code at instr is
-
-    next : at + width_of r.i.op ≡ instr.next
-    next = next_is code at instr r
-
-    room : width_of r.i.op ≤ length (drop at code)
-    room = decoded_room (drop at code) r.i r.at_place
-
-    some : 1 ≤ width_of r.i.op
-    some = omega arith
 
 -- an instruction with no other operand is passed over
 pub passes : (atoms numbers before now : List ℕ) (at : ℕ) (instr : Instr) → Some instr ≡ option_map (instr_at at) (decoded (drop at now)) → None ≡ new_operand atoms numbers instr.op instr.a → Renumbering atoms numbers before now at → Renumbering atoms numbers before now instr.next
@@ -187,7 +172,7 @@ passes atoms numbers before now at instr is none r = turned atoms numbers before
     same = ap (λ (x : ℕ). let n : Numbered = record { op = read.i.op; a = x; b = read.i.b } in n) (unmade atoms numbers read.i.op instr.a read.i.a (ap (λ (o : Op). new_operand atoms numbers o instr.a) (sym (op_is now at instr read)) ∙ sym none))
 
 pub begins_numbered : (atoms numbers code : List ℕ) (at : ℕ) (instr : Instr) (n : ℕ) → Some instr ≡ option_map (instr_at at) (decoded (drop at code)) → Some n ≡ new_operand atoms numbers instr.op instr.a → BeginsNumbered (drop at code)
-begins_numbered atoms numbers code at instr n is made = subst (λ (d : Option Numbered). IsSomeAnd d (λ i. IsTrue (has_number i.op))) (sym read.at_place) (subst (λ (o : Op). IsTrue (has_number o)) (op_is code at instr read) (is_numbered atoms numbers instr.op instr.a n (sym made)))
+begins_numbered atoms numbers code at instr n is made = subst (λ (d : Option Numbered). IsSomeAnd d (λ i. IsTrue (has_number i.op))) (sym read.at_place) (subst (λ (o : Op). IsTrue (has_number o)) (op_is code at instr read) (made_numbered atoms numbers instr.op instr.a n (sym made)))
   where
     read : Reads code at instr
     read = reads code at instr is
@@ -212,7 +197,7 @@ makes atoms numbers before now new at instr n is made bytes operand r = turned a
     read = reads now at instr is
 
     numbered : has_number read.i.op ≡ true
-    numbered = ap has_number (sym (op_is now at instr read)) ∙ is_numbered atoms numbers instr.op instr.a n (sym made)
+    numbered = ap has_number (sym (op_is now at instr read)) ∙ made_numbered atoms numbers instr.op instr.a n (sym made)
 
     widths : (first_of read.i.op ≡ 4) × (second_of read.i.op ≡ 0)
     widths = numbered_widths (shape_of read.i.op) numbered
@@ -246,3 +231,94 @@ ends_whole atoms numbers before now at r whole = subst IsWhole (take-append-drop
   where
     around : IsWholeAround before now at
     around = r.2 whole
+
+-- ---- an instruction of which its operand is not read
+
+-- where there is room for its operands, it is the one that is read there
+pub step_is_decoded : (o : Op) (at : ℕ) (behind : List ℕ) (width : ℕ) (step : Step) → width ≡ first_of o + second_of o → width ≤ length behind → step ≡ step_at at (record { op = o; a = 0; b = 0 })
+    → ◌≡◌ {A = Option Step} (Some step) (option_map (step_at at) (decoded_as (Some o) behind))
+step_is_decoded o at behind width step wide room is = ap (λ (x : Step). Some x) is ∙ sym (ap (option_map (step_at at)) (decoded_as-whole o behind (omega (arith, wide, room))))
+
+record Steps (code : List ℕ) (at : ℕ) (step : Step) : Type 0 where
+  pub i : Numbered
+  pub is : step ≡ step_at at i
+  pub at_place : decoded (drop at code) ≡ Some i
+
+steps_by : (code : List ℕ) (at : ℕ) (step : Step) (d : Option Numbered) → decoded (drop at code) ≡ d → Some step ≡ option_map (step_at at) d → Steps code at step
+steps_by code at step None found is = absurd (cc)
+steps_by code at step (Some i) found is = record { i = i; is = cc; at_place = found }
+
+steps : (code : List ℕ) (at : ℕ) (step : Step) → Some step ≡ option_map (step_at at) (decoded (drop at code)) → Steps code at step
+steps code at step is = steps_by code at step (decoded (drop at code)) refl is
+
+step_next : (code : List ℕ) (at : ℕ) (step : Step) (s : Steps code at step) → at + width_of s.i.op ≡ step.next
+step_next code at step s = sym (ap (λ (x : Step). x.next) s.is)
+
+-- the loop's measure falls
+pub step_falls : (before now : List ℕ) (at : ℕ) (step : Step) → Some step ≡ option_map (step_at at) (decoded (drop at now)) → length now ≡ length before → length before - step.next < length before - at
+step_falls before now at step is same = omega (arith, next, room, length-drop at now, some, same)
+  where
+    s : Steps now at step
+    s = steps now at step is
+
+    next : at + width_of s.i.op ≡ step.next
+    next = step_next now at step s
+
+    room : width_of s.i.op ≤ length (drop at now)
+    room = decoded_room (drop at now) s.i s.at_place
+
+    some : 1 ≤ width_of s.i.op
+    some = omega arith
+
+no_function : (numbers : List ℕ) (o : Op) (a : ℕ) → makes_function o ≡ false → made_number numbers o a ≡ None
+no_function numbers op.Lambda a none = absurd (cc)
+no_function numbers _ a none = refl
+
+unnumbered : (atoms numbers : List ℕ) (o : Op) (s : Shape) (a : ℕ) → is_numbered o s ≡ false → new_operand_of atoms numbers o s a ≡ None
+unnumbered atoms numbers o shape.Atom a none = absurd (cc)
+unnumbered atoms numbers o _ a none = no_function numbers o a none
+
+-- one whose operand is no number of a text or of a function stays as it is
+pub step_passes : (atoms numbers before now : List ℕ) (at : ℕ) (step : Step) → Some step ≡ option_map (step_at at) (decoded (drop at now)) → is_numbered step.op step.shape ≡ false → Renumbering atoms numbers before now at → Renumbering atoms numbers before now step.next
+step_passes atoms numbers before now at step is none r = turned atoms numbers before now now at step.next (record {
+  i = s.i;
+  was = s.at_place;
+  next_is = step_next now at step s;
+  front = refl;
+  is = s.at_place ∙ ap (λ (n : Numbered). Some n) (sym same);
+  laid_out = λ as_laid. ap laid same ∙ as_laid;
+  back = refl;
+}) r
+  where
+    s : Steps now at step
+    s = steps now at step is
+
+    no_other : new_operand atoms numbers s.i.op s.i.a ≡ None
+    no_other = unnumbered atoms numbers s.i.op (shape_of s.i.op) s.i.a (sym (ap (λ (x : Step). is_numbered x.op x.shape) s.is) ∙ none)
+
+    same : instruction_by atoms numbers s.i ≡ s.i
+    same = ap (λ (o : Option ℕ). let n : Numbered = record { op = s.i.op; a = unwrap_or o s.i.a; b = s.i.b } in n) no_other
+
+-- the instruction that is read there ends where the step does
+pub step_ends : (code : List ℕ) (at : ℕ) (step : Step) (instr : Instr) → Some step ≡ option_map (step_at at) (decoded (drop at code)) → Some instr ≡ option_map (instr_at at) (decoded (drop at code)) → instr.next ≡ step.next
+step_ends code at step instr is read = sym (next_is code at instr r) ∙ (ap (λ (n : Numbered). at + width_of n.op) same ∙ step_next code at step s)
+  where
+    s : Steps code at step
+    s = steps code at step is
+
+    r : Reads code at instr
+    r = reads code at instr read
+
+    one : (a b : Numbered) → Some a ≡ Some b → a ≡ b
+    one a b e = cc
+
+    same : r.i ≡ s.i
+    same = one r.i s.i (sym r.at_place ∙ s.at_place)
+
+-- nothing more is passed over
+pub no_step : (code : List ℕ) (at : ℕ) → None ≡ option_map (step_at at) (decoded (drop at code)) → None ≡ option_map (instr_at at) (decoded (drop at code))
+no_step code at is = by (decoded (drop at code)) is
+  where
+    by : (d : Option Numbered) → None ≡ option_map (step_at at) d → None ≡ option_map (instr_at at) d
+    by None e = refl
+    by (Some i) e = absurd (cc)

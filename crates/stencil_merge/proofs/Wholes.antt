@@ -1,16 +1,16 @@
 -- Functions that are added one after another.
-use Rattle.std.proofs.Common.{◌≡◌, ℕ, zero, suc, ◌+◌, ◌-◌, ◌<◌, ◌≤◌, Bool, true, false, nat_eq, if◌then◌else◌, List, [], ◌∷◌, ◌++◌, length, map, take, get_or, Option, Some, None, option_map, refl, sym, ◌∙◌, ap, ap₂, subst, arith, length-append}
+use Rattle.std.proofs.Common.{◌≡◌, ℕ, zero, suc, ◌+◌, ◌-◌, ◌<◌, ◌≤◌, Bool, true, false, nat_eq, if◌then◌else◌, List, [], ◌∷◌, ◌++◌, length, map, take, get_or, Option, Some, None, option_map, refl, sym, ◌∙◌, ap, ap₂, subst, arith}
 use Rattle.std.proofs.lemmas.Bool.{eq-eqb, ne_eqb}
 use Rattle.std.proofs.lemmas.List.{map-append, take_more}
 use Rattle.std.proofs.lemmas.List.Sums.{sum_by_more, sum_by-take-le}
 use Rattle.stencil_data.specs.MergedView.{MergedView}
 use Rattle.stencil_data.specs.Named.{NamedFunction, NamedRecord, NamedInitial, NamedMerged}
-use Rattle.stencil_data.specs.StandsFor.{FunctionStandsFor, InitialStandsFor, MergedStandsFor}
+use Rattle.stencil_data.specs.StandsFor.{FunctionStandsFor, MergedStandsFor}
 use Rattle.stencil_data.specs.Views.{InitialView}
 use Rattle.bytecode_buf.specs.Command.{ShowsCommands}
 use Rattle.stencil_merge.specs.Instructions.{ShowsListed, numbered_list, numbered_commands}
 use Rattle.stencil_merge.specs.Functions.{named_inner_of, numbers_in}
-use Rattle.stencil_merge.specs.Merging.{with_code, all_lazy, filled_at, with_function, BeginsBy, AddsBy, Begins, Adds}
+use Rattle.stencil_merge.specs.Merging.{with_code, all_lazy, filled_at, BeginsBy, AddsBy, Begins, Adds}
 use Rattle.stencil_merge.specs.Whole.{first_of, entries_from, merged_of, numbers_of, EachStands, MergesBy, Merges, HaveNumbers, text_count}
 use Rattle.stencil_merge.specs.declared.whole.CompiledAlone.{CompiledAlone}
 

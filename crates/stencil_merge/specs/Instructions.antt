@@ -1,13 +1,14 @@
 -- Instructions whose atoms are changed for others, and which name a function by its number. This project's own choice.
-use Rattle.std.specs.Prelude.{◌≡◌, ℕ, List, map, Option, Some, None, slice_index_or, unwrap_or}
+use Rattle.std.specs.Prelude.{◌≡◌, ℕ, ◌+◌, Bool, true, false, List, map, Option, Some, None, slice_index_or, unwrap_or}
 use Rattle.bytecode_buf.specs.declared.opcode.Op.{Op}
 use Rattle.bytecode_buf.specs.declared.opcode.Op.TheVariants as op
 use Rattle.bytecode_buf.specs.declared.opcode.Shape.{Shape}
 use Rattle.bytecode_buf.specs.declared.opcode.Shape.TheVariants as shape
 use Rattle.bytecode_buf.specs.Command.{Operand, Number, Command, Listed, listed}
 use Rattle.bytecode_buf.specs.Layout.{Numbered, instructions, IsWhole}
-use Rattle.bytecode_buf.specs.Width.{shape_of}
+use Rattle.bytecode_buf.specs.Width.{shape_of, width_of}
 use Rattle.stencil_merge.specs.Atoms.{atom_by}
+use Rattle.stencil_merge.specs.declared.code.Step.{Step}
 
 -- ---- as numbers
 
@@ -35,6 +36,20 @@ AreInstructionsBy atoms numbers old new = instructions new ≡ map (instruction_
 pub record IsCodeBy (atoms numbers old new : List ℕ) : Type 0 where
   pub are : AreInstructionsBy atoms numbers old new
   pub whole : IsWhole old → IsWhole new
+
+-- what is read of an instruction at an offset to pass over it
+abbrev pub step_at : ℕ → Numbered → Step
+step_at at i = record { op = i.op; shape = shape_of i.op; next = at + width_of i.op }
+
+-- whether an instruction of this opcode makes a function
+abbrev pub makes_function : Op → Bool
+makes_function op.Lambda = true
+makes_function _ = false
+
+-- whether its operand, of this shape, is the number of a text or of a function
+abbrev pub is_numbered : Op → Shape → Bool
+is_numbered o shape.Atom = true
+is_numbered o _ = makes_function o
 
 -- ---- as what they stand for
 

@@ -1,5 +1,5 @@
 -- A script merged whole: its parts, and functions of it that were compiled alone. This project's own choice.
-use Rattle.std.specs.Prelude.{ℕ, ◌+◌, ◌^◌, ◌-◌, ◌<◌, ◌≤◌, nat_eq, if◌then◌else◌, All, List, [], ◌∷◌, length, map, sum_by, Option, Some, None, option_map}
+use Rattle.std.specs.Prelude.{ℕ, ◌+◌, ◌≤◌, nat_eq, if◌then◌else◌, All, List, [], ◌∷◌, length, map, sum_by, Option, Some, None, option_map}
 use Rattle.stencil_data.specs.Named.{NamedFunction, NamedInitial, NamedMerged}
 use Rattle.stencil_data.specs.StandsFor.{FunctionStandsFor, InitialStandsFor, MergedStandsFor}
 use Rattle.stencil_data.specs.Views.{InitialView}

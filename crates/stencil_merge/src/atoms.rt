@@ -20,7 +20,7 @@ pub(crate) fn intern_all(
     ensures texts { TakesIn atoms.old texts.now atoms.new }
     ensures few { length atoms.new ≤ length atoms.old + length texts.now }
 {
-    let mut numbers = Vec::new(alloc);
+    let mut numbers = Vec::with_capacity(alloc, texts.len())?;
     for text in texts {
         let number = atoms.intern(alloc, text.units())?;
         numbers.push(number)?;

@@ -35,7 +35,7 @@ fn bindings_by(
 ) -> Result<Vec<Binding>, AllocError>
     ensures { IfOk result (λ made. made.items ≡ map (by_atoms.binding_by atoms.now) bindings.now) }
 {
-    let mut made = Vec::new(alloc);
+    let mut made = Vec::with_capacity(alloc, bindings.len())?;
     for binding in bindings {
         made.push(binding_by(atoms, binding))?;
     }
@@ -61,7 +61,7 @@ fn scopes_by(
 ) -> Result<Vec<ScopeData>, AllocError>
     ensures { IfOk result (λ made. made.items ≡ map (by_atoms.scope_by atoms.now) scopes.now) }
 {
-    let mut made = Vec::new(alloc);
+    let mut made = Vec::with_capacity(alloc, scopes.len())?;
     for scope in scopes {
         let copy = scope_by(alloc, atoms, scope)?;
         made.push(copy)?;
@@ -110,7 +110,7 @@ fn all_closed_by(
 ) -> Result<Vec<ClosedName>, AllocError>
     ensures { IfOk result (λ made. made.items ≡ map (by_atoms.closed_by atoms.now) names.now) }
 {
-    let mut made = Vec::new(alloc);
+    let mut made = Vec::with_capacity(alloc, names.len())?;
     for name in names {
         made.push(closed_by(atoms, name))?;
     }
@@ -139,7 +139,7 @@ pub(crate) fn records_by(
 ) -> Result<Vec<LazyRecord>, AllocError>
     ensures { IfOk result (λ made. made.items ≡ map (by_atoms.record_by atoms.now) records.now) }
 {
-    let mut made = Vec::new(alloc);
+    let mut made = Vec::with_capacity(alloc, records.len())?;
     for lazy in records {
         let copy = record_by(alloc, atoms, lazy)?;
         made.push(copy)?;

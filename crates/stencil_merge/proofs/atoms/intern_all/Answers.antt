@@ -4,7 +4,10 @@ use Rattle.stencil_merge.proofs.Interning.{Interned, interned_none, interned_nex
 use Rattle.stencil_merge.proofs.atoms.intern_all.Goals as goal
 
 pub loop-text-init : goal.loop-text-init
-loop-text-init c = subst (Interned c.args.atoms.now [] c.args.atoms.now) (sym c.new-numbers.ensures.items) (interned_none c.args.atoms.now c.requires.apart)
+loop-text-init c = subst (Interned c.args.atoms.now [] c.args.atoms.now) (sym c.in_ok-numbers.ensures.items) (interned_none c.args.atoms.now c.requires.apart)
+
+pub returns-in_err-numbers-clause-texts : goal.returns-in_err-numbers-clause-texts
+returns-in_err-numbers-clause-texts c = taken_so_far c.args.atoms.now c.args.texts.now c.args.atoms.now [] 0 (interned_none c.args.atoms.now c.requires.apart)
 
 pub intern-requires : goal.intern-requires
 intern-requires c = room_for_one c.args.atoms.now c.args.texts.now c.loop-text.atoms c.loop-text.numbers.items c.loop-text.text-index c.loop-text-test.true c.requires.few c.loop-text.invariant

@@ -2,8 +2,8 @@ use Rattle.std.proofs.Common.{◌-◌, length}
 use Rattle.stencil_merge.proofs.Renumbering.{Renumbering}
 use Rattle.stencil_merge.proofs.code.renumber_code.Given as goal
 
-abbrev pub invariant-loop-instr : goal.invariant-loop-instr
-invariant-loop-instr l = Renumbering l.atoms l.numbers l.initial.code l.code l.at
+abbrev pub invariant-loop-step : goal.invariant-loop-step
+invariant-loop-step l = Renumbering l.atoms l.numbers l.initial.code l.code l.at
 
-abbrev pub decreases-loop-instr : goal.decreases-loop-instr
-decreases-loop-instr l = length l.initial.code - l.at
+abbrev pub decreases-loop-step : goal.decreases-loop-step
+decreases-loop-step l = length l.initial.code - l.at

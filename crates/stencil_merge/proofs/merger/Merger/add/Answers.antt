@@ -1,4 +1,4 @@
-use Rattle.std.proofs.Common.{◌≡◌, ◌-◌, ◌<◌, ◌∙◌, ℕ, List, Result, Ok, Err, length, get_or, sym, ap, subst, subst₂}
+use Rattle.std.proofs.Common.{◌-◌, ◌<◌, ◌∙◌, ℕ, List, Result, Ok, Err, length, get_or, sym, ap, subst, subst₂}
 use Rattle.std.proofs.Math.ListN.{set}
 use Rattle.std.specs.Prelude.{OnErr}
 use Rattle.stencil_data.specs.declared.stencils.Entry.TheVariants as entry

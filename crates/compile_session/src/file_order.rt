@@ -2,19 +2,30 @@
 
 ghost use Rattle.std.specs.Prelude.{IfOk};
 ghost use Rattle.helper_tasks.specs.Jobs.{IsOrderOf};
-ghost use Rattle.compile_session.specs.Orders.{IsBegunIn};
+ghost use Rattle.compile_session.specs.Orders.{AreBegunIn};
 
+use session_orders::{Sizes, put_in_order};
 use session_requests::rising;
 use session_words::Order;
 use std::alloc::{AllocError, Global};
-use std::cmp::Reverse;
 
-/// How many bytes were read of the file of this number.
-fn size_of(reads: &[Option<Vec<u8>>], number: u32) -> usize {
-    match reads.get(number as usize) {
-        Some(Some(bytes)) => bytes.len(),
-        Some(None) => 0,
-        None => 0,
+/// The files of a command, each as large as the bytes that were read of it.
+#[derive(Clone, Copy)]
+struct FileSizes<'a> {
+    reads: &'a [Option<Vec<u8>>],
+}
+
+impl Sizes for FileSizes<'_> {
+    ghost use Rattle.compile_session.specs.Orders.{size_in};
+
+    ghost size = { λ files number. size_in files.reads.now number };
+
+    fn size(&self, number: u32) -> usize {
+        match self.reads.get(number as usize) {
+            Some(Some(bytes)) => bytes.len(),
+            Some(None) => 0,
+            None => 0,
+        }
     }
 }
 
@@ -27,13 +38,9 @@ pub(crate) fn file_order(
     count: u32,
 ) -> Result<Vec<u32>, AllocError>
     ensures order { IfOk result (λ numbers. IsOrderOf count numbers.items) }
-    ensures begun { IfOk result (λ numbers. IsBegunIn order count numbers.items) }
+    ensures begun { IfOk result (λ numbers. AreBegunIn order reads.now count numbers.items) }
 {
     let mut numbers = rising(alloc, count)?;
-    match order {
-        Order::First => {}
-        Order::Large => numbers.sort_by_key(|number| Reverse(size_of(reads, *number)))?,
-        Order::Reverse => numbers.reverse(),
-    }
+    put_in_order(&mut numbers, order, &FileSizes { reads })?;
     Ok(numbers)
 }

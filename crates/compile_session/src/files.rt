@@ -11,6 +11,7 @@ ghost use Rattle.compile_session.specs.Showing.{compiled_in};
 ghost use Rattle.compile_session.specs.Workers.{CanBeAnswered, SettleFiles};
 
 use crate::answer::{CommandAnswer, WholeAnswer};
+use crate::file_order::file_order;
 use crate::shown::{ShownFiles, shown_answers};
 use crate::workers::file_answers;
 use helper_tasks::Gate;
@@ -29,7 +30,8 @@ fn shows_scripts(command: Command) -> bool
     }
 }
 
-/// What is printed for each of the first `count` files of a command, of which these bytes were read.
+/// What is printed for each of the first `count` files of a command, of which these bytes were read. Workers are handed the files in
+/// the order that the command asks for.
 fn file_by_file<R: Threads + Wait + Sync, G: Gate>(
     rt: &R,
     alloc: Global,
@@ -44,11 +46,12 @@ fn file_by_file<R: Threads + Wait + Sync, G: Gate>(
     ensures settles { IfOk result (λ files. SettleFiles (asked.job job.now) reads.now count files.answers.items) }
     ensures most { IfOk result (λ files. files.compiled ≤ job.now.workers * compiled_in files.answers.items) }
 {
+    let order = file_order(alloc, job.order, reads, count)?;
     if shows_scripts(job.command) {
-        let shown = shown_answers(rt, alloc, job, reads, count, gate)?;
+        let shown = shown_answers(rt, alloc, job, reads, count, &order, gate)?;
         return Ok(shown);
     }
-    let answers = file_answers(rt, alloc, job, reads, count, gate)?;
+    let answers = file_answers(rt, alloc, job, reads, count, &order, gate)?;
     Ok(ShownFiles {
         answers,
         compiled: 0,

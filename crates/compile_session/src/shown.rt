@@ -3,23 +3,25 @@
 ghost use Rattle.std.specs.Prelude.{◌≡◌, ◌≢◌, ℕ, ◌≤◌, ◌<◌, ◌*◌, ◌^◌, true, length, IfOk, Some, None};
 ghost use Rattle.helper_tasks.specs.Jobs.{IsOrderOf};
 ghost use Rattle.session_words.specs.Asked as asked;
+ghost use Rattle.session_specs.specs.Answer as answer;
 ghost use Rattle.session_specs.specs.Compiled.{shows_scripts};
 ghost use Rattle.stencil_board.specs.Files.{file_at};
 ghost use Rattle.session_requests.specs.Hands.{Fits};
+ghost use Rattle.session_requests.specs.Requests.{AreAllAsked};
 ghost use Rattle.session_requests.specs.Works.{AreWorks, IsWorkOf, shown_of, work_at};
+ghost use Rattle.compile_session.specs.Orders.{AreBegunIn};
 ghost use Rattle.compile_session.specs.Showing.{AreAsked, CanBeShown, IsAskedOf, ShowsFile, ShowsScript, compiled_in, picked_file, picked_files};
 ghost use Rattle.compile_session.specs.Starts.{AreStarts, IsStart};
 ghost use Rattle.compile_session.specs.Workers.{CanBeAnswered, SettleFiles};
 
 use crate::answer::{FileAnswer, refused};
-use crate::file_order::file_order;
 use crate::listing::wanted_of;
 use crate::printing::shown_text;
 use crate::start::FileStart;
 use crate::starts::file_starts;
 use helper_tasks::{Gate, Job, run_tasks};
 use session_requests::{
-    Hand, ScriptWork, compiled_by, hands_for, request_all, requests_of, shown_in,
+    Hand, Request, ScriptWork, compiled_by, hands_for, request_all, requests_of, shown_in,
 };
 use session_words::FileJob;
 use std::alloc::{AllocError, Global};
@@ -189,8 +191,7 @@ fn useful_workers(workers: u32, tasks: usize) -> u32
 }
 
 /// What is printed for each of the first `count` files of a command, after their first passes. The functions that are wanted are
-/// asked for, in the order that the command asks for; then each file is printed. Each part is done by as many workers as the
-/// command asks for, and no more than there are tasks.
+/// asked for, in the order that the command asks for; then each file is printed.
 fn answers_after<R: Threads + Wait + Sync, G: Gate, N: Sources + Send + Sync>(
     rt: &R,
     alloc: Global,
@@ -205,6 +206,7 @@ fn answers_after<R: Threads + Wait + Sync, G: Gate, N: Sources + Send + Sync>(
     requires can { CanBeAnswered job.now reads.now count }
     requires started { AreStarts (asked.wanted job.now.want) reads.now count starts.now }
     requires order { IsOrderOf count order.now }
+    requires begun { AreBegunIn job.now.order reads.now count order.now }
     requires shows { shows_scripts job.now.command ≡ true }
     requires workers { (1 ≤ job.now.workers) × (job.now.workers ≤ 16) }
     requires few { count ≤ 64 }
@@ -213,9 +215,6 @@ fn answers_after<R: Threads + Wait + Sync, G: Gate, N: Sources + Send + Sync>(
 {
     let works = works_of::<N>(alloc, reads, starts, count)?;
     let requests = requests_of(alloc, &works, order, wanted_of(&job.want), job.order)?;
-    let workers = useful_workers(job.workers, requests.len().max(count as usize));
-    let hands = hands_for(alloc, &works, workers)?;
-    let hands = request_all(rt, alloc, &works, &requests, hands, gate)?;
     let files = FilesToShow {
         job,
         reads,
@@ -223,30 +222,59 @@ fn answers_after<R: Threads + Wait + Sync, G: Gate, N: Sources + Send + Sync>(
         works: &works,
         count,
     };
-    let (answers, hands) = run_tasks(rt, alloc, order, hands, &files, gate)?;
+    answers_by(rt, alloc, &files, &requests, order, gate)
+}
+
+/// What is printed for these files, once these requests were made, which are all that the command asks of them, and in its order.
+/// Each part is done by as many workers as the command asks for, and no more than there are tasks.
+fn answers_by<R: Threads + Wait + Sync, G: Gate, N: Sources + Send + Sync>(
+    rt: &R,
+    alloc: Global,
+    files: &FilesToShow<'_, N>,
+    requests: &[Request],
+    order: &[u32],
+    gate: &G,
+) -> Result<ShownFiles, AllocError>
+    requires can { CanBeShown N.files files.now.job.now files.now.reads.now files.now.starts.now files.now.works.now files.now.count }
+    requires order { IsOrderOf files.now.count order.now }
+    requires begun { AreBegunIn files.now.job.now.order files.now.reads.now files.now.count order.now }
+    requires asked { AreAllAsked files.now.job.now.order (answer.to_show (asked.wanted files.now.job.now.want)) files.now.works.now order.now requests.now }
+    requires workers { (1 ≤ files.now.job.now.workers) × (files.now.job.now.workers ≤ 16) }
+    requires few { files.now.count ≤ 64 }
+    ensures settles { IfOk result (λ shown. SettleFiles (asked.job files.now.job.now) files.now.reads.now files.now.count shown.answers.items) }
+    ensures most { IfOk result (λ shown. shown.compiled ≤ files.now.job.now.workers * compiled_in shown.answers.items) }
+{
+    let tasks = requests.len().max(files.count as usize);
+    let workers = useful_workers(files.job.workers, tasks);
+    let hands = hands_for(alloc, files.works, workers)?;
+    let hands = request_all(rt, alloc, files.works, requests, hands, gate)?;
+    let (answers, hands) = run_tasks(rt, alloc, order, hands, files, gate)?;
     Ok(ShownFiles {
         answers,
         compiled: compiled_by(&hands),
     })
 }
 
-/// What is printed for each of the first `count` files of a command, of which these bytes were read.
+/// What is printed for each of the first `count` files of a command, of which these bytes were read. Workers are handed the files in
+/// this order, which is the command's.
 pub(crate) fn shown_answers<R: Threads + Wait + Sync, G: Gate>(
     rt: &R,
     alloc: Global,
     job: &FileJob,
     reads: &[Option<Vec<u8>>],
     count: u32,
+    order: &[u32],
     gate: &G,
 ) -> Result<ShownFiles, AllocError>
     requires can { CanBeAnswered job.now reads.now count }
+    requires order { IsOrderOf count order.now }
+    requires begun { AreBegunIn job.now.order reads.now count order.now }
     requires shows { shows_scripts job.now.command ≡ true }
     requires workers { (1 ≤ job.now.workers) × (job.now.workers ≤ 16) }
     requires few { count ≤ 64 }
     ensures settles { IfOk result (λ shown. SettleFiles (asked.job job.now) reads.now count shown.answers.items) }
     ensures most { IfOk result (λ shown. shown.compiled ≤ job.now.workers * compiled_in shown.answers.items) }
 {
-    let order = file_order(alloc, job.order, reads, count)?;
-    let starts = file_starts(rt, alloc, job, reads, count, &order, gate)?;
-    answers_after::<R, G, Brand>(rt, alloc, job, reads, &starts, &order, count, gate)
+    let starts = file_starts(rt, alloc, job, reads, count, order, gate)?;
+    answers_after::<R, G, Brand>(rt, alloc, job, reads, &starts, order, count, gate)
 }

@@ -3,6 +3,7 @@
 ghost use Rattle.std.specs.Prelude.{◌≡◌, ℕ, ◌≤◌, ◌<◌, length, IfOk};
 ghost use Rattle.helper_tasks.specs.Jobs.{IsOrderOf};
 ghost use Rattle.session_words.specs.Asked as asked;
+ghost use Rattle.compile_session.specs.Orders.{AreBegunIn};
 ghost use Rattle.compile_session.specs.Starts.{AreStarts, CanBeRead, IsStartAt};
 
 use crate::start::{FileStart, start_of};
@@ -56,8 +57,8 @@ impl<'a> FirstPasses<'a> {
     }
 }
 
-/// The first passes over the first `count` files, of which these bytes were read: begun in this order, by so many workers, and no
-/// more than there are files.
+/// The first passes over the first `count` files, of which these bytes were read, by as many workers as the command asks for, and no
+/// more than there are files, which are handed them in the order that it asks for.
 pub(crate) fn file_starts<R: Threads + Wait + Sync, G: Gate>(
     rt: &R,
     alloc: Global,
@@ -69,6 +70,7 @@ pub(crate) fn file_starts<R: Threads + Wait + Sync, G: Gate>(
 ) -> Result<Vec<FileStart>, AllocError>
     requires can { CanBeRead reads.now count }
     requires order { IsOrderOf count order.now }
+    requires begun { AreBegunIn job.now.order reads.now count order.now }
     requires workers { (1 ≤ job.now.workers) × (job.now.workers ≤ 16) }
     ensures { IfOk result (λ starts. AreStarts (asked.wanted job.now.want) reads.now count starts.items) }
 {

@@ -1,15 +1,16 @@
 //! The files of a command, each answered by one of several workers.
 
 ghost use Rattle.std.specs.Prelude.{◌≡◌, ℕ, ◌≤◌, ◌<◌, ◌^◌, false, length, IfOk};
+ghost use Rattle.helper_tasks.specs.Jobs.{IsOrderOf};
 ghost use Rattle.session_outside.specs.Loops.{HaveAtMost};
 ghost use Rattle.session_specs.specs.Answer.{most_bytes};
 ghost use Rattle.session_specs.specs.Compiled.{shows_scripts};
 ghost use Rattle.session_words.specs.Asked as asked;
+ghost use Rattle.compile_session.specs.Orders.{AreBegunIn};
 ghost use Rattle.compile_session.specs.Workers.{CanBeAnswered, SettlesFile, SettleFiles};
 
 use crate::answer::FileAnswer;
 use crate::file::answer_of;
-use crate::file_order::file_order;
 use helper_tasks::{Gate, Job, run_tasks};
 use session_words::FileJob;
 use std::alloc::{AllocError, Global};
@@ -83,23 +84,25 @@ pub(crate) fn idle_workers(alloc: Global, count: u32) -> Result<Vec<Worker>, All
 }
 
 /// What is printed for each of the first `count` files of a command, of which these bytes were read. They are answered by as many
-/// workers as the command asks for, and no more than there are files.
+/// workers as the command asks for, and no more than there are files, which are handed them in the order that it asks for.
 pub(crate) fn file_answers<R: Threads + Wait + Sync, G: Gate>(
     rt: &R,
     alloc: Global,
     job: &FileJob,
     reads: &[Option<Vec<u8>>],
     count: u32,
+    order: &[u32],
     gate: &G,
 ) -> Result<Vec<FileAnswer>, AllocError>
     requires can { CanBeAnswered job.now reads.now count }
+    requires order { IsOrderOf count order.now }
+    requires begun { AreBegunIn job.now.order reads.now count order.now }
     requires plain { shows_scripts job.now.command ≡ false }
     requires workers { (1 ≤ job.now.workers) × (job.now.workers ≤ 16) }
     ensures { IfOk result (λ answers. SettleFiles (asked.job job.now) reads.now count answers.items) }
 {
-    let order = file_order(alloc, job.order, reads, count)?;
     let workers = idle_workers(alloc, job.workers.min(count).max(1))?;
     let tasks = FileTasks { job, reads, count };
-    let (answers, _) = run_tasks(rt, alloc, &order, workers, &tasks, gate)?;
+    let (answers, _) = run_tasks(rt, alloc, order, workers, &tasks, gate)?;
     Ok(answers)
 }

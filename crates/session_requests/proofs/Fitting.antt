@@ -42,7 +42,7 @@ work_here files [] k w lt is h = absurd (omega (arith, lt))
 work_here files (x ∷ works) zero w lt is h = subst (IsWorkOf files) (sym is) h.0
 work_here files (x ∷ works) (suc k) w lt is h = work_here files works k w (omega (arith, lt)) is h.1
 
-at_any : (works : List (Option WorkView)) (k : ℕ) (w : Option WorkView) → k < length works → w ≡ slice_index_or works k w → work_at works k ≡ w
+pub at_any : (works : List (Option WorkView)) (k : ℕ) (w : Option WorkView) → k < length works → w ≡ slice_index_or works k w → work_at works k ≡ w
 at_any [] k w lt is = absurd (omega (arith, lt))
 at_any (x ∷ works) zero w lt is = sym is
 at_any (x ∷ works) (suc k) w lt is = at_any works k w (omega (arith, lt)) is

@@ -1,3 +1,4 @@
+mod Asking
 pub mod Crossing
 pub mod Fitting
 pub mod Lacking

@@ -1,4 +1,5 @@
 pub mod Hands
 pub mod Numbers
+pub mod Requests
 pub mod Views
 pub mod Works

@@ -1,2 +1,3 @@
 -- What the program shows of a text.
+pub mod Compiling
 pub mod Verdicts

@@ -1,15 +1,23 @@
-//! The verdicts of the library `stencil`.
+//! The verdicts of the library `stencil`, and what it compiles.
 
-ghost use Rattle.std.specs.Prelude.{IfOk};
+ghost use Rattle.std.specs.Prelude.{◌≡◌, IfOk};
+ghost use Rattle.compile_wanted.specs.Numbers.{to_show};
+ghost use Rattle.session_specs.specs.Answer as session;
 ghost use Rattle.session_words.specs.Asked as asked;
 ghost use Rattle.stencil.specs.Answers.{IsRefusedAs};
 ghost use Rattle.stencil.specs.Refusals.{refusal_of};
+ghost use Rattle.stencil.specs.Scripts.{IsLazyOf};
+ghost use Rattle.holzikra_scripts.specs.Written as choosing;
+ghost use Rattle.holzikra_session.specs.Compiling.{IsCompiledBy};
+ghost use Rattle.holzikra.specs.Compiling.{IsShownFor};
 ghost use Rattle.holzikra.specs.Verdicts.{IsSpot, IsVerdict, IsTold};
 
 use holzikra_places::Lines;
-use holzikra_session::{Judge, Reason, Spot, Verdict};
+use holzikra_scripts::{Choice, Chosen, choice_of};
+use holzikra_session::{Compiled, Judge, Reason, Spot, Verdict};
+use holzikra_words::FunctionWord;
 use std::alloc::{AllocError, Global};
-use stencil::{Answer, Refusal, check};
+use stencil::{Answer, Lazy, Refusal, Wanted, check};
 
 /// The judge that asks the library.
 pub struct Library;
@@ -65,10 +73,69 @@ fn judged(alloc: Global, text: &[u8]) -> Result<Verdict, AllocError>
     }
 }
 
+/// The functions that are chosen, as the library is told them.
+fn wanted_of(chosen: &Choice) -> Wanted<'_>
+    ensures { to_show result ≡ session.to_show (choosing.wanted_of chosen.now) }
+{
+    match chosen {
+        Choice::All => Wanted::All,
+        Choice::Numbers(numbers) => Wanted::Numbers(numbers),
+    }
+}
+
+/// The script with those of its functions compiled that these words mean.
+fn compiled_script(
+    alloc: Global,
+    text: &[u8],
+    script: &Lazy,
+    words: &[FunctionWord],
+) -> Result<Compiled, AllocError>
+    requires { IsLazyOf text.now script.now }
+    ensures { IfOk result (IsCompiledBy IsVerdict IsShownFor words.now text.now) }
+{
+    let parts = script.parts();
+    let chosen = choice_of(alloc, words, &parts.texts, &parts.records, text)?;
+    match chosen {
+        Chosen::Nothing(place) => Ok(Compiled::NoFunction(place)),
+        Chosen::These(choice) => {
+            let stencil = script.stencil(alloc, text, wanted_of(&choice))?;
+            Ok(Compiled::Script(stencil, choice))
+        }
+    }
+}
+
+/// A text compiled by the library.
+fn compiled(alloc: Global, text: &[u8], words: &[FunctionWord]) -> Result<Compiled, AllocError>
+    ensures { IfOk result (IsCompiledBy IsVerdict IsShownFor words.now text.now) }
+{
+    let opened = Lazy::open(alloc, text)?;
+    match opened {
+        Answer::Script(script) => {
+            let compiled = compiled_script(alloc, text, &script, words)?;
+            Ok(compiled)
+        }
+        Answer::Refused(why) => {
+            let reason = reason_of(alloc, text, why)?;
+            Ok(Compiled::Refused(reason))
+        }
+    }
+}
+
 impl Judge for Library {
     ghost judges = { λ _ text verdict. IsVerdict text verdict };
 
+    ghost shows = { λ _ want text named. IsShownFor want text named };
+
     fn judge(&self, alloc: Global, text: &[u8]) -> Result<Verdict, AllocError> {
         judged(alloc, text)
+    }
+
+    fn compile(
+        &self,
+        alloc: Global,
+        text: &[u8],
+        words: &[FunctionWord],
+    ) -> Result<Compiled, AllocError> {
+        compiled(alloc, text, words)
     }
 }

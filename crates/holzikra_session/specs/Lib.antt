@@ -1,2 +1,3 @@
--- Which verdicts count, and what the program ends with.
+-- Which verdicts count, what the program ends with, and what is written of compiled texts.
+pub mod Compiling
 pub mod Statuses

@@ -1,8 +1,9 @@
 //! Which command is done.
 
-use crate::check::check_all;
 use crate::explain::explain_all;
+use crate::files::answer_files;
 use crate::status::Status;
+use crate::task::Task;
 use crate::verdict::Judge;
 use holzikra_words::{Request, read_words};
 use std::io;
@@ -16,7 +17,10 @@ fn perform<R: Runtime + AllocGlobal, J: Judge>(
     request: &Request,
 ) -> io::Result<Status> {
     match request {
-        Request::Check(options) => check_all(rt, judge, options),
+        Request::Check(options) => answer_files(rt, judge, Task::Check(options)),
+        Request::Code(options) => answer_files(rt, judge, Task::Code(options)),
+        Request::Scopes(options) => answer_files(rt, judge, Task::Scopes(options)),
+        Request::Stats(options) => answer_files(rt, judge, Task::Stats(options)),
         Request::Explain(options) => explain_all(rt, options),
     }
 }

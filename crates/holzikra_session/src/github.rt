@@ -1,6 +1,6 @@
 //! Answers as workflow commands of GitHub.
 
-use crate::answer::Refused;
+use crate::refusal::Refused;
 use holzikra_refusals::{entry_of, message};
 use std::alloc::{AllocError, Global};
 

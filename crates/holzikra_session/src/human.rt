@@ -1,9 +1,10 @@
 //! Answers for a person.
 
-use crate::answer::{Refused, Said};
+use crate::refusal::{Refused, Said};
 use crate::status::Tally;
 use holzikra_places::{excerpt_at, push_shown_text};
 use holzikra_refusals::{entry_of, message};
+use holzikra_scripts::Table;
 use std::alloc::{AllocError, Global};
 
 /// The place, what is wrong, and the line with a mark under the place.
@@ -98,4 +99,17 @@ pub(crate) fn summary(alloc: Global, tally: &Tally, said: &Said) -> Result<Strin
     }
     line.push('\n')?;
     Ok(line)
+}
+
+/// The table of counts, and how many files are refused.
+pub(crate) fn table(alloc: Global, table: &Table, tally: &Tally) -> Result<String, AllocError> {
+    let refused = tally.errors.saturating_add(tally.outside);
+    let mut last = String::new(alloc);
+    push_count(&mut last, table.count() as u64, "file", "files")?;
+    let mut lines = table.text(last.as_str())?;
+    if refused > 0 {
+        push_count(&mut lines, refused, "file", "files")?;
+        lines.push_str(" refused\n")?;
+    }
+    Ok(lines)
 }

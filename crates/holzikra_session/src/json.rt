@@ -1,69 +1,11 @@
 //! Answers as JSON, an object in a line each.
 
-use crate::answer::Refused;
+use crate::refusal::Refused;
 use crate::verdict::Reason;
+use holzikra_json::Members;
 use holzikra_refusals::{entry_of, message, name_at};
-use serde_json::{Map, Value};
+use serde_json::Value;
 use std::alloc::{AllocError, Global};
-
-/// The name of the form of these lines.
-const FORMAT: &str = "holzikra-1";
-
-/// The members of an object.
-#[derive(Drop)]
-struct Members {
-    alloc: Global,
-    map: Map<String, Value>,
-}
-
-impl Members {
-    fn new(alloc: Global) -> Members {
-        Members {
-            alloc,
-            map: Map::new(alloc),
-        }
-    }
-
-    fn put(&mut self, key: &str, value: Value) -> Result<(), AllocError> {
-        self.map.insert(String::from_str(self.alloc, key)?, value)?;
-        Ok(())
-    }
-
-    fn text(&mut self, key: &str, text: &str) -> Result<(), AllocError> {
-        let value = Value::try_from_str(self.alloc, text)?;
-        self.put(key, value)
-    }
-
-    /// A number, or null.
-    fn number(&mut self, key: &str, number: Option<usize>) -> Result<(), AllocError> {
-        match number {
-            None => self.put(key, Value::Null),
-            Some(number) => self.put(key, Value::from(number as u64)),
-        }
-    }
-
-    fn object(self) -> Value {
-        let Members { map, alloc: _ } = self;
-        Value::Object(map)
-    }
-}
-
-/// The line of an object.
-fn line_of(alloc: Global, members: Members) -> Result<String, AllocError> {
-    let value = members.object();
-    let mut line = value.to_string(alloc)?;
-    line.push('\n')?;
-    Ok(line)
-}
-
-/// The object of a file, with what each has.
-fn file(alloc: Global, name: &str, kind: &str) -> Result<Members, AllocError> {
-    let mut members = Members::new(alloc);
-    members.text("file", name)?;
-    members.text("format", FORMAT)?;
-    members.text("kind", kind)?;
-    Ok(members)
-}
 
 /// A script without errors.
 pub(crate) fn script_line(
@@ -72,10 +14,10 @@ pub(crate) fn script_line(
     bytes: &[u8],
     functions: usize,
 ) -> Result<String, AllocError> {
-    let mut members = file(alloc, name, "ok")?;
-    members.number("bytes", Some(bytes.len()))?;
-    members.number("functions", Some(functions))?;
-    line_of(alloc, members)
+    let mut members = Members::of_file(alloc, name, "ok")?;
+    members.number("bytes", Some(bytes.len() as u64))?;
+    members.number("functions", Some(functions as u64))?;
+    members.line()
 }
 
 /// The clauses of ECMA-262, each a text.
@@ -90,9 +32,9 @@ fn clauses(alloc: Global, clauses: &str) -> Result<Value, AllocError> {
 }
 
 /// The number of the rule of an early error.
-fn rule(reason: Reason) -> Option<usize> {
+fn rule(reason: Reason) -> Option<u64> {
     match reason {
-        Reason::Early(_, rule) => Some(usize::from(rule)),
+        Reason::Early(_, rule) => Some(u64::from(rule)),
         _ => None,
     }
 }
@@ -105,9 +47,9 @@ fn put_place(members: &mut Members, refused: Refused<'_>) -> Result<(), AllocErr
         members.number("offset", None)?;
         return members.put("name", Value::Null);
     };
-    members.number("column", Some(spot.place.column))?;
-    members.number("line", Some(spot.place.line))?;
-    members.number("offset", Some(spot.offset))?;
+    members.number("column", Some(spot.place.column as u64))?;
+    members.number("line", Some(spot.place.line as u64))?;
+    members.number("offset", Some(spot.offset as u64))?;
     match name_at(refused.text, spot.offset) {
         None => members.put("name", Value::Null),
         Some(name) => members.text("name", name),
@@ -134,11 +76,11 @@ fn refusal(alloc: Global, refused: Refused<'_>) -> Result<Value, AllocError> {
 /// A text that is refused.
 pub(crate) fn refusal_line(alloc: Global, refused: Refused<'_>) -> Result<String, AllocError> {
     let why = refusal(alloc, refused)?;
-    let mut members = file(alloc, refused.name, "refused")?;
-    members.number("bytes", Some(refused.text.len()))?;
+    let mut members = Members::of_file(alloc, refused.name, "refused")?;
+    members.number("bytes", Some(refused.text.len() as u64))?;
     members.number("functions", None)?;
     members.put("refusal", why)?;
-    line_of(alloc, members)
+    members.line()
 }
 
 /// A file that cannot be read.
@@ -147,7 +89,7 @@ pub(crate) fn unreadable_line(
     name: &str,
     fault: &str,
 ) -> Result<String, AllocError> {
-    let mut members = file(alloc, name, "unreadable")?;
+    let mut members = Members::of_file(alloc, name, "unreadable")?;
     members.text("fault", fault)?;
-    line_of(alloc, members)
+    members.line()
 }

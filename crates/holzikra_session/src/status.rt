@@ -67,7 +67,7 @@ impl Tally {
         ensures { IsCounted choice verdict self.old self.new }
     {
         match verdict {
-            Verdict::Script(_) => self.scripts = self.scripts.saturating_add(1),
+            Verdict::Script(_) => self.count_script(),
             Verdict::Refused(_) => {
                 if outside {
                     self.outside = self.outside.saturating_add(1);
@@ -78,6 +78,14 @@ impl Tally {
                 }
             }
         }
+    }
+
+    /// Counts a file that is a script.
+    pub(crate) fn count_script(&mut self)
+        ensures refused { self.new.refused ≡ self.old.refused }
+        ensures failed { self.new.failed ≡ self.old.failed }
+    {
+        self.scripts = self.scripts.saturating_add(1);
     }
 
     /// Something could not be read.

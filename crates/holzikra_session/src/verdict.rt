@@ -1,11 +1,18 @@
-//! Verdicts on texts, and who gives them.
+//! Verdicts on texts, what compiling them comes to, and who does both.
 
 ghost use Rattle.std.specs.Prelude.{ℕ, List, IfOk};
+ghost use Rattle.stencil_data.specs.Named.{NamedMerged};
+ghost use Rattle.bytecode_buf.specs.Command.{Command};
+ghost use Rattle.session_words.specs.Asked.{Wanted};
+ghost use Rattle.holzikra_session.specs.Compiling.{IsCompiledBy};
 ghost use Rattle.holzikra_session.specs.declared.verdict.Verdict.{Verdict};
 
 use holzikra_places::Place;
 use holzikra_refusals::{Code, Rule};
+use holzikra_scripts::Choice;
+use holzikra_words::FunctionWord;
 use std::alloc::{AllocError, Global};
+use stencil_data::MergedStencil;
 
 /// A place in a text.
 #[derive(Debug, Clone, Copy, PartialEq, Eq)]
@@ -39,13 +46,35 @@ pub enum Verdict {
     Refused(Reason),
 }
 
-/// Who gives verdicts on texts.
+/// What compiling a text comes to.
+#[derive(Drop)]
+pub enum Compiled {
+    /// The script, with these of its functions compiled and those around them.
+    Script(MergedStencil, Choice),
+    /// The text is refused.
+    Refused(Reason),
+    /// The word of this place among those for functions means none.
+    NoFunction(usize),
+}
+
+/// Who gives verdicts on texts, and compiles them.
 pub trait Judge {
     ghost judges: { Self → List ℕ → Verdict → Type 0 };
+
+    ghost shows: { Self → Wanted → List ℕ → NamedMerged (List Command) → Type 0 };
 
     /// The verdict on this text. The one error is want of memory.
     fn judge(&self, alloc: Global, text: &[u8]) -> Result<Verdict, AllocError>
         ensures { IfOk result (judges self.now text.now) };
+
+    /// This text compiled, with the functions that these words mean; with all where there is no word. The one error is want of memory.
+    fn compile(
+        &self,
+        alloc: Global,
+        text: &[u8],
+        words: &[FunctionWord],
+    ) -> Result<Compiled, AllocError>
+        ensures { IfOk result (IsCompiledBy (judges self.now) (shows self.now) words.now text.now) };
 }
 
 impl Reason {

@@ -1,8 +1,9 @@
 //! The words of `check`.
 
-use crate::parts::{choice, named, switch, texts, value, valued, with, words};
+use crate::files::{FileOptions, file_options, with_files};
+use crate::parts::{choice, named, switch, value, valued, with};
 use clap::builder::ValueParser;
-use clap::{Arg, ArgAction, ArgMatches, Command};
+use clap::{Arg, ArgMatches, Command};
 use std::alloc::{AllocError, Global};
 
 /// How the answers are written.
@@ -30,20 +31,13 @@ pub enum Unsupported {
 /// What `check` is asked for.
 #[derive(Debug, Drop)]
 pub struct CheckOptions {
-    /// Files, folders, and `-` for standard input, as they were written.
-    pub paths: Vec<String>,
+    pub files: FileOptions,
     pub format: Format,
     pub unsupported: Unsupported,
     /// How many refusals are shown, where there is a limit.
     pub most: Option<u32>,
     /// No summary.
     pub quiet: bool,
-    /// Folders named `node_modules`, and names that begin with `.`, are entered too.
-    pub all: bool,
-    /// The ends of the names that are taken of a folder, without the point.
-    pub extensions: Vec<String>,
-    /// What standard input is called.
-    pub stdin_name: String,
 }
 
 static FORMATS: [&str; 3] = ["human", "json", "github"];
@@ -57,12 +51,7 @@ pub(crate) fn command<'a>(alloc: Global) -> Result<Command<'a>, AllocError> {
         "check",
         "say whether each file is a script without errors",
     );
-    let paths = words(alloc, "PATH", "a file, a folder, or - for standard input").required(true);
-    let command = with(command, paths)?;
-    with_options(alloc, command)
-}
-
-fn with_options<'a>(alloc: Global, command: Command<'a>) -> Result<Command<'a>, AllocError> {
+    let command = with_files(alloc, command)?;
     let formats = FORMATS.as_slice();
     let choices = CHOICES.as_slice();
     let format = choice(
@@ -82,19 +71,6 @@ fn with_options<'a>(alloc: Global, command: Command<'a>) -> Result<Command<'a>, 
     );
     let command = with(command, unsupported)?;
     let command = with(command, most(alloc))?;
-    let command = with(command, extensions(alloc))?;
-    let command = with(
-        command,
-        valued(alloc, "stdin-name", "NAME", "<stdin>", "what - is called"),
-    )?;
-    let command = with(
-        command,
-        switch(
-            alloc,
-            "all",
-            "enter node_modules and what begins with a point",
-        ),
-    )?;
     with(command, switch(alloc, "quiet", "no summary").short('q'))
 }
 
@@ -107,17 +83,6 @@ fn most<'a>(alloc: Global) -> Arg<'a> {
         "how many refusals are shown; 0 is no limit",
     );
     most.value_parser(ValueParser::Unsigned(0, 4_294_967_295))
-}
-
-fn extensions<'a>(alloc: Global) -> Arg<'a> {
-    let extensions = valued(
-        alloc,
-        "ext",
-        "LIST",
-        "js,cjs",
-        "which files of a folder are taken",
-    );
-    extensions.value_delimiter(',').action(ArgAction::Append)
 }
 
 fn format_of(word: &str) -> Format {
@@ -143,17 +108,12 @@ fn most_of(number: u32) -> Option<u32> {
 
 /// What the words of `check` ask for.
 pub(crate) fn options(alloc: Global, found: &ArgMatches<'_>) -> Result<CheckOptions, AllocError> {
-    let paths = texts(alloc, found, "PATH")?;
-    let extensions = texts(alloc, found, "ext")?;
-    let stdin_name = String::from_str(alloc, value(found, "stdin-name", "<stdin>"))?;
+    let files = file_options(alloc, found)?;
     Ok(CheckOptions {
-        paths,
+        files,
         format: format_of(value(found, "format", "human")),
         unsupported: unsupported_of(value(found, "unsupported", "error")),
         most: most_of(found.get_one::<u32>("max").unwrap_or(50)),
         quiet: found.get_flag("quiet"),
-        all: found.get_flag("all"),
-        extensions,
-        stdin_name,
     })
 }

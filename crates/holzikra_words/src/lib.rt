@@ -5,10 +5,20 @@
 #![tactic(auto)]
 
 mod check;
+mod code;
 mod explain;
+mod files;
+mod functions;
 mod parts;
+mod scopes;
+mod stats;
 mod words;
 
 pub use check::{CheckOptions, Format, Unsupported};
+pub use code::{CodeFormat, CodeOptions};
 pub use explain::ExplainOptions;
+pub use files::FileOptions;
+pub use functions::FunctionWord;
+pub use scopes::{ScopesFormat, ScopesOptions};
+pub use stats::{StatsFormat, StatsOptions};
 pub use words::{Request, read_words};

@@ -1,7 +1,10 @@
 //! All commands, and which of them the words name.
 
 use crate::check::{self, CheckOptions};
+use crate::code::{self, CodeOptions};
 use crate::explain::{self, ExplainOptions};
+use crate::scopes::{self, ScopesOptions};
+use crate::stats::{self, StatsOptions};
 use clap::{ArgMatches, Command, Error};
 use std::alloc::{AllocError, Global};
 
@@ -10,18 +13,25 @@ use std::alloc::{AllocError, Global};
 pub enum Request {
     /// Say of each file whether it is a script without errors.
     Check(CheckOptions),
+    /// List the code of each file.
+    Code(CodeOptions),
+    /// Draw the scopes of each file.
+    Scopes(ScopesOptions),
+    /// Count what each file has.
+    Stats(StatsOptions),
     /// Say what a code means.
     Explain(ExplainOptions),
 }
 
 /// The program without its commands.
-fn program<'a>(alloc: Global) -> Command<'a> {
+fn program<'a>(alloc: Global) -> Result<Command<'a>, AllocError> {
     Command::new(alloc, "holzikra")
         .version("0.1.0")
-        .about("looks into strict scripts: errors, line by line")
+        .about("looks into strict scripts: errors, scopes, bytecode")
         .no_binary_name(true)
         .subcommand_required(true)
         .arg_required_else_help(true)
+        .bin_name("holzikra")
 }
 
 /// The program with one more command.
@@ -31,7 +41,10 @@ fn with_command<'a>(program: Command<'a>, command: Command<'a>) -> Result<Comman
 
 /// The program and its commands.
 fn commands<'a>(alloc: Global) -> Result<Command<'a>, AllocError> {
-    let program = with_command(program(alloc), check::command(alloc)?)?;
+    let program = with_command(program(alloc)?, check::command(alloc)?)?;
+    let program = with_command(program, code::command(alloc)?)?;
+    let program = with_command(program, scopes::command(alloc)?)?;
+    let program = with_command(program, stats::command(alloc)?)?;
     with_command(program, explain::command(alloc)?)
 }
 
@@ -39,6 +52,9 @@ fn commands<'a>(alloc: Global) -> Result<Command<'a>, AllocError> {
 fn found_request(alloc: Global, matches: &ArgMatches<'_>) -> Result<Request, AllocError> {
     match matches.subcommand() {
         Some(("check", found)) => Ok(Request::Check(check::options(alloc, found)?)),
+        Some(("code", found)) => Ok(Request::Code(code::options(alloc, found)?)),
+        Some(("scopes", found)) => Ok(Request::Scopes(scopes::options(alloc, found)?)),
+        Some(("stats", found)) => Ok(Request::Stats(stats::options(alloc, found)?)),
         Some((_, found)) => Ok(Request::Explain(explain::options(alloc, found)?)),
         None => Ok(Request::Explain(ExplainOptions {
             codes: Vec::new(alloc),

@@ -1,6 +1,6 @@
 //! The files of a command: those that are named, and those of the folders that are named.
 
-use holzikra_words::CheckOptions;
+use holzikra_words::FileOptions;
 use std::collections::BTreeSet;
 use std::rt::Files;
 use std::{fs, io};
@@ -15,7 +15,7 @@ struct Waiting {
 
 /// What was found next.
 #[derive(Drop)]
-pub(crate) enum Found {
+pub enum Found {
     /// A file, to be read.
     File(String),
     /// Standard input.
@@ -26,7 +26,7 @@ pub(crate) enum Found {
 
 /// The paths that are still to be looked at, and those that were.
 #[derive(Drop)]
-pub(crate) struct Walk {
+pub struct Walk {
     /// The next one is the last.
     waiting: Vec<Waiting>,
     done: BTreeSet<String>,
@@ -54,7 +54,7 @@ fn last_name(path: &str) -> &str {
 }
 
 /// Whether the name of a file in a folder ends so that it is taken.
-fn is_taken(path: &str, options: &CheckOptions) -> bool {
+fn is_taken(path: &str, options: &FileOptions) -> bool {
     match last_name(path).rsplit_once('.') {
         None => false,
         Some((_, end)) => {
@@ -69,7 +69,7 @@ fn is_taken(path: &str, options: &CheckOptions) -> bool {
 }
 
 /// What a path is. Links to folders that were found in a folder are passed over.
-fn kind_of<R: Files>(rt: &R, name: &str, named: bool, options: &CheckOptions) -> io::Result<Kind> {
+fn kind_of<R: Files>(rt: &R, name: &str, named: bool, options: &FileOptions) -> io::Result<Kind> {
     if named {
         let found = fs::metadata(rt, name)?;
         return Ok(if found.is_dir() {
@@ -105,7 +105,7 @@ fn joined<R: AllocGlobal>(rt: &R, folder: &str, name: &str) -> io::Result<String
 fn names_in<R: Files + AllocGlobal + Clone + Drop>(
     rt: &R,
     folder: &str,
-    options: &CheckOptions,
+    options: &FileOptions,
 ) -> io::Result<(Vec<String>, Option<io::Error>)> {
     let mut names = Vec::new(rt.alloc());
     let mut fault = None;
@@ -126,7 +126,7 @@ fn names_in<R: Files + AllocGlobal + Clone + Drop>(
 
 impl Walk {
     /// The paths of a command.
-    pub(crate) fn new<R: AllocGlobal>(rt: &R, options: &CheckOptions) -> io::Result<Walk> {
+    pub fn new<R: AllocGlobal>(rt: &R, options: &FileOptions) -> io::Result<Walk> {
         let mut waiting = Vec::new(rt.alloc());
         for path in options.paths.iter().rev() {
             let path = path.clone()?;
@@ -143,7 +143,7 @@ impl Walk {
         &mut self,
         rt: &R,
         folder: &str,
-        options: &CheckOptions,
+        options: &FileOptions,
     ) -> io::Result<Option<io::Error>> {
         let (names, fault) = names_in(rt, folder, options)?;
         for name in names.iter().rev() {
@@ -158,7 +158,7 @@ impl Walk {
         &mut self,
         rt: &R,
         waiting: Waiting,
-        options: &CheckOptions,
+        options: &FileOptions,
     ) -> io::Result<Option<Found>> {
         let Waiting { path, named } = waiting;
         if named && path.as_str() == "-" {
@@ -180,10 +180,10 @@ impl Walk {
     }
 
     /// What is to be answered next; none at the end.
-    pub(crate) fn next<R: Files + AllocGlobal + Clone + Drop>(
+    pub fn next<R: Files + AllocGlobal + Clone + Drop>(
         &mut self,
         rt: &R,
-        options: &CheckOptions,
+        options: &FileOptions,
     ) -> io::Result<Option<Found>> {
         for _ in 0..u64::MAX {
             let Some(path) = self.waiting.pop() else {

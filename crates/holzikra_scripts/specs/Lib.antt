@@ -1,0 +1,2 @@
+-- What is written of a script.
+pub mod Written

@@ -1,0 +1,295 @@
+//! The commands that go through files: each is read, answered and let go.
+
+use crate::answer::answer_text;
+use crate::code::code_of;
+use crate::complaint::complain;
+use crate::inspected::Inspected;
+use crate::refusal::{Said, Showing, answer_refused};
+use crate::scopes::scopes_of;
+use crate::stats::counts_of_text;
+use crate::status::{Status, Tally};
+use crate::task::Task;
+use crate::verdict::{Judge, Reason};
+use crate::{human, json};
+use holzikra_scripts::{Row, Table, row_line};
+use holzikra_walk::{Found, Walk};
+use holzikra_words::{CheckOptions, Format, StatsFormat, StatsOptions};
+use std::io::{BufWriter, ErrorKind, Read, Write};
+use std::rt::{Files, Runtime};
+use std::{fs, io};
+
+/// The bytes of a file that are read: one more than a text may have.
+const MOST_READ: u64 = 16_777_216;
+
+/// The bytes of a file, or the first of those of one that is too long.
+fn bytes_of<R: Files + AllocGlobal>(rt: &R, path: &str) -> io::Result<Vec<u8>> {
+    let mut bytes = Vec::new(rt.alloc());
+    fs::open(rt, path)?.take(MOST_READ).read_to_end(&mut bytes)?;
+    Ok(bytes)
+}
+
+/// The bytes of standard input, or the first of those.
+fn input_bytes<R: Input + AllocGlobal>(rt: &R) -> io::Result<Vec<u8>> {
+    let mut bytes = Vec::new(rt.alloc());
+    rt.reader().take(MOST_READ).read_to_end(&mut bytes)?;
+    Ok(bytes)
+}
+
+/// A command that goes on.
+#[derive(Drop)]
+struct Progress<'a, W: Write + Drop> {
+    task: Task<'a>,
+    out: W,
+    tally: Tally,
+    said: Said,
+    /// The counts of `stats`.
+    table: Table,
+}
+
+impl<'a, W: Write + Drop> Progress<'a, W> {
+    /// Says that something cannot be read, or is not there. Want of memory ends the command.
+    fn fault<R: Runtime + AllocGlobal>(
+        &mut self,
+        rt: &R,
+        name: &str,
+        error: io::Error,
+    ) -> io::Result<()> {
+        if error.kind() == ErrorKind::OutOfMemory {
+            return Err(error);
+        }
+        self.tally.fail();
+        let why = format!(in rt.alloc(); "{error}")?;
+        complain(rt, name, why.as_str())?;
+        if self.task.format() == Format::Json {
+            let line = json::unreadable_line(rt.alloc(), name, why.as_str())?;
+            self.out.write_all(line.as_bytes())?;
+        }
+        Ok(())
+    }
+
+    /// Says that a script has no function that a word means.
+    fn no_function<R: Runtime + AllocGlobal>(
+        &mut self,
+        rt: &R,
+        name: &str,
+        place: usize,
+    ) -> io::Result<()> {
+        self.tally.fail();
+        let word = self.task.function_word(rt.alloc(), place)?;
+        let why = format!(in rt.alloc(); "no function {word}")?;
+        complain(rt, name, why.as_str())
+    }
+
+    /// Answers for a text that is refused.
+    fn refused<R: Runtime + AllocGlobal>(
+        &mut self,
+        rt: &R,
+        name: &str,
+        text: &[u8],
+        reason: Reason,
+    ) -> io::Result<()> {
+        let showing = Showing::all(self.task.format());
+        let lines = answer_refused(
+            rt.alloc(),
+            showing,
+            name,
+            text,
+            reason,
+            &mut self.tally,
+            &mut self.said,
+        )?;
+        self.out.write_all(lines.as_bytes())
+    }
+
+    /// Answers for a text with what `check` says of it.
+    fn check<R: Runtime + AllocGlobal, J: Judge>(
+        &mut self,
+        rt: &R,
+        judge: &J,
+        options: &CheckOptions,
+        name: &str,
+        text: &[u8],
+    ) -> io::Result<()> {
+        let lines = answer_text(
+            rt.alloc(),
+            judge,
+            options,
+            name,
+            text,
+            &mut self.tally,
+            &mut self.said,
+        )?;
+        self.out.write_all(lines.as_bytes())
+    }
+
+    /// Answers for a text with a listing or a drawing.
+    fn list<R: Runtime + AllocGlobal>(
+        &mut self,
+        rt: &R,
+        name: &str,
+        text: &[u8],
+        inspected: Inspected<Vec<u8>>,
+    ) -> io::Result<()> {
+        match inspected {
+            Inspected::Script(lines) => {
+                self.tally.count_script();
+                self.out.write_all(&lines)
+            }
+            Inspected::Refused(reason) => self.refused(rt, name, text, reason),
+            Inspected::NoFunction(place) => self.no_function(rt, name, place),
+        }
+    }
+
+    /// Answers for a text with its counts.
+    fn count<R: Runtime + AllocGlobal>(
+        &mut self,
+        rt: &R,
+        options: &StatsOptions,
+        name: &str,
+        text: &[u8],
+        inspected: Inspected<Row>,
+    ) -> io::Result<()> {
+        match inspected {
+            Inspected::Script(row) => {
+                self.tally.count_script();
+                match options.format {
+                    StatsFormat::Human => self.table.add(name, &row)?,
+                    StatsFormat::Json => {
+                        let line = row_line(rt.alloc(), name, &row)?;
+                        self.out.write_all(line.as_bytes())?;
+                    }
+                }
+                Ok(())
+            }
+            Inspected::Refused(reason) => self.refused(rt, name, text, reason),
+            Inspected::NoFunction(place) => self.no_function(rt, name, place),
+        }
+    }
+
+    /// Does for a text what the task is.
+    fn text<R: Runtime + AllocGlobal, J: Judge>(
+        &mut self,
+        rt: &R,
+        judge: &J,
+        name: &str,
+        text: &[u8],
+    ) -> io::Result<()> {
+        match self.task {
+            Task::Check(options) => self.check(rt, judge, options, name, text),
+            Task::Code(options) => {
+                let listing = code_of(rt.alloc(), judge, options, name, text)?;
+                self.list(rt, name, text, listing)
+            }
+            Task::Scopes(options) => {
+                let drawing = scopes_of(rt.alloc(), judge, options, name, text)?;
+                self.list(rt, name, text, drawing)
+            }
+            Task::Stats(options) => {
+                let row = counts_of_text(rt.alloc(), judge, text)?;
+                self.count(rt, options, name, text, row)
+            }
+        }
+    }
+
+    /// Answers for what was read.
+    fn read<R: Runtime + AllocGlobal, J: Judge>(
+        &mut self,
+        rt: &R,
+        judge: &J,
+        name: &str,
+        read: io::Result<Vec<u8>>,
+    ) -> io::Result<()> {
+        match read {
+            Err(error) => self.fault(rt, name, error),
+            Ok(text) => self.text(rt, judge, name, &text),
+        }
+    }
+
+    /// Answers for what the walk found.
+    fn answer<R: Runtime + AllocGlobal, J: Judge>(
+        &mut self,
+        rt: &R,
+        judge: &J,
+        found: Found,
+    ) -> io::Result<()> {
+        match found {
+            Found::Fault(name, error) => self.fault(rt, name.as_str(), error),
+            Found::Input => {
+                let files = self.task.files();
+                let read = input_bytes(rt);
+                self.read(rt, judge, files.stdin_name.as_str(), read)
+            }
+            Found::File(name) => {
+                let read = bytes_of(rt, name.as_str());
+                self.read(rt, judge, name.as_str(), read)
+            }
+        }
+    }
+
+    /// Writes the counts of what `check` found.
+    fn finish_check<R: Runtime + AllocGlobal>(
+        &mut self,
+        rt: &R,
+        options: &CheckOptions,
+    ) -> io::Result<()> {
+        if options.quiet {
+            return Ok(());
+        }
+        let line = human::summary(rt.alloc(), &self.tally, &self.said)?;
+        match options.format {
+            Format::Human => self.out.write_all(line.as_bytes()),
+            Format::Json | Format::Github => eprint!(rt; "{line}"),
+        }
+    }
+
+    /// Writes the table of `stats`.
+    fn finish_stats<R: Runtime + AllocGlobal>(
+        &mut self,
+        rt: &R,
+        options: &StatsOptions,
+    ) -> io::Result<()> {
+        match options.format {
+            StatsFormat::Json => Ok(()),
+            StatsFormat::Human => {
+                let lines = human::table(rt.alloc(), &self.table, &self.tally)?;
+                self.out.write_all(lines.as_bytes())
+            }
+        }
+    }
+
+    /// Writes what comes behind all files.
+    fn finish<R: Runtime + AllocGlobal>(&mut self, rt: &R) -> io::Result<Status> {
+        match self.task {
+            Task::Check(options) => self.finish_check(rt, options)?,
+            Task::Stats(options) => self.finish_stats(rt, options)?,
+            Task::Code(_) | Task::Scopes(_) => (),
+        }
+        self.out.flush()?;
+        Ok(self.tally.status())
+    }
+}
+
+/// Does the task for all files that it names, and writes the answers to standard output. The error is want of memory, or that standard
+/// output takes no more.
+pub(crate) fn answer_files<R: Runtime + AllocGlobal, J: Judge>(
+    rt: &R,
+    judge: &J,
+    task: Task<'_>,
+) -> io::Result<Status> {
+    let files = task.files();
+    let mut walk = Walk::new(rt, files)?;
+    let mut progress = Progress {
+        task,
+        out: BufWriter::new(rt.alloc(), io::writer(rt))?,
+        tally: Tally::new(),
+        said: Said::new(rt.alloc()),
+        table: Table::new(rt.alloc()),
+    };
+    for _ in 0..u64::MAX {
+        let Some(found) = walk.next(rt, files)? else {
+            break;
+        };
+        progress.answer(rt, judge, found)?;
+    }
+    progress.finish(rt)
+}

@@ -1,0 +1,59 @@
+//! The command `scopes`, for one text.
+
+ghost use Rattle.std.specs.Prelude.{List, [], IfOk};
+ghost use Rattle.stencil_data.specs.Named.{NamedMerged};
+ghost use Rattle.stencil_data.specs.StandsFor.{MergedStandsFor};
+ghost use Rattle.bytecode_buf.specs.Command.{Listed};
+ghost use Rattle.script_image.specs.Listed.{ShowsListed};
+ghost use Rattle.holzikra_session.specs.Compiling.{AreScopes, IsInspected, IsWritten};
+
+use crate::inspected::Inspected;
+use crate::verdict::{Compiled, Judge};
+use holzikra_scripts::{Choice, drawn_scopes, graph_of_scopes, plain_scopes};
+use holzikra_words::{ScopesFormat, ScopesOptions};
+use std::alloc::{AllocError, Global};
+use stencil_data::MergedStencil;
+
+/// What is written of a script's scopes.
+fn scope_lines(
+    alloc: Global,
+    options: &ScopesOptions,
+    name: &str,
+    text: &[u8],
+    stencil: &MergedStencil,
+    chosen: &Choice,
+) -> Result<Vec<u8>, AllocError>
+    ensures { IfOk result (λ out. (named : NamedMerged (List Listed)) → MergedStandsFor ShowsListed stencil.now named
+        → AreScopes options.now.format name.now chosen.now named out.items) }
+{
+    match options.format {
+        ScopesFormat::Plain => {
+            let lines = plain_scopes(alloc, name, stencil)?;
+            Ok(lines)
+        }
+        ScopesFormat::Human => drawn_scopes(alloc, name, text, stencil),
+        ScopesFormat::Dot => graph_of_scopes(alloc, name, stencil),
+    }
+}
+
+/// The scopes of a text.
+pub(crate) fn scopes_of<J: Judge>(
+    alloc: Global,
+    judge: &J,
+    options: &ScopesOptions,
+    name: &str,
+    text: &[u8],
+) -> Result<Inspected<Vec<u8>>, AllocError>
+    ensures { IfOk result (IsInspected (J.judges judge.now) [] text.now
+        (λ out. IsWritten (J.shows judge.now) [] text.now (AreScopes options.now.format name.now) out.items)) }
+{
+    let compiled = judge.compile(alloc, text, &[])?;
+    match compiled {
+        Compiled::Script(stencil, chosen) => {
+            let lines = scope_lines(alloc, options, name, text, &stencil, &chosen)?;
+            Ok(Inspected::Script(lines))
+        }
+        Compiled::Refused(reason) => Ok(Inspected::Refused(reason)),
+        Compiled::NoFunction(place) => Ok(Inspected::NoFunction(place)),
+    }
+}

@@ -1,0 +1,62 @@
+//! The words of `code`.
+
+use crate::files::{FileOptions, file_options, with_files};
+use crate::functions::{FunctionWord, function_words, with_functions};
+use crate::parts::{choice, named, switch, value, with};
+use clap::{ArgMatches, Command};
+use std::alloc::{AllocError, Global};
+
+/// How code is listed.
+#[derive(Clone, Copy, Debug, PartialEq, Eq)]
+pub enum CodeFormat {
+    /// With notes, for a person.
+    Human,
+    /// As `stencilc code` lists it.
+    Plain,
+}
+
+/// What `code` is asked for.
+#[derive(Debug, Drop)]
+pub struct CodeOptions {
+    pub files: FileOptions,
+    pub format: CodeFormat,
+    /// The functions that are meant; all where there is none.
+    pub functions: Vec<FunctionWord>,
+    /// Whether the line of the source in which a function starts stands in front of its code.
+    pub source_lines: bool,
+}
+
+static FORMATS: [&str; 2] = ["human", "plain"];
+
+/// The command `code`.
+pub(crate) fn command<'a>(alloc: Global) -> Result<Command<'a>, AllocError> {
+    let command = named(alloc, "code", "list the code, with names and jumps");
+    let command = with_files(alloc, command)?;
+    let command = with_functions(alloc, command)?;
+    let formats = FORMATS.as_slice();
+    let format = choice(alloc, "format", formats, "human", "how code is listed");
+    let command = with(command, format)?;
+    with(
+        command,
+        switch(alloc, "no-source", "no lines of the source"),
+    )
+}
+
+fn format_of(word: &str) -> CodeFormat {
+    match word {
+        "plain" => CodeFormat::Plain,
+        _ => CodeFormat::Human,
+    }
+}
+
+/// What the words of `code` ask for.
+pub(crate) fn options(alloc: Global, found: &ArgMatches<'_>) -> Result<CodeOptions, AllocError> {
+    let files = file_options(alloc, found)?;
+    let functions = function_words(alloc, found)?;
+    Ok(CodeOptions {
+        files,
+        format: format_of(value(found, "format", "human")),
+        functions,
+        source_lines: !found.get_flag("no-source"),
+    })
+}

@@ -1,0 +1,63 @@
+//! The words that name files, for the commands that walk through folders.
+
+use crate::parts::{switch, texts, value, valued, with, words};
+use clap::{Arg, ArgAction, ArgMatches, Command};
+use std::alloc::{AllocError, Global};
+
+/// Which files a command is about.
+#[derive(Debug, Drop)]
+pub struct FileOptions {
+    /// Files, folders, and `-` for standard input, as they were written.
+    pub paths: Vec<String>,
+    /// Folders named `node_modules`, and names that begin with `.`, are entered too.
+    pub all: bool,
+    /// The ends of the names that are taken of a folder, without the point.
+    pub extensions: Vec<String>,
+    /// What standard input is called.
+    pub stdin_name: String,
+}
+
+/// The command with the words that name files.
+pub(crate) fn with_files<'a>(
+    alloc: Global,
+    command: Command<'a>,
+) -> Result<Command<'a>, AllocError> {
+    let paths = words(alloc, "PATH", "a file, a folder, or - for standard input").required(true);
+    let command = with(command, paths)?;
+    let command = with(command, extensions(alloc))?;
+    let stdin_name = valued(alloc, "stdin-name", "NAME", "<stdin>", "what - is called");
+    let command = with(command, stdin_name)?;
+    let all = switch(
+        alloc,
+        "all",
+        "enter node_modules and what begins with a point",
+    );
+    with(command, all)
+}
+
+fn extensions<'a>(alloc: Global) -> Arg<'a> {
+    let extensions = valued(
+        alloc,
+        "ext",
+        "LIST",
+        "js,cjs",
+        "which files of a folder are taken",
+    );
+    extensions.value_delimiter(',').action(ArgAction::Append)
+}
+
+/// Which files the words name.
+pub(crate) fn file_options(
+    alloc: Global,
+    found: &ArgMatches<'_>,
+) -> Result<FileOptions, AllocError> {
+    let paths = texts(alloc, found, "PATH")?;
+    let extensions = texts(alloc, found, "ext")?;
+    let stdin_name = String::from_str(alloc, value(found, "stdin-name", "<stdin>"))?;
+    Ok(FileOptions {
+        paths,
+        all: found.get_flag("all"),
+        extensions,
+        stdin_name,
+    })
+}

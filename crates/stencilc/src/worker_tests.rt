@@ -147,45 +147,6 @@ fn two_workers_meet_in_each_part(rt: HostRuntime) -> Result<(), Fail> {
     Ok(())
 }
 
-/// A script of n statements, of which each has two instructions.
-fn statements(alloc: Global, count: usize) -> Result<Vec<u8>, AllocError> {
-    let mut text = Vec::new(alloc);
-    for _ in 0..count {
-        text.extend_from_slice(b"x;")?;
-    }
-    Ok(text)
-}
-
-#[test]
-fn two_workers_meet_at_the_pieces_of_a_listing(rt: HostRuntime) -> Result<(), Fail> {
-    let alloc = rt.alloc();
-    let gate = MeetGate::new(2, 2, 100_000_000);
-    let text = statements(alloc, 4_000)?;
-    let (status, _) = printed(&rt, alloc, &["--workers", "2"], 1, &text, &gate)?;
-    assert!(rt; status == Status::Done);
-    assert!(rt; gate.met());
-    Ok(())
-}
-
-/// How many lines end in these bytes.
-fn lines_of(bytes: &[u8]) -> usize {
-    bytes.iter().filter(|byte| **byte == b'\n').count()
-}
-
-#[test]
-fn prints_many_pieces_the_same_with_any_workers(rt: HostRuntime) -> Result<(), Fail> {
-    let alloc = rt.alloc();
-    let text = statements(alloc, 40_000)?;
-    let (_, wanted) = printed(&rt, alloc, &["--workers", "1"], 1, &text, &OpenGate)?;
-    assert!(rt; lines_of(&wanted) == 80_004);
-    for workers in ["2", "16"] {
-        let (status, bytes) = printed(&rt, alloc, &["--workers", workers], 1, &text, &OpenGate)?;
-        assert!(rt; status == Status::Done);
-        assert!(rt; bytes.as_slice() == wanted.as_slice());
-    }
-    Ok(())
-}
-
 #[test]
 fn prints_one_file_the_same_with_any_workers_and_order(rt: HostRuntime) -> Result<(), Fail> {
     let alloc = rt.alloc();

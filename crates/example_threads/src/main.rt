@@ -146,11 +146,7 @@ fn asked_by<N: Sources>(
 }
 
 /// One seat of two whose passes have met: what they know of a function is one result.
-fn meet<N: Sources>(
-    board: &Board<'_, N>,
-    one: Seat<N>,
-    two: Seat<N>,
-) -> Result<Seat<N>, AllocError>
+fn meet<N: Sources>(board: &Board<'_, N>, one: Seat<N>, two: Seat<N>) -> Result<Seat<N>, AllocError>
     requires one { BelongsTo one.pass board.now }
     requires two { BelongsTo two.pass board.now }
     ensures belongs { IfOk result (λ seat. BelongsTo seat.pass board.now) }

@@ -3,14 +3,15 @@ _holzikra() {
     local word="${COMP_WORDS[COMP_CWORD]}" before="${COMP_WORDS[COMP_CWORD - 1]}" command="${COMP_WORDS[1]}"
     local files="--ext --all --stdin-name --help" formats
     if [ "$COMP_CWORD" -eq 1 ]; then
-        mapfile -t COMPREPLY < <(compgen -W "check code scopes stats explain --help --version" -- "$word")
+        mapfile -t COMPREPLY < <(compgen -W "check code scopes stats diff report save load verify explain --help --version" -- "$word")
         return
     fi
     case "$command" in
-    check) formats="human json github" ;;
-    code) formats="human plain" ;;
-    scopes) formats="human plain dot" ;;
-    stats) formats="human json" ;;
+    check) formats="human json github sarif" ;;
+    code) formats="human plain json" ;;
+    scopes) formats="human plain json dot" ;;
+    stats | verify) formats="human json" ;;
+    load) formats="human plain" ;;
     esac
     case "$before" in
     --format) mapfile -t COMPREPLY < <(compgen -W "$formats" -- "$word") && return ;;
@@ -18,8 +19,12 @@ _holzikra() {
     esac
     case "$command:$word" in
     check:-*) mapfile -t COMPREPLY < <(compgen -W "--format --unsupported --max --quiet $files" -- "$word") ;;
-    code:-*) mapfile -t COMPREPLY < <(compgen -W "--format --function --no-source $files" -- "$word") ;;
-    scopes:-* | stats:-*) mapfile -t COMPREPLY < <(compgen -W "--format $files" -- "$word") ;;
+    code:-*) mapfile -t COMPREPLY < <(compgen -W "--format --function --at --only --no-source $files" -- "$word") ;;
+    scopes:-*) mapfile -t COMPREPLY < <(compgen -W "--format --function --at --only $files" -- "$word") ;;
+    stats:-* | load:-* | verify:-*) mapfile -t COMPREPLY < <(compgen -W "--format $files" -- "$word") ;;
+    diff:-*) mapfile -t COMPREPLY < <(compgen -W "--stdin-name --help" -- "$word") ;;
+    report:-*) mapfile -t COMPREPLY < <(compgen -W "--output $files" -- "$word") ;;
+    save:-*) mapfile -t COMPREPLY < <(compgen -W "--output --stdin-name --help" -- "$word") ;;
     explain:*) ;;
     *) compopt -o default ;;
     esac

@@ -1,10 +1,8 @@
 //! Texts as long as a file may be, each of one kind of token.
+use crate::reading::tokens_of;
 use anyhow::{Result, bail};
-use parser_atoms::Atoms;
-use script_scanner::scan;
 use std::alloc::{AllocError, Global};
 use std::fmt::Write;
-use unit_text::decode;
 
 /// The most bytes of a file.
 const MOST_BYTES: usize = 16_777_215;
@@ -34,11 +32,7 @@ fn print_tokens(rt: &impl Print, alloc: Global, what: &str, text: &str) -> Resul
     if text.len() > MOST_BYTES {
         bail!("too long a text");
     }
-    let Ok(points) = decode(alloc, text.as_bytes()) else {
-        bail!("no memory");
-    };
-    let mut atoms = Atoms::new(alloc);
-    let tokens = scan(alloc, points.as_slice(), 0, text.len() as u32, &mut atoms)?;
+    let (tokens, atoms) = tokens_of(alloc, text.as_bytes())?;
     let tokens = tokens.len();
     let texts = atoms.len();
     println!(rt; "{what}: {tokens} tokens, {texts} texts")?;

@@ -2,13 +2,14 @@
 //!
 //! Without words it reads rows from the standard input, scans the text of each row, and prints how many rows there are, how many
 //! of them came out otherwise and what came. With the word `rates` it also generates a script of some megabytes and
-//! prints how many megabytes a second are decoded and scanned. With the word `huge` it scans texts of 16,777,215 bytes, of
+//! prints how many megabytes a second are scanned. With the word `huge` it scans texts of 16,777,215 bytes, of
 //! one kind each, and prints how many tokens they have. With the word `whole` it reads no rows: the standard input is one script, which
-//! it decodes and scans once.
+//! it scans once.
 #![tactic(auto)]
 
 mod huge;
 mod rates;
+mod reading;
 mod rows;
 mod shown;
 mod whole;

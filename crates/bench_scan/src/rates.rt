@@ -1,11 +1,9 @@
-//! How fast a generated script is decoded and scanned.
+//! How fast a generated script is scanned.
+use crate::reading::tokens_of;
 use anyhow::{Result, bail};
-use parser_atoms::Atoms;
-use script_scanner::scan;
 use std::alloc::{AllocError, Global};
 use std::rt::Clock;
 use std::time::{Duration, Instant};
-use unit_text::decode;
 
 /// A piece of a script, of a kilobyte or so.
 const PIECE: &str = "// One function of many, as a page has them.
@@ -43,7 +41,7 @@ fn print_rate(rt: &impl Print, what: &str, bytes: usize, time: Duration) -> Resu
     Ok(())
 }
 
-/// Generates a script, decodes and scans it, and prints the rates.
+/// Generates a script, scans it, and prints the rate.
 pub fn print_rates(rt: &(impl Print + Clock), alloc: Global) -> Result<()> {
     let script = generated(alloc)?;
     let bytes = script.len();
@@ -51,13 +49,7 @@ pub fn print_rates(rt: &(impl Print + Clock), alloc: Global) -> Result<()> {
         bail!("too long a script");
     }
     let start = Instant::now(rt)?;
-    let Ok(points) = decode(alloc, script.as_bytes()) else {
-        bail!("no memory");
-    };
-    print_rate(rt, "decode", bytes, start.elapsed(rt)?)?;
-    let mut atoms = Atoms::new(alloc);
-    let start = Instant::now(rt)?;
-    let tokens = scan(alloc, points.as_slice(), 0, bytes as u32, &mut atoms)?;
+    let (tokens, _) = tokens_of(alloc, script.as_bytes())?;
     print_rate(rt, "scan", bytes, start.elapsed(rt)?)?;
     let count = tokens.len();
     println!(rt; "{bytes} bytes, {count} tokens")?;

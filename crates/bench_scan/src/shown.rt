@@ -1,11 +1,10 @@
 //! Tokens as a reader of the table sees them.
+use crate::reading::tokens_of;
 use anyhow::{Result, bail};
 use parser_atoms::Atoms;
 use script_grammar::token::{Kind, Token};
-use script_scanner::scan;
 use std::alloc::{AllocError, Global};
 use std::fmt::Write;
-use unit_text::decode;
 
 /// The marks, in the order of their indexes.
 const MARKS: &str =
@@ -37,12 +36,7 @@ pub fn shown(alloc: Global, text: &str) -> Result<String> {
     if text.len() > 1000 {
         bail!("a long row");
     }
-    let Ok(points) = decode(alloc, text.as_bytes()) else {
-        bail!("no memory");
-    };
-    let mut atoms = Atoms::new(alloc);
-    let end = text.len() as u32;
-    let tokens = scan(alloc, points.as_slice(), 0, end, &mut atoms)?;
+    let (tokens, atoms) = tokens_of(alloc, text.as_bytes())?;
     let mut line = String::new(alloc);
     for token in &tokens {
         if !line.is_empty() {

@@ -30,7 +30,8 @@ abbrev pub found_in : Skimmed → FoundBody
 found_in s = record { found = s.found; strict = s.errors.strict }
 
 -- The lists are those of what is kept of each of these nodes, in their order.
-pub record AreSkimmed {B : Type 0} (shows : Interpretation → B → Stmts → Type 0) (bodies : List B) (told : List Piece) (found : List FoundBody) (errors : List BodyErrors) : Type 0 where
+pub record AreSkimmed {B : Type 0} (shows : Interpretation → B → Stmts → Type 0) (bodies : List B) (told : List Piece) (found : List FoundBody)
+    (errors : List BodyErrors) : Type 0 where
   pub each : List Skimmed
   pub apart : ShowAll (IsApart shows) bodies each
   pub are_told : told ≡ map (λ (s : Skimmed). s.told) each

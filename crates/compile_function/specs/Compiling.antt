@@ -27,7 +27,8 @@ stands_as i tree kind name chain = record { func = func_of i tree; kind = kind; 
 
 -- With these bodies in place of those that were passed over, the tree stands for this function. Its own body was read, it
 -- keeps all bounds, none of its names is empty, and these are the names that functions inside it close over.
-pub record CanBeCompiled (texts : List (List ℕ)) (bodies : ℕ → Stmts) (tree : Func) (kind : FuncKind) (name : Option ℕ) (closed : List ClosedName) (chain : List LinkView) (f : Sited) : Type 0 where
+pub record CanBeCompiled (texts : List (List ℕ)) (bodies : ℕ → Stmts) (tree : Func) (kind : FuncKind) (name : Option ℕ) (closed : List ClosedName)
+    (chain : List LinkView) (f : Sited) : Type 0 where
   pub is : stands_as (under texts bodies) tree kind name chain ≡ f
   pub body : Body
   pub read : HasBody (under texts bodies) tree body
@@ -39,6 +40,8 @@ pub record CanBeCompiled (texts : List (List ℕ)) (bodies : ℕ → Stmts) (tre
 
 -- The stencil stands for what the function is compiled to, and these are the functions directly in it, each under the chain
 -- that it gets there.
-pub record IsCompiledFunction (texts : List (List ℕ)) (bodies : ℕ → Stmts) (stencil : FunctionView) (inside : List FunctionSite) (f : Sited) : Type 0 where
+pub record IsCompiledFunction (texts : List (List ℕ)) (bodies : ℕ → Stmts) (stencil : FunctionView) (inside : List FunctionSite)
+    (f : Sited) : Type 0 where
   pub stands : FunctionStandsFor ShowsCommands texts stencil (function_script f.kind f.name f.func f.chain).part
-  pub found : map (sited (under texts bodies)) inside ≡ map (sited_in (function_scopes f.kind f.name f.func) f.chain) (inner_function f.kind f.name f.func)
+  pub found : map (sited (under texts bodies)) inside
+      ≡ map (sited_in (function_scopes f.kind f.name f.func) f.chain) (inner_function f.kind f.name f.func)

@@ -40,7 +40,8 @@ pub fn compile_function<'a>(
     texts: &[Text],
 ) -> Result<CompiledFunction<'a>, AllocError>
     requires { (bodies : ℕ → Stmts) × (f : Sited) × CanBeCompiled texts.now bodies func.now kind name closed.now chain.now f }
-    ensures { IfOk result (λ made. (bodies : ℕ → Stmts) (f : Sited) → CanBeCompiled texts.now bodies func.now kind name closed.now chain.now f → IsCompiledFunction texts.now bodies made.stencil made.inside.items f) }
+    ensures { IfOk result (λ made. (bodies : ℕ → Stmts) (f : Sited) → CanBeCompiled texts.now bodies func.now kind name closed.now chain.now f
+        → IsCompiledFunction texts.now bodies made.stencil made.inside.items f) }
 {
     let scopes = scopes(alloc, func, kind, name, closed, texts)?;
     let inside = function_sites(alloc, func, &scopes, chain, texts)?;

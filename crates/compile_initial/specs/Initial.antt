@@ -25,7 +25,8 @@ use Rattle.compile_initial.specs.declared.InitialStencil.{InitialStencil}
 -- The function stands at this place directly in the one of this number. Where the number is 0, nothing is said.
 abbrev pub StandsInside : List Site → (number place : ℕ) → Inner → Type 0
 StandsInside all zero place f = Unit {0}
-StandsInside all (suc n) place f = (outer : Site) × (slice_get all n ≡ Some outer) × (slice_get (inner_function outer.inner.kind outer.inner.name outer.inner.func) place ≡ Some f)
+StandsInside all (suc n) place f =
+    (outer : Site) × (slice_get all n ≡ Some outer) × (slice_get (inner_function outer.inner.kind outer.inner.name outer.inner.func) place ≡ Some f)
 
 -- The function of this number stands directly in the one around it, whose number is smaller, and gets its chain from there.
 pub record IsAround (top : List (List LinkView)) (all : List Site) (number : ℕ) (a : Nesting) (s : Site) : Type 0 where

@@ -13,7 +13,7 @@ use stencil_data::LazyRecord;
 fn starts_of(alloc: Global, functions: &[ListedFunction]) -> Result<Vec<u32>, AllocError>
     ensures { IfOk result (λ starts. starts.items ≡ map start_at functions.now) }
 {
-    let mut starts = Vec::new(alloc);
+    let mut starts = Vec::with_capacity(alloc, functions.len())?;
     for function in functions {
         starts.push(function.extent.start)?;
     }
@@ -47,7 +47,7 @@ pub(crate) fn records_of(
     ensures { IfOk result (λ records. AreRecordsOf closed.now functions.now records.items) }
 {
     let starts = starts_of(alloc, functions)?;
-    let mut records = Vec::new(alloc);
+    let mut records = Vec::with_capacity(alloc, functions.len())?;
     for function in functions {
         records.push(record_of(alloc, &starts, closed, function)?)?;
     }
@@ -61,7 +61,7 @@ pub(crate) fn around_of(
 ) -> Result<Vec<Nesting>, AllocError>
     ensures { IfOk result (λ around. around.items ≡ map around_at functions.now) }
 {
-    let mut around = Vec::new(alloc);
+    let mut around = Vec::with_capacity(alloc, functions.len())?;
     for function in functions {
         around.push(Nesting {
             number: function.around,

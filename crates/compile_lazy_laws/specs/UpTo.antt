@@ -9,13 +9,15 @@ use Rattle.stencil_merge.specs.Instructions.{numbered_commands}
 use Rattle.stencil_merge.specs.Merging.{with_function}
 
 -- the entries of functions, of which the first ones, n, were taken: the others are not compiled
-abbrev pub entries_up_to : (count : ℕ) → Wanted → List Extent → List ℕ → List (NamedFunction (List Command)) → List (Option (NamedFunction (List Command)))
+abbrev pub entries_up_to : (count : ℕ) → Wanted → List Extent → List ℕ → List (NamedFunction (List Command))
+    → List (Option (NamedFunction (List Command)))
 entries_up_to zero want all starts functions = map (λ (f : NamedFunction (List Command)). None) functions
 entries_up_to (suc count) want all starts [] = []
 entries_up_to (suc count) want all starts (f ∷ functions) = entry want all starts f ∷ entries_up_to count want all starts functions
 
 -- what is shown of a script, of whose functions n were taken
-abbrev pub shown_up_to : (count : ℕ) → Wanted → List (Bound (List ℕ)) → NamedFunction (List Command) → List (NamedFunction (List Command)) → NamedMerged (List Command)
+abbrev pub shown_up_to : (count : ℕ) → Wanted → List (Bound (List ℕ)) → NamedFunction (List Command) → List (NamedFunction (List Command))
+    → NamedMerged (List Command)
 shown_up_to count want bound top functions = record {
   top = with_numbers (starts_of functions) top;
   records = map (record_of (starts_of functions) bound) functions;

@@ -49,7 +49,8 @@ fn add(
     start: u32,
     name: ClosedName,
 ) -> Result<(), AllocError>
-    ensures { OnOk result ((other : ℕ) → names_or (get nat_cmp functions.new other) ≡ names_or (get nat_cmp functions.old other) ++ cond (nat_eq start other) (name ∷ []) []) }
+    ensures { OnOk result ((other : ℕ) → names_or (get nat_cmp functions.new other)
+        ≡ names_or (get nat_cmp functions.old other) ++ cond (nat_eq start other) (name ∷ []) []) }
 {
     let mut names = taken(alloc, functions, start);
     names.push(name)?;

@@ -18,7 +18,8 @@ pub fn number_of(starts: &[u32], start: u32) -> u32
 
 /// The numbers of the functions with these extents.
 pub fn numbers_of(alloc: Global, starts: &[u32], extents: &[Extent]) -> Result<Vec<u32>, AllocError>
-    ensures { IfOk result (λ numbers. OffsetsRise 0 starts.now → length starts.now + 1 < 2 ^ 32 → numbers.items ≡ shown.numbers_of starts.now extents.now) }
+    ensures { IfOk result (λ numbers. OffsetsRise 0 starts.now → length starts.now + 1 < 2 ^ 32
+        → numbers.items ≡ shown.numbers_of starts.now extents.now) }
 {
     let mut numbers = Vec::new(alloc);
     for extent in extents {

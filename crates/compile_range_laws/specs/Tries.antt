@@ -1,6 +1,8 @@
 -- How many try statements stand in a script or a function, those in the functions inside left out.
 use Rattle.std.specs.Prelude.{ℕ, suc, ◌+◌}
-use Rattle.script_grammar.specs.Tree.{Function, function, Body, BracedBody, ShortBody, Clauses, no_clauses, more_clauses, Stmt, Stmts, no_stmts, more_stmts, MaybeStmt, no_stmt, some_stmt, Block, Empty, Debugger, Binding, Value, If, Do, While, For, ForIn, Continue, Break, Return, Throw, Switch, Label, Try, Declared}
+use Rattle.script_grammar.specs.Tree.{Function, function, Body, BracedBody, ShortBody, Clauses, no_clauses, more_clauses, Stmt, Stmts, no_stmts}
+use Rattle.script_grammar.specs.Tree.{more_stmts, MaybeStmt, no_stmt, some_stmt, Block, Empty, Debugger, Binding, Value, If, Do, While, For, ForIn}
+use Rattle.script_grammar.specs.Tree.{Continue, Break, Return, Throw, Switch, Label, Try, Declared}
 
 abbrev mutual
   pub tries_stmt : Stmt → ℕ

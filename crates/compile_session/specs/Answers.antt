@@ -43,16 +43,19 @@ IsSourceText want file (source.Refused why) = IsSource want file (IsRefused (ref
 -- what is written for a file that is within the limit, and whether it is refused: this, and nothing else
 pub record IsAnswerFor (command : Command) (want : Wanted) (name file : List ℕ) (given : FileAnswer) : Type 0 where
   pub is : answer.IsOf command want name file given.text given.refused
-  pub only : (other : List ℕ) (other_refused : Bool) → answer.IsOf command want name file other other_refused → (other ≡ given.text) × (other_refused ≡ given.refused)
+  pub only : (other : List ℕ) (other_refused : Bool) → answer.IsOf command want name file other other_refused
+      → (other ≡ given.text) × (other_refused ≡ given.refused)
 
 -- The text and whether the file is refused are the answer for a file that has these bytes, and there is no other.
 pub record Settles (job : Job) (before : ℕ) (name file : List ℕ) (text : List ℕ) (refused : Bool) : Type 0 where
   pub is : IsOfFile job.command job.want before name file text refused
-  pub only : (other : List ℕ) (other_refused : Bool) → IsOfFile job.command job.want before name file other other_refused → (other ≡ text) × (other_refused ≡ refused)
+  pub only : (other : List ℕ) (other_refused : Bool) → IsOfFile job.command job.want before name file other other_refused
+      → (other ≡ text) × (other_refused ≡ refused)
 
 -- the same of whatever file was read so, after n bytes of others
 abbrev pub SettlesRead : Job → List ℕ → Option (Vec ℕ Global) → FileAnswer → Type 0
-SettlesRead job name read answer = (before : ℕ) (file : List ℕ) → IsWholeBehind most_bytes before file read → Settles job before name file answer.text answer.refused
+SettlesRead job name read answer =
+    (before : ℕ) (file : List ℕ) → IsWholeBehind most_bytes before file read → Settles job before name file answer.text answer.refused
 
 -- n functions were compiled for what was read of a file: as many as whatever file was read so, after m bytes of others,
 -- shows compiled, and none where the command compiles none whatever its files hold.

@@ -36,11 +36,14 @@ IsBefore status.NoMemory = ⊥
 -- The text and whether a file is refused are the answer for these files, after n bytes of others, and there is no other.
 pub record SettlesAll (job : Job) (held : List ℕ → List ℕ) (before : ℕ) (names : List (List ℕ)) (text : List ℕ) (refused : Bool) : Type 0 where
   pub is : IsOfFiles job.command job.want held before names text refused
-  pub only : (other : List ℕ) (other_refused : Bool) → IsOfFiles job.command job.want held before names other other_refused → (other ≡ text) × (other_refused ≡ refused)
+  pub only : (other : List ℕ) (other_refused : Bool) → IsOfFiles job.command job.want held before names other other_refused
+      → (other ≡ text) × (other_refused ≡ refused)
 
 -- the same of what was read of the files of a command
 abbrev pub AnswersAll : Job → List (Option (Vec ℕ Global)) → WholeAnswer → Type 0
-AnswersAll job reads answer = (held : List ℕ → List ℕ) → AreWholeBehind most_bytes held 0 job.files reads → SettlesAll job held 0 job.files (texts_in answer.files.items) answer.refused
+AnswersAll job reads answer =
+    (held : List ℕ → List ℕ) → AreWholeBehind most_bytes held 0 job.files reads
+    → SettlesAll job held 0 job.files (texts_in answer.files.items) answer.refused
 
 -- The text and whether a file is refused are the answer to what is asked, and there is no other.
 pub record SettlesWork (asked : Asked) (held : List ℕ → List ℕ) (text : List ℕ) (refused : Bool) : Type 0 where
@@ -49,7 +52,9 @@ pub record SettlesWork (asked : Asked) (held : List ℕ → List ℕ) (text : Li
 
 -- the same of what was read of its files
 abbrev pub AnswersWork : Asked → List (Option (Vec ℕ Global)) → WholeAnswer → Type 0
-AnswersWork asked reads answer = (held : List ℕ → List ℕ) → AreWholeBehind most_bytes held 0 (files_of asked) reads → SettlesWork asked held (texts_in answer.files.items) answer.refused
+AnswersWork asked reads answer =
+    (held : List ℕ → List ℕ) → AreWholeBehind most_bytes held 0 (files_of asked) reads
+    → SettlesWork asked held (texts_in answer.files.items) answer.refused
 
 -- whether each function that is shown is compiled once for what is asked: `churn` compiles functions again and again
 abbrev pub compiles_once : Asked → Bool
@@ -60,7 +65,8 @@ compiles_once (Churn number size workers) = false
 -- n functions were compiled for what is asked, by what was read of its files: where each is compiled once, as many as whatever
 -- files were read so show compiled, and none where none are whatever the files hold. They are at most 2^40.
 pub record CountsWork (asked : Asked) (reads : List (Option (Vec ℕ Global))) (count : ℕ) : Type 0 where
-  pub is : compiles_once asked ≡ true → (held : List ℕ → List ℕ) → AreWholeBehind most_bytes held 0 (files_of asked) reads → CompilesAsked asked held count
+  pub is : compiles_once asked ≡ true → (held : List ℕ → List ℕ) → AreWholeBehind most_bytes held 0 (files_of asked) reads
+      → CompilesAsked asked held count
   pub few : count ≤ 2 ^ 40
   pub none : compiles_none asked ≡ true → count ≡ 0
 

@@ -27,5 +27,6 @@ listing_for _ = of.Code
 -- this is what the command writes of every script without errors that the stencil shows, whatever file it is
 abbrev pub IsWrittenFor : Command → List ℕ → MergedView → List ℕ → Type 0
 IsWrittenFor command name shown out =
-    (want : Wanted) (file : List ℕ) (items : Stmts) (count : ℕ) → length file ≤ most_bytes → IsValid file items count → Shows (to_show want) items (length file) shown
+    (want : Wanted) (file : List ℕ) (items : Stmts) (count : ℕ) → length file ≤ most_bytes → IsValid file items count
+    → Shows (to_show want) items (length file) shown
     → IsWritten command want name (length file) items count out

@@ -5,8 +5,11 @@ use Rattle.stencil_data.specs.MergedView.{MergedView}
 use Rattle.session_words.specs.declared.options.Command.{Command}
 use Rattle.session_words.specs.declared.options.FileJob.{FileJob}
 use Rattle.session_words.specs.Asked.{Job, wanted}
+use Rattle.session_specs.specs.Answer.{to_show}
 use Rattle.session_specs.specs.Compiled.{shows_scripts}
 use Rattle.stencil_board.specs.Files.{File}
+use Rattle.session_requests.specs.declared.requests.Request.{Request}
+use Rattle.session_requests.specs.Requests.{AreAllAsked}
 use Rattle.session_requests.specs.Views.{WorkView}
 use Rattle.session_requests.specs.Works.{AreWorks, IsMergedOf, shown_of, work_at}
 use Rattle.compile_session.specs.declared.answer.FileAnswer.{FileAnswer}
@@ -39,10 +42,16 @@ IsAskedOf (Some bytes) (start.Script script) (Some work) =
 -- one for each file
 pub record AreAsked (reads : List (Option (Vec ℕ Global))) (starts : List FileStart) (works : List (Option WorkView)) : Type 0 where
   pub long : length works ≡ length starts
-  pub each : (number : ℕ) (read : Option (Vec ℕ Global)) (given : FileStart) → slice_get reads number ≡ Some read → slice_get starts number ≡ Some given → IsAskedOf read given (work_at works number)
+  pub each : (number : ℕ) (read : Option (Vec ℕ Global)) (given : FileStart)
+      → slice_get reads number ≡ Some read → slice_get starts number ≡ Some given → IsAskedOf read given (work_at works number)
+
+-- All that the command wants of these files is asked for, in its order.
+abbrev pub AreAskedBy : FileJob → List (Option WorkView) → (files : List ℕ) → List Request → Type 0
+AreAskedBy job works files requests = AreAllAsked job.order (to_show (wanted job.want)) works files requests
 
 -- The command shows the scripts of its files. Of n of these the first passes were made, and their functions can be asked for.
-pub record CanBeShown (files : List File) (job : FileJob) (reads : List (Option (Vec ℕ Global))) (starts : List FileStart) (works : List (Option WorkView)) (count : ℕ) : Type 0 where
+pub record CanBeShown (files : List File) (job : FileJob) (reads : List (Option (Vec ℕ Global))) (starts : List FileStart)
+    (works : List (Option WorkView)) (count : ℕ) : Type 0 where
   pub shows : shows_scripts job.command ≡ true
   pub named : count ≤ length job.files.items
   pub read : count ≤ length reads
@@ -51,7 +60,8 @@ pub record CanBeShown (files : List File) (job : FileJob) (reads : List (Option 
   pub fit : AreWorks files works
 
 -- This is the answer for the file of this number, and as many functions are shown in it as are to be.
-pub record ShowsFile (job : Job) (reads : List (Option (Vec ℕ Global))) (works : List (Option WorkView)) (number : ℕ) (answer : FileAnswer) : Type 0 where
+pub record ShowsFile (job : Job) (reads : List (Option (Vec ℕ Global))) (works : List (Option WorkView)) (number : ℕ)
+    (answer : FileAnswer) : Type 0 where
   pub settles : SettlesFile job reads number answer
   pub count : answer.compiled ≡ shown_of (work_at works number)
 

@@ -16,7 +16,8 @@ pub record CanBeAnswered (job : FileJob) (reads : List (Option (Vec ℕ Global))
 
 -- This is the answer for the file of this number, by what was read of it, and it shows n functions compiled, fewer than 2^24.
 pub record SettlesFile (job : Job) (reads : List (Option (Vec ℕ Global))) (number : ℕ) (answer : FileAnswer) : Type 0 where
-  pub settles : (name : List ℕ) (read : Option (Vec ℕ Global)) → slice_get job.files number ≡ Some name → slice_get reads number ≡ Some read → SettlesRead job name read answer
+  pub settles : (name : List ℕ) (read : Option (Vec ℕ Global)) → slice_get job.files number ≡ Some name → slice_get reads number ≡ Some read
+      → SettlesRead job name read answer
   pub counts : (read : Option (Vec ℕ Global)) → slice_get reads number ≡ Some read → CountsRead job read answer.compiled
   pub few : answer.compiled < 2 ^ 24
 

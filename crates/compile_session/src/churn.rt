@@ -44,7 +44,8 @@ pub(crate) fn churn_answer<R: Threads + Wait + Sync, G: Gate>(
 ) -> Result<WholeAnswer, AllocError>
     requires size { size ≤ 100000 }
     requires workers { (1 ≤ workers) × (workers ≤ 16) }
-    ensures settles { IfOk result (λ given. (by : ℕ) (held : List ℕ → List ℕ) → SettlesWork (asked.Churn number size by) held (texts_in given.files.items) given.refused) }
+    ensures settles { IfOk result (λ given. (by : ℕ) (held : List ℕ → List ℕ)
+        → SettlesWork (asked.Churn number size by) held (texts_in given.files.items) given.refused) }
     ensures counts { IfOk result (λ given. CountsChurn given.compiled) }
 {
     let text = generated_text(alloc, number, size)?;

@@ -43,7 +43,8 @@ pub fn run<R: Threads + Wait + Sync, L: Shelf, K: Sink, G: Gate, T: Tally>(
     // What the sink has taken where all was done: the answer to the words, where the files hold what the shelf tells. There is no
     // other answer, to these words or to others that ask for the same with another number of workers or another order.
     ensures answer { (held : List ℕ → List ℕ) → L.held shelf.old ≡ Some held → IsWhole result →
-        (out : List ℕ) × (refused : Bool) × IsAnswer (map string_bytes words.now) held out refused × (result ≡ status_of refused) × Gains (K.taken sink.old) (K.taken sink.new) out }
+        (out : List ℕ) × (refused : Bool) × IsAnswer (map string_bytes words.now) held out refused × (result ≡ status_of refused)
+        × Gains (K.taken sink.old) (K.taken sink.new) out }
     ensures only { (held : List ℕ → List ℕ) → L.held shelf.old ≡ Some held → IsWhole result → (out : List ℕ) (refused : Bool) →
         IsAnswer (map string_bytes words.now) held out refused → (result ≡ status_of refused) × Gains (K.taken sink.old) (K.taken sink.new) out }
     ensures alike { (held : List ℕ → List ℕ) → L.held shelf.old ≡ Some held → IsWhole result → (others : List (List ℕ)) →

@@ -3,14 +3,13 @@
 ghost use Rattle.std.specs.Prelude.{◌≡◌, ◌≢◌, ℕ, ◌≤◌, ◌<◌, ◌*◌, ◌^◌, true, length, IfOk, Some, None};
 ghost use Rattle.helper_tasks.specs.Jobs.{IsOrderOf};
 ghost use Rattle.session_words.specs.Asked as asked;
-ghost use Rattle.session_specs.specs.Answer as answer;
 ghost use Rattle.session_specs.specs.Compiled.{shows_scripts};
 ghost use Rattle.stencil_board.specs.Files.{file_at};
 ghost use Rattle.session_requests.specs.Hands.{Fits};
-ghost use Rattle.session_requests.specs.Requests.{AreAllAsked};
 ghost use Rattle.session_requests.specs.Works.{AreWorks, IsWorkOf, shown_of, work_at};
 ghost use Rattle.compile_session.specs.Orders.{AreBegunIn};
-ghost use Rattle.compile_session.specs.Showing.{AreAsked, CanBeShown, IsAskedOf, ShowsFile, ShowsScript, compiled_in, picked_file, picked_files};
+ghost use Rattle.compile_session.specs.Showing.{AreAsked, AreAskedBy, CanBeShown, IsAskedOf, ShowsFile, ShowsScript, compiled_in, picked_file};
+ghost use Rattle.compile_session.specs.Showing.{picked_files};
 ghost use Rattle.compile_session.specs.Starts.{AreStarts, IsStart};
 ghost use Rattle.compile_session.specs.Workers.{CanBeAnswered, SettleFiles};
 
@@ -60,7 +59,8 @@ impl<'a, N: Sources + Send + Sync> Job for FilesToShow<'a, N> {
 
     ghost gives = { λ files number answer. ShowsFile (asked.job files.job.now) files.reads.now files.works.now number answer };
 
-    ghost fits = { λ files hand. CanBeShown N.files files.job.now files.reads.now files.starts.now files.works.now files.count × Fits files.works.now hand };
+    ghost fits = { λ files hand. CanBeShown N.files files.job.now files.reads.now files.starts.now files.works.now files.count
+        × Fits files.works.now hand };
 
     ghost ran = { λ hand. hand.ran };
 
@@ -238,7 +238,7 @@ fn answers_by<R: Threads + Wait + Sync, G: Gate, N: Sources + Send + Sync>(
     requires can { CanBeShown N.files files.now.job.now files.now.reads.now files.now.starts.now files.now.works.now files.now.count }
     requires order { IsOrderOf files.now.count order.now }
     requires begun { AreBegunIn files.now.job.now.order files.now.reads.now files.now.count order.now }
-    requires asked { AreAllAsked files.now.job.now.order (answer.to_show (asked.wanted files.now.job.now.want)) files.now.works.now order.now requests.now }
+    requires asked { AreAskedBy files.now.job.now files.now.works.now order.now requests.now }
     requires workers { (1 ≤ files.now.job.now.workers) × (files.now.job.now.workers ≤ 16) }
     requires few { files.now.count ≤ 64 }
     ensures settles { IfOk result (λ shown. SettleFiles (asked.job files.now.job.now) files.now.reads.now files.now.count shown.answers.items) }

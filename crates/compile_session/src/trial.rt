@@ -37,7 +37,8 @@ fn trial_line(
     functions: u64,
     instructions: u128,
 ) -> Result<Vec<u8>, AllocError>
-    ensures { IfOk result (λ text. text.items ≡ codes "trial " ++ answer.numbers_text number size ++ decimal bytes ++ codes " bytes, " ++ answer.counts_text functions instructions) }
+    ensures { IfOk result (λ text. text.items
+        ≡ codes "trial " ++ answer.numbers_text number size ++ decimal bytes ++ codes " bytes, " ++ answer.counts_text functions instructions) }
 {
     let mut out = Vec::from_slice(alloc, b"trial ")?;
     append_numbers(&mut out, number, size)?;
@@ -98,7 +99,8 @@ pub(crate) fn trial_answer<R: Threads + Wait + Sync, G: Gate>(
 ) -> Result<CommandAnswer, AllocError>
     requires size { size ≤ 100000 }
     requires workers { (1 ≤ workers) × (workers ≤ 16) }
-    ensures settles { IfOk result (λ given. (by : ℕ) (held : List ℕ → List ℕ) → SettlesWork (asked.Trial number size by) held (texts_in given.answer.files.items) given.answer.refused) }
+    ensures settles { IfOk result (λ given. (by : ℕ) (held : List ℕ → List ℕ)
+        → SettlesWork (asked.Trial number size by) held (texts_in given.answer.files.items) given.answer.refused) }
     ensures counts { IfOk result (λ given. CountsTrial number size given.answer.compiled) }
     ensures compiled { IfOk result (λ given. IsCompiledBy workers given.answer.compiled given.compiled) }
 {

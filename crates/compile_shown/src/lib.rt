@@ -140,6 +140,6 @@ fn begin(alloc: Global, initial: &InitialStencil) -> Result<Merger, AllocError>
     requires { (bytes : List ℕ) × IsInitialOf bytes initial.now }
     ensures { IfOk result (BeginsWith initial.now) }
 {
-    let merger = Merger::new(alloc, &initial.parts)?;
+    let merger = Merger::of_apart(alloc, &initial.parts)?;
     Ok(merger)
 }

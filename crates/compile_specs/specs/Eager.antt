@@ -33,7 +33,8 @@ top_sites items end = sites (inner_script items) (top_script items end).chains
 -- their parameters start, so each function stands before those in it.
 pub data AllSites : List Site → List Site → Type 0 where
   no_sites : AllSites [] []
-  more_sites : (s : Site) (rest inside after : List Site) → AllSites (sites_in s) inside → AllSites rest after → AllSites (s ∷ rest) (s ∷ (inside ++ after))
+  more_sites : (s : Site) (rest inside after : List Site) → AllSites (sites_in s) inside → AllSites rest after
+      → AllSites (s ∷ rest) (s ∷ (inside ++ after))
 
 -- all functions of a script, in order of number, from 1
 abbrev pub AreFunctions : Stmts → ℕ → List Site → Type 0

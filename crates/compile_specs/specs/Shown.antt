@@ -1,6 +1,7 @@
 -- What is shown of a script where only some of its functions are wanted: those, and the functions around them, compiled;
 -- of every other function a record. This project's own choice.
-use Rattle.std.specs.Prelude.{◌≡◌, ℕ, ◌+◌, Bool, true, false, ◌&&◌, if◌then◌else◌, nat_eq, nat_lt, nat_le, List, [], ◌∷◌, map, filter, length, Option, Some, None, slice_index_or}
+use Rattle.std.specs.Prelude.{◌≡◌, ℕ, ◌+◌, Bool, true, false, ◌&&◌, if◌then◌else◌, nat_eq, nat_lt, nat_le, List, [], ◌∷◌, map, filter, length, Option}
+use Rattle.std.specs.Prelude.{Some, None, slice_index_or}
 use Rattle.std.specs.List.{list_any}
 use Rattle.script_grammar.specs.Tree.{Stmts}
 use Rattle.stencil_data.specs.declared.functions.Extent.{Extent}
@@ -40,7 +41,8 @@ is_start (Some s) start = nat_eq s start
 
 -- the closed names that are bound by the function that starts here
 abbrev pub closed_of : List (Bound (List ℕ)) → ℕ → List NamedClosed
-closed_of bound start = map (λ (b : Bound (List ℕ)). record { scope = b.scope; text = b.name }) (filter (λ (b : Bound (List ℕ)). is_start b.func start) bound)
+closed_of bound start =
+    map (λ (b : Bound (List ℕ)). record { scope = b.scope; text = b.name }) (filter (λ (b : Bound (List ℕ)). is_start b.func start) bound)
 
 abbrev pub numbers_of : List ℕ → List Extent → List ℕ
 numbers_of starts extents = map (λ (e : Extent). number_of starts e.start) extents
@@ -62,7 +64,8 @@ renumbered numbers op.Lambda (Number place) = Number (slice_index_or numbers pla
 renumbered numbers op operand = operand
 
 abbrev pub with_numbers : List ℕ → NamedFunction (List Command) → NamedFunction (List Command)
-with_numbers starts f = record f { code = map (λ (c : Command). record { op = c.op; operand = renumbered (numbers_of starts f.inner) c.op c.operand }) f.code }
+with_numbers starts f =
+    record f { code = map (λ (c : Command). record { op = c.op; operand = renumbered (numbers_of starts f.inner) c.op c.operand }) f.code }
 
 abbrev pub entry : Wanted → List Extent → List ℕ → NamedFunction (List Command) → Option (NamedFunction (List Command))
 entry wanted all starts f = if is_shown wanted all f.extent then Some (with_numbers starts f) else None
@@ -84,7 +87,8 @@ shown wanted bound top functions = record {
 -- what is shown of the script of a tree, whose text ends here
 abbrev pub IsShown : Wanted → Stmts → ℕ → NamedMerged (List Command) → Type 0
 IsShown wanted items end merged =
-    (top : NamedFunction (List Command)) × (functions : List (NamedFunction (List Command))) × IsEager items end top functions × (merged ≡ shown wanted (closed_names items) top functions)
+    (top : NamedFunction (List Command)) × (functions : List (NamedFunction (List Command))) × IsEager items end top functions
+    × (merged ≡ shown wanted (closed_names items) top functions)
 
 -- what a script is before any of its functions is compiled: its top, whose code names a function by its place, and the
 -- record of every function
@@ -93,4 +97,5 @@ initial bound top functions = record { top = top; records = map (record_of (star
 
 abbrev pub IsInitial : Stmts → ℕ → NamedInitial (List Command) → Type 0
 IsInitial items end parts =
-    (top : NamedFunction (List Command)) × (functions : List (NamedFunction (List Command))) × IsEager items end top functions × (parts ≡ initial (closed_names items) top functions)
+    (top : NamedFunction (List Command)) × (functions : List (NamedFunction (List Command))) × IsEager items end top functions
+    × (parts ≡ initial (closed_names items) top functions)

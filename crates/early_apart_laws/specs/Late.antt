@@ -2,7 +2,11 @@
 -- rest parameter. Those of a part are listed for each function in it, at whatever depth, in the order in which the functions start: those
 -- inside a function come after its own. ECMA-262, 15.2.1.
 use Rattle.std.specs.Prelude.{List, [], ◌++◌, ◌||◌}
-use Rattle.script_grammar.specs.Tree.{Expr, Exprs, no_exprs, more_exprs, MaybeExpr, no_expr, some_expr, MaybeArgs, no_args, some_args, Parts, no_parts, more_parts, Items, no_items, more_items, Operands, no_operands, more_operands, Tail, Tails, no_tails, more_tails, Key, Prop, Props, no_props, more_props, Function, function, Params, no_params, more_params, Body, Binds, no_binds, more_binds, Init, Each, Clauses, no_clauses, more_clauses, Stmt, Stmts, no_stmts, more_stmts, MaybeStmt, no_stmt, some_stmt}
+use Rattle.script_grammar.specs.Tree.{Expr, Exprs, no_exprs, more_exprs, MaybeExpr, no_expr, some_expr, MaybeArgs, no_args, some_args, Parts}
+use Rattle.script_grammar.specs.Tree.{no_parts, more_parts, Items, no_items, more_items, Operands, no_operands, more_operands, Tail, Tails, no_tails}
+use Rattle.script_grammar.specs.Tree.{more_tails, Key, Prop, Props, no_props, more_props, Function, function, Params, no_params, more_params, Body}
+use Rattle.script_grammar.specs.Tree.{Binds, no_binds, more_binds, Init, Each, Clauses, no_clauses, more_clauses, Stmt, Stmts, no_stmts, more_stmts}
+use Rattle.script_grammar.specs.Tree.{MaybeStmt, no_stmt, some_stmt}
 use Rattle.script_grammar.specs.Tree as tree
 use Rattle.parse_track.specs.declared.region.Early.{Early}
 use Rattle.parse_track.specs.Tells.{has_initializer}
@@ -82,7 +86,8 @@ abbrev mutual
   late_props (more_props p ps) = late_prop p ++ late_props ps
 
   pub late_function : Function → List Early
-  late_function (function form start end name params comma bare body) = body_errors (has_initializer params || has_rest params) body ++ (late_params params ++ late_body body)
+  late_function (function form start end name params comma bare body) =
+      body_errors (has_initializer params || has_rest params) body ++ (late_params params ++ late_body body)
 
   pub late_params : Params → List Early
   late_params no_params = []

@@ -37,9 +37,12 @@ pub fn check_told(
     mut bodies: Vec<Piece>,
     first: Option<Early>,
 ) -> Result<Checked, AllocError>
-    ensures early { IfOk result (λ checked. (texts : List (List ℕ)) (items : Stmts) → IsOf texts known items → IsTold texts top.now bodies.items first items → checked.early ≡ early_error items) }
-    ensures functions { IfOk result (λ checked. (texts : List (List ℕ)) (items : Stmts) → IsOf texts known items → IsTold texts top.now bodies.items first items → checked.functions ≡ function_count (tells_script items)) }
-    ensures closed { IfOk result (λ checked. (texts : List (List ℕ)) (items : Stmts) → IsOf texts known items → IsTold texts top.now bodies.items first items → map (renamed_bound (text_at texts)) (bounds_of checked.closed.items) ≡ closed_names items) }
+    ensures early { IfOk result (λ checked. (texts : List (List ℕ)) (items : Stmts) → IsOf texts known items
+        → IsTold texts top.now bodies.items first items → checked.early ≡ early_error items) }
+    ensures functions { IfOk result (λ checked. (texts : List (List ℕ)) (items : Stmts) → IsOf texts known items
+        → IsTold texts top.now bodies.items first items → checked.functions ≡ function_count (tells_script items)) }
+    ensures closed { IfOk result (λ checked. (texts : List (List ℕ)) (items : Stmts) → IsOf texts known items
+        → IsTold texts top.now bodies.items first items → map (renamed_bound (text_at texts)) (bounds_of checked.closed.items) ≡ closed_names items) }
 {
     bodies.reverse();
     let mut track = Track::new(alloc, known);
@@ -52,9 +55,12 @@ pub fn check_told(
 /// region.
 fn check_track(mut track: Track, first: Option<Early>) -> Result<Checked, AllocError>
     requires { track.noted ≡ None }
-    ensures early { IfOk result (λ checked. (texts : List (List ℕ)) (items : Stmts) → IsTrackOf texts track first items → checked.early ≡ early_error items) }
-    ensures functions { IfOk result (λ checked. (texts : List (List ℕ)) (items : Stmts) → IsTrackOf texts track first items → checked.functions ≡ function_count (tells_script items)) }
-    ensures closed { IfOk result (λ checked. (texts : List (List ℕ)) (items : Stmts) → IsTrackOf texts track first items → map (renamed_bound (text_at texts)) (bounds_of checked.closed.items) ≡ closed_names items) }
+    ensures early { IfOk result (λ checked. (texts : List (List ℕ)) (items : Stmts) → IsTrackOf texts track first items
+        → checked.early ≡ early_error items) }
+    ensures functions { IfOk result (λ checked. (texts : List (List ℕ)) (items : Stmts) → IsTrackOf texts track first items
+        → checked.functions ≡ function_count (tells_script items)) }
+    ensures closed { IfOk result (λ checked. (texts : List (List ℕ)) (items : Stmts) → IsTrackOf texts track first items
+        → map (renamed_bound (text_at texts)) (bounds_of checked.closed.items) ≡ closed_names items) }
 {
     note_first(&mut track, first);
     let functions = track.functions();

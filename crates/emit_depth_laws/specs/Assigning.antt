@@ -1,6 +1,10 @@
 -- Expressions in which each assignment, `++` and `--` goes to a name or a property (ECMA-262, 12th edition, clauses 13.4.1 and
 -- 13.15.1), and no comma list is empty.
-use Rattle.script_grammar.specs.Tree.{Expr, This, Name, Null, True, False, Number, Str, Template, Array, Object, Func, Paren, Chain, New, Unary, Update, Binary, Cond, Assign, Comma, Exprs, no_exprs, more_exprs, MaybeExpr, no_expr, some_expr, MaybeArgs, no_args, some_args, Parts, no_parts, more_parts, Items, no_items, more_items, Operands, no_operands, more_operands, Tail, Dot, Index, Call, Tails, no_tails, more_tails, Key, WordKey, StrKey, NumberKey, ComputedKey, Prop, Short, Pair, Method, Get, Set, Props, no_props, more_props}
+use Rattle.script_grammar.specs.Tree.{Expr, This, Name, Null, True, False, Number, Str, Template, Array, Object, Func, Paren, Chain, New, Unary}
+use Rattle.script_grammar.specs.Tree.{Update, Binary, Cond, Assign, Comma, Exprs, no_exprs, more_exprs, MaybeExpr, no_expr, some_expr, MaybeArgs}
+use Rattle.script_grammar.specs.Tree.{no_args, some_args, Parts, no_parts, more_parts, Items, no_items, more_items, Operands, no_operands}
+use Rattle.script_grammar.specs.Tree.{more_operands, Tail, Dot, Index, Call, Tails, no_tails, more_tails, Key, WordKey, StrKey, NumberKey}
+use Rattle.script_grammar.specs.Tree.{ComputedKey, Prop, Short, Pair, Method, Get, Set, Props, no_props, more_props}
 use Rattle.emit_exprs.specs.Exprs.{Target, ToName, ToProp, ToElem, NoTarget, target_of}
 
 abbrev pub IsPlace : Target → Type 0

@@ -1,7 +1,10 @@
 -- Statements in which each assignment goes to a place, and each break and continue has its target in its function (ECMA-262,
 -- 12th edition, clauses 14.8.1 and 14.9.1 with 8.2).
 use Rattle.std.specs.Prelude.{Bool, true, false, if◌then◌else◌, IsTrue, List, [], ◌∷◌}
-use Rattle.script_grammar.specs.Tree.{Function, function, Params, no_params, more_params, Body, BracedBody, ShortBody, Binds, no_binds, more_binds, Init, NoInit, ValueInit, BindsInit, Each, TargetEach, BindEach, Clauses, no_clauses, more_clauses, Stmt, Stmts, no_stmts, more_stmts, MaybeStmt, no_stmt, some_stmt, Block, Empty, Debugger, Binding, Value, If, Do, While, For, ForIn, Continue, Break, Return, Throw, Switch, Label, Try, Declared}
+use Rattle.script_grammar.specs.Tree.{Function, function, Params, no_params, more_params, Body, BracedBody, ShortBody, Binds, no_binds, more_binds}
+use Rattle.script_grammar.specs.Tree.{Init, NoInit, ValueInit, BindsInit, Each, TargetEach, BindEach, Clauses, no_clauses, more_clauses, Stmt, Stmts}
+use Rattle.script_grammar.specs.Tree.{no_stmts, more_stmts, MaybeStmt, no_stmt, some_stmt, Block, Empty, Debugger, Binding, Value, If, Do, While, For}
+use Rattle.script_grammar.specs.Tree.{ForIn, Continue, Break, Return, Throw, Switch, Label, Try, Declared}
 use Rattle.emit_stmts.specs.Frames.{Frame, Loop, KeysLoop, Switching, Labelled, Goal, Out, Again, is_meant}
 use Rattle.emit_stmts.specs.Stmts.{label_text}
 use Rattle.emit_depth_laws.specs.Assigning.{ExprAssigns, MaybeExprAssigns}
@@ -35,7 +38,8 @@ abbrev mutual
   StmtTargets (If test then_stmt else_stmt) frames = ExprAssigns test × StmtTargets then_stmt frames × ElseTargets else_stmt frames
   StmtTargets (Do body test semi) frames = StmtTargets body (Loop ∷ frames) × ExprAssigns test
   StmtTargets (While test body) frames = ExprAssigns test × StmtTargets body (Loop ∷ frames)
-  StmtTargets (For init test update body) frames = InitAssigns init × MaybeExprAssigns test × MaybeExprAssigns update × StmtTargets body (Loop ∷ frames)
+  StmtTargets (For init test update body) frames =
+      InitAssigns init × MaybeExprAssigns test × MaybeExprAssigns update × StmtTargets body (Loop ∷ frames)
   StmtTargets (ForIn each over body) frames = EachAssigns each × ExprAssigns over × StmtTargets body (KeysLoop ∷ frames)
   StmtTargets (Continue at label semi) frames = IsTrue (has_goal (Again (label_text label)) frames)
   StmtTargets (Break at label semi) frames = IsTrue (has_goal (Out (label_text label)) frames)

@@ -11,7 +11,9 @@ Among x [] = ⊥
 Among x (y ∷ ys) = (y ≡ x) ⊎ Among x ys
 
 pub data IsFunctionOf (items : Stmts) : Inner → List LinkView → Type 0 where
-  at_top : (i : Inner) (chain : List LinkView) → Among i (inner_script items) → chain ≡ chain_at (script_scopes items) [] i → IsFunctionOf items i chain
+  at_top : (i : Inner) (chain : List LinkView) → Among i (inner_script items) → chain ≡ chain_at (script_scopes items) [] i
+      → IsFunctionOf items i chain
   -- directly in another one
-  inside : (outer : Inner) (around : List LinkView) (i : Inner) (chain : List LinkView) → IsFunctionOf items outer around → Among i (inner_function outer.kind outer.name outer.func)
+  inside : (outer : Inner) (around : List LinkView) (i : Inner) (chain : List LinkView) → IsFunctionOf items outer around
+      → Among i (inner_function outer.kind outer.name outer.func)
       → chain ≡ chain_at (function_scopes outer.kind outer.name outer.func) around i → IsFunctionOf items i chain

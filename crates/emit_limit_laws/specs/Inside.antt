@@ -17,7 +17,8 @@ pub record Cut {A : Type 0} (all part back : List A) : Type 0 where
 
 -- A function in a part of its function, which begins after n levels: where it is printed, and where it is listed. Of
 -- the scopes around it at most four are entered at each level.
-pub record Here (behind : ℕ) (i : Inner) (depths depths_left : List ℕ) (starts starts_left : List Started) (notes notes_left : List Early) : Type 0 where
+pub record Here (behind : ℕ) (i : Inner) (depths depths_left : List ℕ) (starts starts_left : List Started)
+    (notes notes_left : List Early) : Type 0 where
   pub depth : ℕ
   pub around : length i.around + behind ≤ 4 * depth
   pub proper : ProperFunction whole i.func
@@ -28,7 +29,8 @@ pub record Here (behind : ℕ) (i : Inner) (depths depths_left : List ℕ) (star
 abbrev pub InnerIn : ℕ → List Inner → List ℕ → List Started → List Early → Type 0
 InnerIn behind [] depths starts notes = Unit {0}
 InnerIn behind (i ∷ is) depths starts notes =
-    (depths_left : List ℕ) × (starts_left : List Started) × (notes_left : List Early) × Here behind i depths depths_left starts starts_left notes notes_left × InnerIn behind is depths_left starts_left notes_left
+    (depths_left : List ℕ) × (starts_left : List Started) × (notes_left : List Early)
+    × Here behind i depths depths_left starts starts_left notes notes_left × InnerIn behind is depths_left starts_left notes_left
 
 -- these functions are directly in a part that is printed so, in this order
 pub record Inside (behind : ℕ) (is : List Inner) (ps : List Piece) (starts : List Started) (notes : List Early) : Type 0 where

@@ -1,6 +1,8 @@
 -- How many names the scopes of statements have.
 use Rattle.std.specs.Prelude.{ℕ, ◌+◌, Bool, length}
-use Rattle.script_grammar.specs.Tree.{Body, BracedBody, ShortBody, Clauses, no_clauses, more_clauses, Stmt, Stmts, no_stmts, more_stmts, MaybeStmt, no_stmt, some_stmt, Block, Empty, Debugger, Binding, Value, If, Do, While, For, ForIn, Continue, Break, Return, Throw, Switch, Label, Try, Declared}
+use Rattle.script_grammar.specs.Tree.{Body, BracedBody, ShortBody, Clauses, no_clauses, more_clauses, Stmt, Stmts, no_stmts, more_stmts, MaybeStmt}
+use Rattle.script_grammar.specs.Tree.{no_stmt, some_stmt, Block, Empty, Debugger, Binding, Value, If, Do, While, For, ForIn, Continue, Break, Return}
+use Rattle.script_grammar.specs.Tree.{Throw, Switch, Label, Try, Declared}
 use Rattle.scope_analysis.specs.DeclaredNames.{lexical_names, clauses_lexical_names, init_lexical_names, each_lexical_names, top_lexical_names}
 use Rattle.scope_analysis.specs.Scopes.{catch_names, body_var_names}
 

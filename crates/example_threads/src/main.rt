@@ -192,14 +192,16 @@ fn asked_beside<R: Threads, N: Sources + Send + Sync>(
     }
     let thread = threads - 1;
     let ask = move || -> Handed<N>
-        requires { IsBoard N.files board.now × (board.now.file ≡ 0) × (count ≡ length board.now.cells) × (length second.now.cells ≡ length board.now.cells) }
+        requires { IsBoard N.files board.now × (board.now.file ≡ 0) × (count ≡ length board.now.cells)
+            × (length second.now.cells ≡ length board.now.cells) }
         ensures { IfOk result.seat (λ seat. BelongsTo seat.pass board.entry.now) }
     {
         let seat = asked_by(alloc, board, second, count, thread);
         Handed { seat }
     };
     let others = move || -> Result<Together<N>, AllocError>
-        requires { IsSend N.row × IsSync N.row × IsBoard N.files board.now × (board.now.file ≡ 0) × (count ≡ length board.now.cells) × (length second.now.cells ≡ length board.now.cells) }
+        requires { IsSend N.row × IsSync N.row × IsBoard N.files board.now × (board.now.file ≡ 0)
+            × (count ≡ length board.now.cells) × (length second.now.cells ≡ length board.now.cells) }
         ensures { IfOk result (λ all. BelongsTo all.seat.pass board.entry.now) }
     { asked_beside(rt, alloc, board, second, count, thread) };
     let (handed, together) = thread::join(rt, ask, others);

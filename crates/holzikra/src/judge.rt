@@ -10,11 +10,13 @@ ghost use Rattle.stencil.specs.Scripts.{IsLazyOf};
 ghost use Rattle.holzikra_scripts.specs.Written as choosing;
 ghost use Rattle.holzikra_session.specs.Compiling.{IsCompiledBy};
 ghost use Rattle.holzikra.specs.Compiling.{IsShownFor};
+ghost use Rattle.holzikra.specs.Images.{IsFound};
 ghost use Rattle.holzikra.specs.Verdicts.{IsSpot, IsVerdict, IsTold};
 
+use crate::images::{saved, verified};
 use holzikra_places::Lines;
 use holzikra_scripts::{Choice, Chosen, choice_of};
-use holzikra_session::{Compiled, Judge, Reason, Spot, Verdict};
+use holzikra_session::{Compiled, Judge, Reason, Saved, Spot, Verdict, Verified};
 use holzikra_words::FunctionWord;
 use std::alloc::{AllocError, Global};
 use stencil::{Answer, Lazy, Refusal, Wanted, check};
@@ -33,7 +35,7 @@ fn spot_of(alloc: Global, text: &[u8], offset: u32) -> Result<Spot, AllocError>
 }
 
 /// The reason of a refusal, with its place.
-fn reason_of(alloc: Global, text: &[u8], why: Refusal) -> Result<Reason, AllocError>
+pub(crate) fn reason_of(alloc: Global, text: &[u8], why: Refusal) -> Result<Reason, AllocError>
     requires { IsRefusedAs asked.All text.now (refusal_of why) }
     ensures { IfOk result (λ reason. IsTold text.now why reason) }
 {
@@ -126,6 +128,8 @@ impl Judge for Library {
 
     ghost shows = { λ _ want text named. IsShownFor want text named };
 
+    ghost verifies = { λ _ image found. IsFound image found };
+
     fn judge(&self, alloc: Global, text: &[u8]) -> Result<Verdict, AllocError> {
         judged(alloc, text)
     }
@@ -137,5 +141,13 @@ impl Judge for Library {
         words: &[FunctionWord],
     ) -> Result<Compiled, AllocError> {
         compiled(alloc, text, words)
+    }
+
+    fn save(&self, alloc: Global, text: &[u8]) -> Result<Saved, AllocError> {
+        saved(alloc, text)
+    }
+
+    fn verify(&self, alloc: Global, image: &[u8]) -> Result<Verified, AllocError> {
+        verified(alloc, image)
     }
 }

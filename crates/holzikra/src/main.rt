@@ -2,13 +2,16 @@
 //!
 //! It stands on `stencil`, whose verdicts it shows, and on holzikra_session, which finds the files and says what is to be said. Its
 //! main contract is that of [`Library`](judge::Library): the verdict on a text is the one that `stencil::check` has of its bytes
-//! alone, and the place that is shown is the line and the column of its offset (`IsVerdict` of `specs/Verdicts.antt`).
+//! alone, and the place that is shown is the line and the column of its offset (`IsVerdict` of `specs/Verdicts.antt`). What it saves of a
+//! text is the image of what is shown of the script (`IsSavedBy` of holzikra_session), and what it finds in an image is the verdict of
+//! `stencil::verify` (`IsFound` of `specs/Images.antt`).
 #![tactic(auto)]
 
 ghost use Rattle.std.specs.Prelude.{◌≡◌};
 ghost use Rattle.std.specs.Process.{exit_status};
 ghost use Rattle.holzikra_session.specs.Statuses.{number_of};
 
+mod images;
 mod judge;
 
 use holzikra_session::{Status, run};

@@ -105,7 +105,7 @@ pub enum Code {
     Early(Rule),
     /// U1: no script goes on so.
     Unexpected,
-    /// D1: nested too deep.
+    /// L2: nested too deep.
     TooDeep,
     /// B1: not UTF-8.
     BadUtf8,

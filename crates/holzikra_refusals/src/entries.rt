@@ -215,7 +215,7 @@ static TABLE: [Entry; 36] = [
         keeps: "let a = 1;",
     },
     Entry {
-        code: "D1",
+        code: "L2",
         title: "too deep",
         clauses: "",
         rule: "A token stands inside 400 nodes of the grammar at most: a limit of this program. ECMA-262 has none.",

@@ -118,6 +118,8 @@ fn mark_form(token: &[u8], front: &[u8]) -> Option<Form> {
         Some(Form::Async)
     } else if begins(token, "`") {
         template_form(token, front)
+    } else if begins(token, "=>") {
+        arrow_form(front)
     } else {
         pattern_form(token, front)
     }
@@ -157,6 +159,34 @@ fn template_form(token: &[u8], front: &[u8]) -> Option<Form> {
     }
 }
 
+/// `=>` behind parentheses that no arrow of the profile has: those behind `async`, or with a pattern in them.
+fn arrow_form(front: &[u8]) -> Option<Form> {
+    let open = opening(front)?;
+    let inside = front.get(open..).unwrap_or(&[]);
+    if is_word(last_word(before(front, open)), "async") {
+        Some(Form::Async)
+    } else if inside.iter().any(|byte| matches!(*byte, b'{' | b'[')) {
+        Some(Form::Destructuring)
+    } else {
+        None
+    }
+}
+
+/// Where the parenthesis stands that the last one of a text closes, if it ends with one. What stands in strings is taken for code.
+fn opening(front: &[u8]) -> Option<usize> {
+    let mut depth = 0usize;
+    for (at, byte) in front.iter().enumerate().rev() {
+        match *byte {
+            b')' => depth = depth.saturating_add(1),
+            b'(' if depth == 1 => return Some(at),
+            b'(' => depth = depth.saturating_sub(1),
+            _ if depth == 0 => return None,
+            _ => (),
+        }
+    }
+    None
+}
+
 /// A bracket where a name is declared, or `=` behind a pattern.
 fn pattern_form(token: &[u8], front: &[u8]) -> Option<Form> {
     let previous = last_word(front);
@@ -170,7 +200,7 @@ fn pattern_form(token: &[u8], front: &[u8]) -> Option<Form> {
         }
         return None;
     }
-    if !begins(token, "=") || begins(token, "==") || begins(token, "=>") {
+    if !begins(token, "=") || begins(token, "==") {
         return None;
     }
     if is_word(previous, "let") {

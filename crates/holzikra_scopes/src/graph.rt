@@ -1,6 +1,7 @@
 //! The graph of functions and of who closes over what, in the language DOT of Graphviz.
 
 use crate::uses::{Use, Uses};
+use holzikra_finding::Shown;
 use holzikra_names::{append_name, append_script, around_functions, text_at};
 use script_image::append_decimal;
 use std::alloc::{AllocError, Global};
@@ -49,26 +50,38 @@ fn append_inner_edge(out: &mut Vec<u8>, outer: u32, inner: u32) -> Result<(), Al
     Ok(())
 }
 
-/// Appends a node for the script and for each function.
+/// Whether a function is not drawn.
+fn is_hidden(shown: &[Shown], number: u32) -> bool {
+    shown.get(number as usize).copied() == Some(Shown::Hidden)
+}
+
+/// Appends a node for the script and for each function that is shown.
 fn append_nodes(
     alloc: Global,
     out: &mut Vec<u8>,
     merged: &MergedStencil,
     around: &[u32],
+    shown: &[Shown],
 ) -> Result<(), AllocError> {
     let mut number = 0u32;
     for _ in around {
-        append_labelled_node(alloc, out, merged, number)?;
+        if !is_hidden(shown, number) {
+            append_labelled_node(alloc, out, merged, number)?;
+        }
         number = number.saturating_add(1);
     }
     Ok(())
 }
 
-/// Appends an edge to each function from the one around it.
-fn append_inner_edges(out: &mut Vec<u8>, around: &[u32]) -> Result<(), AllocError> {
+/// Appends an edge to each function that is shown from the one around it.
+fn append_inner_edges(
+    out: &mut Vec<u8>,
+    around: &[u32],
+    shown: &[Shown],
+) -> Result<(), AllocError> {
     let mut number = 0u32;
     for outer in around {
-        if number > 0 {
+        if number > 0 && !is_hidden(shown, number) {
             append_inner_edge(out, *outer, number)?;
         }
         number = number.saturating_add(1);
@@ -93,12 +106,14 @@ fn edge_of(uses: &Uses, one: Use) -> Option<Edge> {
     })
 }
 
-/// The uses by user and owner.
-fn edges_of(alloc: Global, uses: &Uses) -> Result<Vec<Edge>, AllocError> {
+/// The uses of functions that are shown by user and owner.
+fn edges_of(alloc: Global, uses: &Uses, shown: &[Shown]) -> Result<Vec<Edge>, AllocError> {
     let mut edges = Vec::new(alloc);
     for one in &uses.all {
         if let Some(edge) = edge_of(uses, *one) {
-            edges.push(edge)?;
+            if !is_hidden(shown, edge.user) && !is_hidden(shown, edge.owner) {
+                edges.push(edge)?;
+            }
         }
     }
     edges.sort_by_key(|edge| (edge.user, edge.owner))?;
@@ -138,20 +153,22 @@ fn append_uses(
 }
 
 /// Appends a graph: a node for each function and for the script, solid edges from each function to those directly in it, and dashed
-/// edges from each function to those whose names it closes over, labelled with the names.
+/// edges from each function to those whose names it closes over, labelled with the names. `shown` says of the script and of each function in
+/// order of number what is shown of it; behind its end all is. What is hidden has no node and no edge.
 ///
 /// It takes time in proportion to the code, up to the logarithm of sorting, and is an error only where memory runs out.
 pub fn scope_graph(
     alloc: Global,
     merged: &MergedStencil,
+    shown: &[Shown],
     out: &mut Vec<u8>,
 ) -> Result<(), AllocError> {
     let uses = Uses::of(alloc, merged)?;
     let around = around_functions(alloc, merged)?;
     out.extend_from_slice(b"digraph scopes {\n")?;
-    append_nodes(alloc, out, merged, &around)?;
-    append_inner_edges(out, &around)?;
-    append_uses(alloc, out, merged, &edges_of(alloc, &uses)?)?;
+    append_nodes(alloc, out, merged, &around, shown)?;
+    append_inner_edges(out, &around, shown)?;
+    append_uses(alloc, out, merged, &edges_of(alloc, &uses, shown)?)?;
     out.extend_from_slice(b"}\n")?;
     Ok(())
 }

@@ -2,6 +2,7 @@
 
 use crate::layout::Layout;
 use crate::uses::Uses;
+use holzikra_finding::Shown;
 use holzikra_flow::place_of;
 use holzikra_names::{Source, append_extent, append_name, append_script, text_at};
 use script_image::append_decimal;
@@ -19,6 +20,27 @@ struct Tree<'a> {
     out: &'a mut Vec<u8>,
     /// For each level whether further lines hang on the line that is drawn from it.
     goes_on: Vec<bool>,
+}
+
+/// What is drawn of a function, or of the script.
+#[derive(Clone, Copy)]
+enum Part<'a> {
+    Compiled(&'a FunctionStencil),
+    /// It is not compiled.
+    Lazy,
+    /// Its scopes are left out.
+    Folded,
+}
+
+impl<'a> Part<'a> {
+    /// What is drawn where so much is shown, and this is compiled.
+    fn of(shown: Option<Shown>, compiled: Option<&'a FunctionStencil>) -> Part<'a> {
+        match compiled {
+            _ if shown == Some(Shown::Folded) => Part::Folded,
+            None => Part::Lazy,
+            Some(part) => Part::Compiled(part),
+        }
+    }
 }
 
 fn scope_words(kind: ScopeKind) -> &'static str {
@@ -182,22 +204,46 @@ impl<'a> Tree<'a> {
         Ok(())
     }
 
-    /// Draws how a function or the script is called, and its place.
+    /// Draws how a function or the script is called, its place, and why its scopes are not drawn.
     fn draw_head<S: Source>(
         &mut self,
         alloc: Global,
         number: u32,
         source: &S,
         extent: Extent,
-        compiled: bool,
+        part: Part<'_>,
     ) -> Result<(), AllocError> {
         append_script(alloc, self.out, self.merged, number)?;
         append_extent(self.out, b"  ", source, extent)?;
-        if !compiled {
-            self.out.extend_from_slice(b"  not compiled")?;
-        }
+        let why = match part {
+            Part::Compiled(_) => "",
+            Part::Lazy => "  not compiled",
+            Part::Folded => "  folded",
+        };
+        self.out.extend_from_slice(why.as_bytes())?;
         self.out.extend_from_slice(b"\n")?;
         Ok(())
+    }
+
+    /// Draws the script itself and its scopes.
+    fn draw_top<S: Source>(
+        &mut self,
+        alloc: Global,
+        source: &S,
+        shown: Option<Shown>,
+    ) -> Result<(), AllocError> {
+        let merged = self.merged;
+        let part = Part::of(shown, Some(&merged.top));
+        self.draw_head(alloc, 0, source, merged.top.extent, part)?;
+        self.draw_part(alloc, 0, part)
+    }
+
+    /// Draws the scopes of what is compiled and not folded.
+    fn draw_part(&mut self, alloc: Global, number: u32, part: Part<'_>) -> Result<(), AllocError> {
+        match part {
+            Part::Compiled(part) => self.draw_scopes(alloc, number, part),
+            Part::Lazy | Part::Folded => Ok(()),
+        }
     }
 
     /// Draws the function of this number and its scopes.
@@ -207,34 +253,33 @@ impl<'a> Tree<'a> {
         number: u32,
         source: &S,
         extent: Extent,
-        part: Option<&FunctionStencil>,
+        part: Part<'_>,
     ) -> Result<(), AllocError> {
         let level = self.layout.level(number as usize);
         let last = self.layout.is_last(number as usize);
         let outer = level.saturating_sub(1);
         self.draw_branch(outer, last)?;
-        self.draw_head(alloc, number, source, extent, part.is_some())?;
+        self.draw_head(alloc, number, source, extent, part)?;
         self.keep_level(outer, !last)?;
-        match part {
-            None => Ok(()),
-            Some(part) => self.draw_scopes(alloc, number, part),
-        }
+        self.draw_part(alloc, number, part)
     }
 }
 
 /// Appends the tree of a script's functions, scopes and bindings: at each function its name or how it is written, and its place
 /// where the source text is at hand; at each binding how it is declared, where it lives, and by which functions inside it is used.
-/// Scopes without bindings are left out.
+/// Scopes without bindings are left out. `shown` says of the script and of each function in order of number what is shown of it; behind its
+/// end all is.
 ///
 /// It takes time in proportion to the code and to what is drawn, and is an error only where memory runs out.
 pub fn scope_tree<S: Source>(
     alloc: Global,
     merged: &MergedStencil,
     source: &S,
+    shown: &[Shown],
     out: &mut Vec<u8>,
 ) -> Result<(), AllocError> {
     let uses = Uses::of(alloc, merged)?;
-    let layout = Layout::of(alloc, merged)?;
+    let layout = Layout::of(alloc, merged, shown)?;
     let mut tree = Tree {
         merged,
         uses: &uses,
@@ -242,16 +287,18 @@ pub fn scope_tree<S: Source>(
         out,
         goes_on: Vec::new(alloc),
     };
-    tree.draw_head(alloc, 0, source, merged.top.extent, true)?;
-    tree.draw_scopes(alloc, 0, &merged.top)?;
+    tree.draw_top(alloc, source, shown.first().copied())?;
     let mut number = 0u32;
     for (index, lazy) in merged.records.iter().enumerate() {
         number = number.saturating_add(1);
-        let part = match merged.entries.get(index) {
+        let one = shown.get(index.saturating_add(1)).copied();
+        let compiled = match merged.entries.get(index) {
             Some(Entry::Compiled(part)) => Some(part),
             _ => None,
         };
-        tree.draw_function(alloc, number, source, lazy.extent, part)?;
+        if one != Some(Shown::Hidden) {
+            tree.draw_function(alloc, number, source, lazy.extent, Part::of(one, compiled))?;
+        }
     }
     Ok(())
 }

@@ -1,2 +1,3 @@
--- What is written of a script.
+-- What is written of a script, and of an image.
+pub mod Images
 pub mod Written

@@ -5,8 +5,10 @@ use Rattle.stencil_data.specs.Named.{NamedMerged}
 use Rattle.stencil_data.specs.StandsFor.{MergedStandsFor}
 use Rattle.bytecode_buf.specs.Command.{Listed}
 use Rattle.script_image.specs.Listed.{ShowsListed}
+use Rattle.script_image.specs.declared.script_lines.Listing.{Listing}
 use Rattle.session_words.specs.Asked as asked
 use Rattle.holzikra_listing.specs.Notes.{IsListing}
+use Rattle.holzikra_objects.specs.Objects.{IsLineOf, script_data}
 use Rattle.holzikra_words.specs.declared.functions.FunctionWord.{FunctionWord}
 use Rattle.holzikra_scripts.specs.declared.choice.Choice.{Choice}
 use Rattle.holzikra_scripts.specs.declared.choice.Choice.TheVariants as choice
@@ -33,6 +35,11 @@ pub record HasNoted (plain out : List ℕ) : Type 0 where
 -- such a listing of the script that the stencil stands for
 abbrev pub IsNoted : Lines → MergedView → List ℕ → Type 0
 IsNoted lines stencil out = (named : NamedMerged (List Listed)) → MergedStandsFor ShowsListed stencil named → HasNoted (lines named) out
+
+-- the line of the value of a file of this name and so many bytes, of the script that the stencil stands for
+abbrev pub IsJson : Listing → List ℕ → ℕ → MergedView → List ℕ → Type 0
+IsJson listing name bytes stencil out =
+    (named : NamedMerged (List Listed)) → MergedStandsFor ShowsListed stencil named → IsLineOf (script_data listing name bytes named) out
 
 -- the functions that are chosen, in the words of a command of `stencilc`
 abbrev pub wanted_of : Choice → asked.Wanted

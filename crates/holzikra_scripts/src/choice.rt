@@ -4,8 +4,9 @@ ghost use Rattle.std.specs.Prelude.{IfOk};
 ghost use Rattle.holzikra_scripts.specs.Written.{IsChosenBy};
 
 use crate::source::SourceText;
+use holzikra_finding::{innermost_at, with_inner};
 use holzikra_names::text_at;
-use holzikra_words::FunctionWord;
+use holzikra_words::{FunctionName, FunctionWord};
 use std::alloc::{AllocError, Global};
 use stencil_data::{LazyRecord, Text};
 
@@ -60,36 +61,30 @@ impl<'a> Functions<'a> {
         Ok(())
     }
 
-    /// The number of the innermost function around an offset; 0 where none is. Of those around it, it starts last.
+    /// The number of the innermost function around an offset; 0, that of the script, where none is.
     fn innermost_at(self, offset: usize) -> u32 {
-        let mut innermost = 0u32;
-        let mut number = 0u32;
-        for lazy in self.records {
-            number = number.saturating_add(1);
-            let extent = lazy.extent;
-            if (extent.start as usize) <= offset && offset < (extent.end as usize) {
-                innermost = number;
-            }
+        match innermost_at(self.records, offset) {
+            None => 0,
+            Some(place) => u32::try_from(place.saturating_add(1)).unwrap_or(u32::MAX),
         }
-        innermost
     }
 
-    /// Adds the numbers that a word means.
+    /// Adds the numbers that a name means.
     fn add_meant(
         self,
         alloc: Global,
         numbers: &mut Vec<u32>,
-        word: &FunctionWord,
+        name: &FunctionName,
         text: &[u8],
     ) -> Result<(), AllocError> {
-        match word {
-            FunctionWord::Number(number) => {
+        match name {
+            FunctionName::Number(number) => {
                 if *number as usize <= self.records.len() {
                     numbers.push(*number)?;
                 }
             }
-            FunctionWord::Name(name) => self.add_named(numbers, name.as_str())?,
-            FunctionWord::Place(line, column) => {
+            FunctionName::Text(name) => self.add_named(numbers, name.as_str())?,
+            FunctionName::Place(line, column) => {
                 let source = SourceText::of(alloc, text)?;
                 if let Some(offset) = source.offset_at(*line, *column) {
                     numbers.push(self.innermost_at(offset))?;
@@ -97,6 +92,21 @@ impl<'a> Functions<'a> {
             }
         }
         Ok(())
+    }
+
+    /// The numbers that a word means; none where it means no function.
+    fn meant(
+        self,
+        alloc: Global,
+        word: &FunctionWord,
+        text: &[u8],
+    ) -> Result<Vec<u32>, AllocError> {
+        let mut numbers = Vec::new(alloc);
+        self.add_meant(alloc, &mut numbers, &word.name, text)?;
+        if word.inner && !numbers.is_empty() {
+            return with_inner(alloc, self.records, &numbers);
+        }
+        Ok(numbers)
     }
 }
 
@@ -117,11 +127,11 @@ pub fn choice_of(
     let functions = Functions { texts, records };
     let mut numbers = Vec::new(alloc);
     for (place, word) in words.iter().enumerate() {
-        let before = numbers.len();
-        functions.add_meant(alloc, &mut numbers, word, text)?;
-        if numbers.len() == before {
+        let meant = functions.meant(alloc, word, text)?;
+        if meant.is_empty() {
             return Ok(Chosen::Nothing(place));
         }
+        numbers.extend_from_slice(&meant)?;
     }
     Ok(Chosen::These(Choice::Numbers(numbers)))
 }

@@ -10,7 +10,9 @@ use crate::choice::Choice;
 use crate::sections::chosen_sections;
 use crate::source::SourceText;
 use holzikra_depths::depths_of;
+use holzikra_finding::{Shown, shown_of};
 use holzikra_listing::{Listing, Options, noted_listing};
+use holzikra_names::NoSource;
 use holzikra_places::push_shown_text;
 use script_image::{append_decimal, code_text};
 use std::alloc::{AllocError, Global};
@@ -55,27 +57,26 @@ fn with_listing(head: Vec<u8>, listing: &Listing) -> Result<Vec<u8>, AllocError>
     Ok(out)
 }
 
-/// These lines, one that says how many scripts are shown, and behind them the scripts of these numbers in a listing of so many.
+/// These lines, one that says how many scripts are shown whole, and behind them so much of each script in a listing.
 fn with_chosen(
     alloc: Global,
     head: Vec<u8>,
     listing: &Listing,
-    numbers: &[u32],
-    all: usize,
+    shown: &[Shown],
 ) -> Result<Vec<u8>, AllocError> {
-    let sections = chosen_sections(alloc, &listing.text, numbers)?;
+    let sections = chosen_sections(alloc, &listing.text, shown)?;
     let mut out = head;
     out.extend_from_slice(b"# ")?;
     append_decimal(&mut out, sections.count as u64)?;
     out.extend_from_slice(b" of ")?;
-    append_decimal(&mut out, all as u64)?;
+    append_decimal(&mut out, shown.len() as u64)?;
     out.extend_from_slice(b" scripts\n")?;
     out.extend_from_slice(&sections.text)?;
     Ok(out)
 }
 
-/// The listing with notes of a script's code, behind a line with the name of the file; of the functions that are not chosen nothing. The
-/// text is the one that was compiled.
+/// The listing with notes of a script's code, behind a line with the name of the file; of the functions that are not chosen the first line
+/// where they are around others, else nothing. The text is the one that was compiled.
 pub fn noted_code(
     alloc: Global,
     name: &str,
@@ -100,9 +101,28 @@ pub fn noted_code(
             Ok(out)
         }
         Choice::Numbers(numbers) => {
-            let all = stencil.records.len().saturating_add(1);
-            let out = with_chosen(alloc, head, &listing, numbers, all)?;
+            let shown = shown_of(alloc, &stencil.records, numbers)?;
+            let out = with_chosen(alloc, head, &listing, &shown)?;
             Ok(out)
         }
     }
+}
+
+/// The listing with notes of all code of a stencil that came without its source text, behind a line with the name of the file.
+pub(crate) fn noted_image(
+    alloc: Global,
+    name: &str,
+    stencil: &MergedStencil,
+) -> Result<Vec<u8>, AllocError>
+    ensures { IfOk result (λ out. IsNoted lines.code_text stencil.now out.items) }
+{
+    let depths = depths_of(alloc, stencil)?;
+    let options = Options {
+        source_lines: false,
+        depths: &depths,
+    };
+    let listing = noted_listing(alloc, stencil, &NoSource, options)?;
+    let head = shown_file_line(alloc, name)?;
+    let out = with_listing(head, &listing)?;
+    Ok(out)
 }

@@ -6,8 +6,10 @@ use Rattle.stencil_data.specs.Named.{NamedMerged}
 use Rattle.stencil_data.specs.StandsFor.{MergedStandsFor}
 use Rattle.bytecode_buf.specs.Command.{Command, Listed, ShowsCommands}
 use Rattle.script_image.specs.ScriptLines.{code_text, scope_text, listed_merged}
+use Rattle.script_image.specs.declared.script_lines.Listing.TheVariants as of
 use Rattle.session_words.specs.Asked.{Wanted}
 use Rattle.holzikra_stats.specs.Counts as counts
+use Rattle.holzikra_objects.specs.Objects.{IsLineOf, script_data}
 use Rattle.holzikra_words.specs.declared.code.CodeFormat.{CodeFormat}
 use Rattle.holzikra_words.specs.declared.code.CodeFormat.TheVariants as code
 use Rattle.holzikra_words.specs.declared.scopes.ScopesFormat.{ScopesFormat}
@@ -24,21 +26,32 @@ use Rattle.holzikra_session.specs.declared.verdict.Compiled.TheVariants as compi
 use Rattle.holzikra_session.specs.declared.inspected.Inspected.{Inspected}
 use Rattle.holzikra_session.specs.declared.inspected.Inspected.TheVariants as inspected
 
+-- what a judge means by a verdict on a text, and by what is shown of it where these functions are wanted
+abbrev pub Judging : Type 1
+Judging = List ℕ → Verdict → Type 0
+
+abbrev pub Showing : Type 1
+Showing = Wanted → List ℕ → NamedMerged (List Command) → Type 0
+
+-- what is written of what is shown
+abbrev pub Writing : Type 1
+Writing = Choice → NamedMerged (List Listed) → List ℕ → Type 0
+
 -- the stencil stands for what is shown of the script that the text is, where those functions are wanted that these words mean
-pub record IsScript (shows : Wanted → List ℕ → NamedMerged (List Command) → Type 0) (words : List FunctionWord) (text : List ℕ) (stencil : MergedView) (chosen : Choice) : Type 0 where
+pub record IsScript (shows : Showing) (words : List FunctionWord) (text : List ℕ) (stencil : MergedView) (chosen : Choice) : Type 0 where
   pub named : NamedMerged (List Command)
   pub choice : IsChoiceOf words chosen
   pub is : shows (wanted_of chosen) text named
   pub stands : MergedStandsFor ShowsCommands stencil named
 
 -- what compiling a text comes to
-abbrev pub IsCompiledBy : (List ℕ → Verdict → Type 0) → (Wanted → List ℕ → NamedMerged (List Command) → Type 0) → List FunctionWord → List ℕ → Compiled → Type 0
+abbrev pub IsCompiledBy : Judging → Showing → List FunctionWord → List ℕ → Compiled → Type 0
 IsCompiledBy judges shows words text (compiled.Script stencil chosen) = IsScript shows words text stencil chosen
 IsCompiledBy judges shows words text (compiled.Refused reason) = judges text (verdict.Refused reason)
 IsCompiledBy judges shows words text (compiled.NoFunction place) = place < length words
 
 -- what is written is this of what is shown of the script that the text is
-pub record IsWritten (shows : Wanted → List ℕ → NamedMerged (List Command) → Type 0) (words : List FunctionWord) (text : List ℕ) (Of : Choice → NamedMerged (List Listed) → List ℕ → Type 0) (out : List ℕ) : Type 0 where
+pub record IsWritten (shows : Showing) (words : List FunctionWord) (text : List ℕ) (Of : Writing) (out : List ℕ) : Type 0 where
   pub named : NamedMerged (List Command)
   pub chosen : Choice
   pub choice : IsChoiceOf words chosen
@@ -46,21 +59,24 @@ pub record IsWritten (shows : Wanted → List ℕ → NamedMerged (List Command)
   pub written : Of chosen (listed_merged named) out
 
 -- what a command has for a text
-abbrev pub IsInspected : {A : Type 0} → (List ℕ → Verdict → Type 0) → List FunctionWord → List ℕ → (A → Type 0) → Inspected A → Type 0
+abbrev pub IsInspected : {A : Type 0} → Judging → List FunctionWord → List ℕ → (A → Type 0) → Inspected A → Type 0
 IsInspected judges words text Is (inspected.Script value) = Is value
 IsInspected judges words text Is (inspected.Refused reason) = judges text (verdict.Refused reason)
 IsInspected judges words text Is (inspected.NoFunction place) = place < length words
 
--- the listing of code: as `stencilc code` writes it; or that with notes, or itself, where no function is left out
-abbrev pub IsCode : CodeFormat → List ℕ → Choice → NamedMerged (List Listed) → List ℕ → Type 0
-IsCode code.Plain name chosen named out = out ≡ codes "file " ++ name ++ codes "\n" ++ code_text named
-IsCode code.Human name chosen named out = chosen ≡ choice.All → HasNoted (code_text named) out
+-- the code of a file of this name and so many bytes: the listing as `stencilc code` writes it; that with notes, or itself, where no function is
+-- left out; or the line of its value in JSON
+abbrev pub IsCode : CodeFormat → List ℕ → ℕ → Choice → NamedMerged (List Listed) → List ℕ → Type 0
+IsCode code.Plain name bytes chosen named out = out ≡ codes "file " ++ name ++ codes "\n" ++ code_text named
+IsCode code.Human name bytes chosen named out = chosen ≡ choice.All → HasNoted (code_text named) out
+IsCode code.Json name bytes chosen named out = IsLineOf (script_data of.Code name bytes named) out
 
--- the listing of scopes, as `stencilc scopes` writes it; of drawings nothing is said
-abbrev pub AreScopes : ScopesFormat → List ℕ → Choice → NamedMerged (List Listed) → List ℕ → Type 0
-AreScopes scopes.Plain name chosen named out = out ≡ codes "file " ++ name ++ codes "\n" ++ scope_text named
-AreScopes scopes.Human name chosen named out = Unit {0}
-AreScopes scopes.Dot name chosen named out = Unit {0}
+-- the scopes: the listing as `stencilc scopes` writes it, or the line of its value in JSON; of drawings nothing is said
+abbrev pub AreScopes : ScopesFormat → List ℕ → ℕ → Choice → NamedMerged (List Listed) → List ℕ → Type 0
+AreScopes scopes.Plain name bytes chosen named out = out ≡ codes "file " ++ name ++ codes "\n" ++ scope_text named
+AreScopes scopes.Json name bytes chosen named out = IsLineOf (script_data of.Scopes name bytes named) out
+AreScopes scopes.Human name bytes chosen named out = Unit {0}
+AreScopes scopes.Dot name bytes chosen named out = Unit {0}
 
 -- the counts are those of the stencil
 pub record AreCountsOf (stencil : MergedView) (text : List ℕ) (row : Row) : Type 0 where
@@ -71,7 +87,7 @@ pub record AreCountsOf (stencil : MergedView) (text : List ℕ) (row : Row) : Ty
   pub source : row.source_bytes ≡ length text
 
 -- the counts are those of a stencil of the whole script that the text is
-pub record AreCounts (shows : Wanted → List ℕ → NamedMerged (List Command) → Type 0) (words : List FunctionWord) (text : List ℕ) (row : Row) : Type 0 where
+pub record AreCounts (shows : Showing) (words : List FunctionWord) (text : List ℕ) (row : Row) : Type 0 where
   pub stencil : MergedView
   pub chosen : Choice
   pub is : IsScript shows words text stencil chosen

@@ -1,3 +1,4 @@
--- Which verdicts count, what the program ends with, and what is written of compiled texts.
+-- Which verdicts count, what the program ends with, and what is written of compiled texts and images.
 pub mod Compiling
+pub mod Images
 pub mod Statuses

@@ -21,7 +21,7 @@ fn script_line(
 ) -> Result<String, AllocError> {
     match options.format {
         Format::Json => json::script_line(alloc, name, text, functions),
-        Format::Human | Format::Github => Ok(String::new(alloc)),
+        Format::Human | Format::Github | Format::Sarif => Ok(String::new(alloc)),
     }
 }
 

@@ -1,6 +1,6 @@
 //! The command `code`, for one text.
 
-ghost use Rattle.std.specs.Prelude.{List, IfOk};
+ghost use Rattle.std.specs.Prelude.{List, length, IfOk};
 ghost use Rattle.stencil_data.specs.Named.{NamedMerged};
 ghost use Rattle.stencil_data.specs.StandsFor.{MergedStandsFor};
 ghost use Rattle.bytecode_buf.specs.Command.{Listed};
@@ -9,8 +9,9 @@ ghost use Rattle.holzikra_session.specs.Compiling.{IsCode, IsInspected, IsWritte
 
 use crate::inspected::Inspected;
 use crate::verdict::{Compiled, Judge};
-use holzikra_scripts::{Choice, noted_code, plain_code};
+use holzikra_scripts::{Choice, json_of_script, noted_code, plain_code};
 use holzikra_words::{CodeFormat, CodeOptions};
+use script_image::Listing;
 use std::alloc::{AllocError, Global};
 use stencil_data::MergedStencil;
 
@@ -24,7 +25,7 @@ fn code_lines(
     chosen: &Choice,
 ) -> Result<Vec<u8>, AllocError>
     ensures { IfOk result (λ out. (named : NamedMerged (List Listed)) → MergedStandsFor ShowsListed stencil.now named
-        → IsCode options.now.format name.now chosen.now named out.items) }
+        → IsCode options.now.format name.now (length text.now) chosen.now named out.items) }
 {
     match options.format {
         CodeFormat::Plain => {
@@ -34,6 +35,10 @@ fn code_lines(
         CodeFormat::Human => {
             let lines = noted_code(alloc, name, text, stencil, options.source_lines, chosen)?;
             Ok(lines)
+        }
+        CodeFormat::Json => {
+            let line = json_of_script(alloc, Listing::Code, name, text, stencil)?;
+            Ok(line)
         }
     }
 }
@@ -47,7 +52,7 @@ pub(crate) fn code_of<J: Judge>(
     text: &[u8],
 ) -> Result<Inspected<Vec<u8>>, AllocError>
     ensures { IfOk result (IsInspected (J.judges judge.now) options.now.functions.items text.now
-        (λ out. IsWritten (J.shows judge.now) options.now.functions.items text.now (IsCode options.now.format name.now) out.items)) }
+        (λ out. IsWritten (J.shows judge.now) options.now.functions.items text.now (IsCode options.now.format name.now (length text.now)) out.items)) }
 {
     let compiled = judge.compile(alloc, text, &options.functions)?;
     match compiled {

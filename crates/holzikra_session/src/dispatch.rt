@@ -1,7 +1,10 @@
 //! Which command is done.
 
+use crate::diff::diff_files;
 use crate::explain::explain_all;
 use crate::files::answer_files;
+use crate::report::report_files;
+use crate::save::save_file;
 use crate::status::Status;
 use crate::task::Task;
 use crate::verdict::Judge;
@@ -21,6 +24,11 @@ fn perform<R: Runtime + AllocGlobal, J: Judge>(
         Request::Code(options) => answer_files(rt, judge, Task::Code(options)),
         Request::Scopes(options) => answer_files(rt, judge, Task::Scopes(options)),
         Request::Stats(options) => answer_files(rt, judge, Task::Stats(options)),
+        Request::Diff(options) => diff_files(rt, judge, options),
+        Request::Report(options) => report_files(rt, judge, options),
+        Request::Save(options) => save_file(rt, judge, options),
+        Request::Load(options) => answer_files(rt, judge, Task::Load(options)),
+        Request::Verify(options) => answer_files(rt, judge, Task::Verify(options)),
         Request::Explain(options) => explain_all(rt, options),
     }
 }

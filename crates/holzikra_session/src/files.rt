@@ -3,17 +3,19 @@
 use crate::answer::answer_text;
 use crate::code::code_of;
 use crate::complaint::complain;
+use crate::images::{answer_image, list_image};
 use crate::inspected::Inspected;
+use crate::reading::{image_of, input_image};
 use crate::refusal::{Said, Showing, answer_refused};
 use crate::scopes::scopes_of;
 use crate::stats::counts_of_text;
 use crate::status::{Status, Tally};
 use crate::task::Task;
 use crate::verdict::{Judge, Reason};
-use crate::{human, json};
+use crate::{human, json, sarif};
 use holzikra_scripts::{Row, Table, row_line};
 use holzikra_walk::{Found, Walk};
-use holzikra_words::{CheckOptions, Format, StatsFormat, StatsOptions};
+use holzikra_words::{CheckOptions, Format, LoadOptions, StatsFormat, StatsOptions, VerifyOptions};
 use std::io::{BufWriter, ErrorKind, Read, Write};
 use std::rt::{Files, Runtime};
 use std::{fs, io};
@@ -22,14 +24,14 @@ use std::{fs, io};
 const MOST_READ: u64 = 16_777_216;
 
 /// The bytes of a file, or the first of those of one that is too long.
-fn bytes_of<R: Files + AllocGlobal>(rt: &R, path: &str) -> io::Result<Vec<u8>> {
+pub(crate) fn bytes_of<R: Files + AllocGlobal>(rt: &R, path: &str) -> io::Result<Vec<u8>> {
     let mut bytes = Vec::new(rt.alloc());
     fs::open(rt, path)?.take(MOST_READ).read_to_end(&mut bytes)?;
     Ok(bytes)
 }
 
 /// The bytes of standard input, or the first of those.
-fn input_bytes<R: Input + AllocGlobal>(rt: &R) -> io::Result<Vec<u8>> {
+pub(crate) fn input_bytes<R: Input + AllocGlobal>(rt: &R) -> io::Result<Vec<u8>> {
     let mut bytes = Vec::new(rt.alloc());
     rt.reader().take(MOST_READ).read_to_end(&mut bytes)?;
     Ok(bytes)
@@ -166,7 +168,33 @@ impl<'a, W: Write + Drop> Progress<'a, W> {
         }
     }
 
-    /// Does for a text what the task is.
+    /// Answers for an image with its listing.
+    fn load<R: Runtime + AllocGlobal>(
+        &mut self,
+        rt: &R,
+        options: &LoadOptions,
+        name: &str,
+        image: &[u8],
+    ) -> io::Result<()> {
+        let lines = list_image(rt.alloc(), options.format, name, image, &mut self.tally)?;
+        self.out.write_all(&lines)
+    }
+
+    /// Answers for an image with the verdict on its code.
+    fn verify<R: Runtime + AllocGlobal, J: Judge>(
+        &mut self,
+        rt: &R,
+        judge: &J,
+        options: &VerifyOptions,
+        name: &str,
+        image: &[u8],
+    ) -> io::Result<()> {
+        let format = options.format;
+        let line = answer_image(rt.alloc(), judge, format, name, image, &mut self.tally)?;
+        self.out.write_all(line.as_bytes())
+    }
+
+    /// Does for the bytes of a file what the task is.
     fn text<R: Runtime + AllocGlobal, J: Judge>(
         &mut self,
         rt: &R,
@@ -188,6 +216,8 @@ impl<'a, W: Write + Drop> Progress<'a, W> {
                 let row = counts_of_text(rt.alloc(), judge, text)?;
                 self.count(rt, options, name, text, row)
             }
+            Task::Load(options) => self.load(rt, options, name, text),
+            Task::Verify(options) => self.verify(rt, judge, options, name, text),
         }
     }
 
@@ -216,13 +246,29 @@ impl<'a, W: Write + Drop> Progress<'a, W> {
             Found::Fault(name, error) => self.fault(rt, name.as_str(), error),
             Found::Input => {
                 let files = self.task.files();
-                let read = input_bytes(rt);
+                let read = if self.task.takes_images() {
+                    input_image(rt)
+                } else {
+                    input_bytes(rt)
+                };
                 self.read(rt, judge, files.stdin_name.as_str(), read)
             }
             Found::File(name) => {
-                let read = bytes_of(rt, name.as_str());
+                let read = if self.task.takes_images() {
+                    image_of(rt, name.as_str())
+                } else {
+                    bytes_of(rt, name.as_str())
+                };
                 self.read(rt, judge, name.as_str(), read)
             }
+        }
+    }
+
+    /// Writes what comes in front of all files.
+    fn start(&mut self) -> io::Result<()> {
+        match self.task.format() {
+            Format::Sarif => self.out.write_all(sarif::HEAD.as_bytes()),
+            Format::Human | Format::Json | Format::Github => Ok(()),
         }
     }
 
@@ -232,13 +278,17 @@ impl<'a, W: Write + Drop> Progress<'a, W> {
         rt: &R,
         options: &CheckOptions,
     ) -> io::Result<()> {
+        if options.format == Format::Sarif {
+            let lines = sarif::tail(rt.alloc())?;
+            self.out.write_all(lines.as_bytes())?;
+        }
         if options.quiet {
             return Ok(());
         }
         let line = human::summary(rt.alloc(), &self.tally, &self.said)?;
         match options.format {
             Format::Human => self.out.write_all(line.as_bytes()),
-            Format::Json | Format::Github => eprint!(rt; "{line}"),
+            Format::Json | Format::Github | Format::Sarif => eprint!(rt; "{line}"),
         }
     }
 
@@ -262,7 +312,7 @@ impl<'a, W: Write + Drop> Progress<'a, W> {
         match self.task {
             Task::Check(options) => self.finish_check(rt, options)?,
             Task::Stats(options) => self.finish_stats(rt, options)?,
-            Task::Code(_) | Task::Scopes(_) => (),
+            Task::Code(_) | Task::Scopes(_) | Task::Load(_) | Task::Verify(_) => (),
         }
         self.out.flush()?;
         Ok(self.tally.status())
@@ -285,6 +335,7 @@ pub(crate) fn answer_files<R: Runtime + AllocGlobal, J: Judge>(
         said: Said::new(rt.alloc()),
         table: Table::new(rt.alloc()),
     };
+    progress.start()?;
     for _ in 0..u64::MAX {
         let Some(found) = walk.next(rt, files)? else {
             break;

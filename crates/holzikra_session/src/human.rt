@@ -2,6 +2,7 @@
 
 use crate::refusal::{Refused, Said};
 use crate::status::Tally;
+use crate::verdict::Verified;
 use holzikra_places::{excerpt_at, push_shown_text};
 use holzikra_refusals::{entry_of, message};
 use holzikra_scripts::Table;
@@ -98,6 +99,23 @@ pub(crate) fn summary(alloc: Global, tally: &Tally, said: &Said) -> Result<Strin
         line.push_str("`)")?;
     }
     line.push('\n')?;
+    Ok(line)
+}
+
+/// What bytes are that were taken as an image.
+pub(crate) fn image_line(alloc: Global, name: &str, found: Verified) -> Result<String, AllocError> {
+    let mut line = String::new(alloc);
+    push_shown_text(&mut line, name)?;
+    match found {
+        Verified::Sound { functions, depth } => {
+            write!(line, ": sound, depth {depth}, ")?;
+            let scripts = (functions as u64).saturating_add(1);
+            push_count(&mut line, scripts, "script", "scripts")?;
+            line.push('\n')?;
+        }
+        Verified::Unsound { script } => write!(line, ": script {script}: unsound\n")?,
+        Verified::NoImage => line.push_str(": no image\n")?,
+    }
     Ok(line)
 }
 

@@ -1,7 +1,7 @@
 //! Answers as JSON, an object in a line each.
 
 use crate::refusal::Refused;
-use crate::verdict::Reason;
+use crate::verdict::{Reason, Verified};
 use holzikra_json::Members;
 use holzikra_refusals::{entry_of, message, name_at};
 use serde_json::Value;
@@ -81,6 +81,26 @@ pub(crate) fn refusal_line(alloc: Global, refused: Refused<'_>) -> Result<String
     members.number("functions", None)?;
     members.put("refusal", why)?;
     members.line()
+}
+
+/// What bytes are that were taken as an image.
+pub(crate) fn image_line(alloc: Global, name: &str, found: Verified) -> Result<String, AllocError> {
+    match found {
+        Verified::Sound { functions, depth } => {
+            let mut members = Members::of_file(alloc, name, "image")?;
+            members.number("depth", Some(depth))?;
+            members.number("functions", Some(functions as u64))?;
+            members.put("sound", Value::Bool(true))?;
+            members.line()
+        }
+        Verified::Unsound { script } => {
+            let mut members = Members::of_file(alloc, name, "image")?;
+            members.put("sound", Value::Bool(false))?;
+            members.number("script", Some(script as u64))?;
+            members.line()
+        }
+        Verified::NoImage => Members::of_file(alloc, name, "no_image")?.line(),
+    }
 }
 
 /// A file that cannot be read.

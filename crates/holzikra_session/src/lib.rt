@@ -6,27 +6,35 @@
 //! proved and tried without the compiler. What each command has for one text stands in a file of its own; [`run`] picks the command. Its
 //! main contracts: a text is counted by the verdict of its judge (`IsCounted` of `specs/Statuses.antt`); the plain listings of `code`
 //! and `scopes` are those of what its judge shows of the text, and the listing of `code` with notes is that one without them
-//! (`IsCode`, `AreScopes` of `specs/Compiling.antt`); and the status is 1 exactly where a refusal was counted and nothing failed
-//! (`status_of`).
+//! (`IsCode`, `AreScopes` of `specs/Compiling.antt`); a file that is taken as an image is counted by what its judge finds in it, and what was
+//! saved of a script is listed as that script is (`IsImageCounted`, `IsSavedCode` of `specs/Images.antt`); and the status is 1 exactly where a
+//! refusal was counted and nothing failed (`status_of`).
 #![tactic(auto)]
 
 mod answer;
 mod code;
 mod complaint;
+mod diff;
 mod dispatch;
 mod explain;
 mod files;
 mod github;
 mod human;
+mod images;
 mod inspected;
 mod json;
+mod reading;
 mod refusal;
+mod report;
+mod sarif;
+mod save;
 mod scopes;
 mod stats;
 mod status;
 mod task;
 mod verdict;
+mod writing;
 
 pub use dispatch::run;
 pub use status::Status;
-pub use verdict::{Compiled, Judge, Reason, Spot, Verdict};
+pub use verdict::{Compiled, Judge, Reason, Saved, Spot, Verdict, Verified};

@@ -7,7 +7,7 @@ ghost use Rattle.holzikra_session.specs.declared.verdict.Verdict.TheVariants as 
 
 use crate::status::Tally;
 use crate::verdict::{Reason, Verdict};
-use crate::{github, human, json};
+use crate::{github, human, json, sarif};
 use holzikra_refusals::{Code, shown_code};
 use holzikra_words::{CheckOptions, Format, Unsupported};
 use std::alloc::{AllocError, Global};
@@ -99,16 +99,18 @@ impl Said {
     }
 }
 
-/// The lines for a text that is refused.
+/// The lines for a text that is refused, which may be the first one that is shown.
 fn refused_lines(
     alloc: Global,
     format: Format,
     refused: Refused<'_>,
+    first: bool,
 ) -> Result<String, AllocError> {
     match format {
         Format::Human => human::refusal_lines(alloc, refused),
         Format::Json => json::refusal_line(alloc, refused),
         Format::Github => github::refusal_line(alloc, refused),
+        Format::Sarif => sarif::refusal_result(alloc, refused, first),
     }
 }
 
@@ -139,6 +141,6 @@ pub(crate) fn answer_refused(
         reason,
         code,
     };
-    let lines = refused_lines(alloc, showing.format, refused)?;
+    let lines = refused_lines(alloc, showing.format, refused, said.shown == 1)?;
     Ok(lines)
 }

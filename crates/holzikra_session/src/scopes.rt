@@ -1,6 +1,6 @@
 //! The command `scopes`, for one text.
 
-ghost use Rattle.std.specs.Prelude.{List, [], IfOk};
+ghost use Rattle.std.specs.Prelude.{List, length, IfOk};
 ghost use Rattle.stencil_data.specs.Named.{NamedMerged};
 ghost use Rattle.stencil_data.specs.StandsFor.{MergedStandsFor};
 ghost use Rattle.bytecode_buf.specs.Command.{Listed};
@@ -9,8 +9,9 @@ ghost use Rattle.holzikra_session.specs.Compiling.{AreScopes, IsInspected, IsWri
 
 use crate::inspected::Inspected;
 use crate::verdict::{Compiled, Judge};
-use holzikra_scripts::{Choice, drawn_scopes, graph_of_scopes, plain_scopes};
+use holzikra_scripts::{Choice, drawn_scopes, graph_of_scopes, json_of_script, plain_scopes};
 use holzikra_words::{ScopesFormat, ScopesOptions};
+use script_image::Listing;
 use std::alloc::{AllocError, Global};
 use stencil_data::MergedStencil;
 
@@ -24,15 +25,19 @@ fn scope_lines(
     chosen: &Choice,
 ) -> Result<Vec<u8>, AllocError>
     ensures { IfOk result (λ out. (named : NamedMerged (List Listed)) → MergedStandsFor ShowsListed stencil.now named
-        → AreScopes options.now.format name.now chosen.now named out.items) }
+        → AreScopes options.now.format name.now (length text.now) chosen.now named out.items) }
 {
     match options.format {
         ScopesFormat::Plain => {
             let lines = plain_scopes(alloc, name, stencil)?;
             Ok(lines)
         }
-        ScopesFormat::Human => drawn_scopes(alloc, name, text, stencil),
-        ScopesFormat::Dot => graph_of_scopes(alloc, name, stencil),
+        ScopesFormat::Json => {
+            let line = json_of_script(alloc, Listing::Scopes, name, text, stencil)?;
+            Ok(line)
+        }
+        ScopesFormat::Human => drawn_scopes(alloc, name, text, stencil, chosen),
+        ScopesFormat::Dot => graph_of_scopes(alloc, name, stencil, chosen),
     }
 }
 
@@ -44,10 +49,10 @@ pub(crate) fn scopes_of<J: Judge>(
     name: &str,
     text: &[u8],
 ) -> Result<Inspected<Vec<u8>>, AllocError>
-    ensures { IfOk result (IsInspected (J.judges judge.now) [] text.now
-        (λ out. IsWritten (J.shows judge.now) [] text.now (AreScopes options.now.format name.now) out.items)) }
+    ensures { IfOk result (IsInspected (J.judges judge.now) options.now.functions.items text.now
+        (λ out. IsWritten (J.shows judge.now) options.now.functions.items text.now (AreScopes options.now.format name.now (length text.now)) out.items)) }
 {
-    let compiled = judge.compile(alloc, text, &[])?;
+    let compiled = judge.compile(alloc, text, &options.functions)?;
     match compiled {
         Compiled::Script(stencil, chosen) => {
             let lines = scope_lines(alloc, options, name, text, &stencil, &chosen)?;

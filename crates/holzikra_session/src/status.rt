@@ -1,17 +1,18 @@
 //! What was seen of all files, and what the program ends with.
 
 ghost use Rattle.std.specs.Prelude.{◌≡◌, true, false};
+ghost use Rattle.holzikra_session.specs.Images.{IsImageCounted};
 ghost use Rattle.holzikra_session.specs.Statuses.{IsCounted, number_of, status_of};
 
-use crate::verdict::Verdict;
+use crate::verdict::{Verdict, Verified};
 use holzikra_words::Unsupported;
 
 /// What the program ends with.
 #[derive(Debug, Clone, Copy, PartialEq, Eq)]
 pub enum Status {
-    /// Nothing is refused.
+    /// Nothing is refused, and nothing differs.
     Fine,
-    /// Something is, and everything was looked at.
+    /// Something is refused, or differs, and everything was looked at.
     Refused,
     /// Wrong words, or something cannot be read or written.
     Trouble,
@@ -42,7 +43,7 @@ pub(crate) struct Tally {
     pub(crate) errors: u64,
     /// Files that are refused for what looks like a form outside the profile.
     pub(crate) outside: u64,
-    /// Whether some refusal counts.
+    /// Whether some refusal counts, or some image does that is none or has code that is not sound.
     pub(crate) refused: bool,
     /// Whether something could not be read.
     pub(crate) failed: bool,
@@ -86,6 +87,16 @@ impl Tally {
         ensures failed { self.new.failed ≡ self.old.failed }
     {
         self.scripts = self.scripts.saturating_add(1);
+    }
+
+    /// Counts a file that is this, taken as an image.
+    pub(crate) fn count_image(&mut self, found: Verified)
+        ensures { IsImageCounted found self.old self.new }
+    {
+        match found {
+            Verified::Sound { .. } => self.count_script(),
+            Verified::Unsound { .. } | Verified::NoImage => self.refused = true,
+        }
     }
 
     /// Something could not be read.

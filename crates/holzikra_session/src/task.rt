@@ -1,8 +1,8 @@
 //! What is done with each file.
 
 use holzikra_words::{
-    CheckOptions, CodeOptions, FileOptions, Format, FunctionWord, ScopesOptions, StatsFormat,
-    StatsOptions,
+    CheckOptions, CodeFormat, CodeOptions, FileOptions, Format, FunctionName, LoadOptions,
+    ScopesFormat, ScopesOptions, StatsFormat, StatsOptions, VerifyFormat, VerifyOptions,
 };
 use std::alloc::{AllocError, Global};
 
@@ -13,6 +13,8 @@ pub(crate) enum Task<'a> {
     Code(&'a CodeOptions),
     Scopes(&'a ScopesOptions),
     Stats(&'a StatsOptions),
+    Load(&'a LoadOptions),
+    Verify(&'a VerifyOptions),
 }
 
 impl<'a> Task<'a> {
@@ -23,6 +25,8 @@ impl<'a> Task<'a> {
             Task::Code(options) => &options.files,
             Task::Scopes(options) => &options.files,
             Task::Stats(options) => &options.files,
+            Task::Load(options) => &options.files,
+            Task::Verify(options) => &options.files,
         }
     }
 
@@ -30,8 +34,20 @@ impl<'a> Task<'a> {
     pub(crate) fn format(self) -> Format {
         match self {
             Task::Check(options) => options.format,
+            Task::Code(options) if options.format == CodeFormat::Json => Format::Json,
+            Task::Scopes(options) if options.format == ScopesFormat::Json => Format::Json,
             Task::Stats(options) if options.format == StatsFormat::Json => Format::Json,
+            Task::Verify(options) if options.format == VerifyFormat::Json => Format::Json,
             Task::Code(_) | Task::Scopes(_) | Task::Stats(_) => Format::Human,
+            Task::Load(_) | Task::Verify(_) => Format::Human,
+        }
+    }
+
+    /// Whether files are taken as images.
+    pub(crate) fn takes_images(self) -> bool {
+        match self {
+            Task::Check(_) | Task::Code(_) | Task::Scopes(_) | Task::Stats(_) => false,
+            Task::Load(_) | Task::Verify(_) => true,
         }
     }
 
@@ -39,13 +55,15 @@ impl<'a> Task<'a> {
     pub(crate) fn function_word(self, alloc: Global, place: usize) -> Result<String, AllocError> {
         let word = match self {
             Task::Code(options) => options.functions.get(place),
-            Task::Check(_) | Task::Scopes(_) | Task::Stats(_) => None,
+            Task::Scopes(options) => options.functions.get(place),
+            Task::Check(_) | Task::Stats(_) => None,
+            Task::Load(_) | Task::Verify(_) => None,
         };
-        match word {
+        match word.map(|word| &word.name) {
             None => Ok(String::new(alloc)),
-            Some(FunctionWord::Number(number)) => format!(in alloc; "{number}"),
-            Some(FunctionWord::Name(name)) => format!(in alloc; "`{name}`"),
-            Some(FunctionWord::Place(line, column)) => format!(in alloc; "at {line}:{column}"),
+            Some(FunctionName::Number(number)) => format!(in alloc; "{number}"),
+            Some(FunctionName::Text(name)) => format!(in alloc; "`{name}`"),
+            Some(FunctionName::Place(line, column)) => format!(in alloc; "at {line}:{column}"),
         }
     }
 }

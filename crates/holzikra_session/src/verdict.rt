@@ -1,11 +1,13 @@
-//! Verdicts on texts, what compiling them comes to, and who does both.
+//! Verdicts on texts and images, what compiling texts comes to, and who does it.
 
 ghost use Rattle.std.specs.Prelude.{ℕ, List, IfOk};
 ghost use Rattle.stencil_data.specs.Named.{NamedMerged};
 ghost use Rattle.bytecode_buf.specs.Command.{Command};
 ghost use Rattle.session_words.specs.Asked.{Wanted};
 ghost use Rattle.holzikra_session.specs.Compiling.{IsCompiledBy};
+ghost use Rattle.holzikra_session.specs.Images.{IsSavedBy};
 ghost use Rattle.holzikra_session.specs.declared.verdict.Verdict.{Verdict};
+ghost use Rattle.holzikra_session.specs.declared.verdict.Verified.{Verified};
 
 use holzikra_places::Place;
 use holzikra_refusals::{Code, Rule};
@@ -57,11 +59,33 @@ pub enum Compiled {
     NoFunction(usize),
 }
 
-/// Who gives verdicts on texts, and compiles them.
+/// What saving a text comes to.
+#[derive(Drop)]
+pub enum Saved {
+    /// The image of the script.
+    Image(Vec<u8>),
+    /// The text is refused.
+    Refused(Reason),
+}
+
+/// What bytes are that are taken as an image.
+#[derive(Debug, Clone, Copy, PartialEq, Eq)]
+pub enum Verified {
+    /// The image of a script of so many functions, all code of which is sound. No stack gets deeper than this, and one gets as deep.
+    Sound { functions: usize, depth: u64 },
+    /// An image with code that is not sound: first that of this script, which is 0 for the top and else the number of a function.
+    Unsound { script: usize },
+    /// No image.
+    NoImage,
+}
+
+/// Who gives verdicts on texts and images, and compiles texts.
 pub trait Judge {
     ghost judges: { Self → List ℕ → Verdict → Type 0 };
 
     ghost shows: { Self → Wanted → List ℕ → NamedMerged (List Command) → Type 0 };
+
+    ghost verifies: { Self → List ℕ → Verified → Type 0 };
 
     /// The verdict on this text. The one error is want of memory.
     fn judge(&self, alloc: Global, text: &[u8]) -> Result<Verdict, AllocError>
@@ -75,6 +99,14 @@ pub trait Judge {
         words: &[FunctionWord],
     ) -> Result<Compiled, AllocError>
         ensures { IfOk result (IsCompiledBy (judges self.now) (shows self.now) words.now text.now) };
+
+    /// The image of the script that this text is, with all of its functions. The one error is want of memory.
+    fn save(&self, alloc: Global, text: &[u8]) -> Result<Saved, AllocError>
+        ensures { IfOk result (IsSavedBy (judges self.now) (shows self.now) text.now) };
+
+    /// Whether these bytes are an image, and all code in it is sound. The one error is want of memory.
+    fn verify(&self, alloc: Global, image: &[u8]) -> Result<Verified, AllocError>
+        ensures { IfOk result (verifies self.now image.now) };
 }
 
 impl Reason {

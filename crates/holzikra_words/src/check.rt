@@ -15,6 +15,8 @@ pub enum Format {
     Json,
     /// Workflow commands of GitHub.
     Github,
+    /// A log in the form SARIF 2.1.0.
+    Sarif,
 }
 
 /// What becomes of a file that is refused for a form that no script of the profile has.
@@ -40,7 +42,7 @@ pub struct CheckOptions {
     pub quiet: bool,
 }
 
-static FORMATS: [&str; 3] = ["human", "json", "github"];
+static FORMATS: [&str; 4] = ["human", "json", "github", "sarif"];
 
 static CHOICES: [&str; 3] = ["error", "warn", "skip"];
 
@@ -89,6 +91,7 @@ fn format_of(word: &str) -> Format {
     match word {
         "json" => Format::Json,
         "github" => Format::Github,
+        "sarif" => Format::Sarif,
         _ => Format::Human,
     }
 }

@@ -13,6 +13,8 @@ pub enum CodeFormat {
     Human,
     /// As `stencilc code` lists it.
     Plain,
+    /// A JSON object a file, one line each.
+    Json,
 }
 
 /// What `code` is asked for.
@@ -26,7 +28,7 @@ pub struct CodeOptions {
     pub source_lines: bool,
 }
 
-static FORMATS: [&str; 2] = ["human", "plain"];
+static FORMATS: [&str; 3] = ["human", "plain", "json"];
 
 /// The command `code`.
 pub(crate) fn command<'a>(alloc: Global) -> Result<Command<'a>, AllocError> {
@@ -45,6 +47,7 @@ pub(crate) fn command<'a>(alloc: Global) -> Result<Command<'a>, AllocError> {
 fn format_of(word: &str) -> CodeFormat {
     match word {
         "plain" => CodeFormat::Plain,
+        "json" => CodeFormat::Json,
         _ => CodeFormat::Human,
     }
 }

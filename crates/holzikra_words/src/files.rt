@@ -17,14 +17,15 @@ pub struct FileOptions {
     pub stdin_name: String,
 }
 
-/// The command with the words that name files.
-pub(crate) fn with_files<'a>(
+/// The command with the words that name files, of which in a folder those are taken whose names end so.
+fn with_files_named<'a>(
     alloc: Global,
     command: Command<'a>,
+    taken: &'a str,
 ) -> Result<Command<'a>, AllocError> {
     let paths = words(alloc, "PATH", "a file, a folder, or - for standard input").required(true);
     let command = with(command, paths)?;
-    let command = with(command, extensions(alloc))?;
+    let command = with(command, extensions(alloc, taken))?;
     let stdin_name = valued(alloc, "stdin-name", "NAME", "<stdin>", "what - is called");
     let command = with(command, stdin_name)?;
     let all = switch(
@@ -35,12 +36,28 @@ pub(crate) fn with_files<'a>(
     with(command, all)
 }
 
-fn extensions<'a>(alloc: Global) -> Arg<'a> {
+/// The command with the words that name scripts.
+pub(crate) fn with_files<'a>(
+    alloc: Global,
+    command: Command<'a>,
+) -> Result<Command<'a>, AllocError> {
+    with_files_named(alloc, command, "js,cjs")
+}
+
+/// The command with the words that name images.
+pub(crate) fn with_images<'a>(
+    alloc: Global,
+    command: Command<'a>,
+) -> Result<Command<'a>, AllocError> {
+    with_files_named(alloc, command, "stn")
+}
+
+fn extensions<'a>(alloc: Global, taken: &'a str) -> Arg<'a> {
     let extensions = valued(
         alloc,
         "ext",
         "LIST",
-        "js,cjs",
+        taken,
         "which files of a folder are taken",
     );
     extensions.value_delimiter(',').action(ArgAction::Append)

@@ -1,21 +1,32 @@
 //! The words that name functions.
 
-use crate::parts::with;
+use crate::parts::{switch, with};
 use clap::{Arg, ArgAction, ArgMatches, Command};
 use std::alloc::{AllocError, Global};
 
-/// A function of a script as it is asked for.
+/// How functions of a script are named.
 #[derive(Debug, Drop)]
-pub enum FunctionWord {
+pub enum FunctionName {
     /// That of this number; 0 is the script itself.
     Number(u32),
     /// All of this name.
-    Name(String),
+    Text(String),
     /// The innermost one around this place: a line, and a column of it in 16-bit units of UTF-16, each from 1.
     Place(u32, u32),
 }
 
-/// The command with an option for functions.
+/// Functions of a script as they are asked for.
+#[derive(Debug, Drop)]
+pub struct FunctionWord {
+    pub name: FunctionName,
+    /// With the functions inside them.
+    pub inner: bool,
+}
+
+/// What a place is called in help and errors.
+const PLACE: &str = "LINE[:COLUMN]";
+
+/// The command with the options for functions.
 pub(crate) fn with_functions<'a>(
     alloc: Global,
     command: Command<'a>,
@@ -24,8 +35,16 @@ pub(crate) fn with_functions<'a>(
         .long("function")
         .value_name("FUNCTION")
         .action(ArgAction::Append)
-        .help("a number, a name, or LINE:COLUMN in it; may be given again");
-    with(command, functions)
+        .help("a number or a name; may be given again");
+    let command = with(command, functions)?;
+    let places = Arg::new(alloc, "at")
+        .long("at")
+        .value_name(PLACE)
+        .action(ArgAction::Append)
+        .help("the innermost function there; may be given again");
+    let command = with(command, places)?;
+    let only = switch(alloc, "only", "without the functions inside these");
+    with(command, only)
 }
 
 /// The number that a text is: digits alone, and not too great.
@@ -44,21 +63,44 @@ fn number_of(text: &str) -> Option<u32> {
     Some(number)
 }
 
-/// The place that a text is.
+/// The place that a text is; without a column the beginning of the line.
 fn place_of(text: &str) -> Option<(u32, u32)> {
-    let (line, column) = text.split_once(':')?;
-    Some((number_of(line)?, number_of(column)?))
+    match text.split_once(':') {
+        None => Some((number_of(text)?, 1)),
+        Some((line, column)) => Some((number_of(line)?, number_of(column)?)),
+    }
 }
 
-/// What a word means.
-fn word_of(alloc: Global, text: &str) -> Result<FunctionWord, AllocError> {
+/// The first text behind `--at` that is no place.
+fn wrong_place<'a>(found: &ArgMatches<'a>) -> Option<&'a str> {
+    for text in found.get_strs("at")? {
+        if place_of(text).is_none() {
+            return Some(text);
+        }
+    }
+    None
+}
+
+/// What is wrong with the words for functions, if something is.
+pub(crate) fn complaint(
+    alloc: Global,
+    found: &ArgMatches<'_>,
+) -> Result<Option<String>, AllocError> {
+    match wrong_place(found) {
+        None => Ok(None),
+        Some(text) => {
+            let message = format!(in alloc; "invalid value '{text}' for '--at <{PLACE}>'")?;
+            Ok(Some(message))
+        }
+    }
+}
+
+/// What a word behind `--function` means.
+fn name_of(alloc: Global, text: &str) -> Result<FunctionName, AllocError> {
     if let Some(number) = number_of(text) {
-        return Ok(FunctionWord::Number(number));
+        return Ok(FunctionName::Number(number));
     }
-    if let Some((line, column)) = place_of(text) {
-        return Ok(FunctionWord::Place(line, column));
-    }
-    Ok(FunctionWord::Name(String::from_str(alloc, text)?))
+    Ok(FunctionName::Text(String::from_str(alloc, text)?))
 }
 
 /// The functions that the words ask for.
@@ -66,11 +108,21 @@ pub(crate) fn function_words(
     alloc: Global,
     found: &ArgMatches<'_>,
 ) -> Result<Vec<FunctionWord>, AllocError> {
-    let mut functions = Vec::new(alloc);
+    let inner = !found.get_flag("only");
+    let mut words = Vec::new(alloc);
     if let Some(values) = found.get_strs("function") {
         for value in values {
-            functions.push(word_of(alloc, value)?)?;
+            let name = name_of(alloc, value)?;
+            words.push(FunctionWord { name, inner })?;
         }
     }
-    Ok(functions)
+    if let Some(values) = found.get_strs("at") {
+        for value in values {
+            if let Some((line, column)) = place_of(value) {
+                let name = FunctionName::Place(line, column);
+                words.push(FunctionWord { name, inner })?;
+            }
+        }
+    }
+    Ok(words)
 }

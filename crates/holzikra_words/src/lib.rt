@@ -6,19 +6,29 @@
 
 mod check;
 mod code;
+mod diff;
 mod explain;
 mod files;
 mod functions;
+mod load;
 mod parts;
+mod report;
+mod save;
 mod scopes;
 mod stats;
+mod verify;
 mod words;
 
 pub use check::{CheckOptions, Format, Unsupported};
 pub use code::{CodeFormat, CodeOptions};
+pub use diff::DiffOptions;
 pub use explain::ExplainOptions;
 pub use files::FileOptions;
-pub use functions::FunctionWord;
+pub use functions::{FunctionName, FunctionWord};
+pub use load::{LoadFormat, LoadOptions};
+pub use report::ReportOptions;
+pub use save::SaveOptions;
 pub use scopes::{ScopesFormat, ScopesOptions};
 pub use stats::{StatsFormat, StatsOptions};
+pub use verify::{VerifyFormat, VerifyOptions};
 pub use words::{Request, read_words};

@@ -1,6 +1,7 @@
 //! The words of `scopes`.
 
 use crate::files::{FileOptions, file_options, with_files};
+use crate::functions::{FunctionWord, function_words, with_functions};
 use crate::parts::{choice, named, value, with};
 use clap::{ArgMatches, Command};
 use std::alloc::{AllocError, Global};
@@ -12,6 +13,8 @@ pub enum ScopesFormat {
     Human,
     /// As `stencilc scopes` lists them.
     Plain,
+    /// A JSON object a file, one line each.
+    Json,
     /// As a graph in the language DOT of Graphviz.
     Dot,
 }
@@ -21,9 +24,11 @@ pub enum ScopesFormat {
 pub struct ScopesOptions {
     pub files: FileOptions,
     pub format: ScopesFormat,
+    /// The functions that are meant; all where there is none.
+    pub functions: Vec<FunctionWord>,
 }
 
-static FORMATS: [&str; 3] = ["human", "plain", "dot"];
+static FORMATS: [&str; 4] = ["human", "plain", "json", "dot"];
 
 /// The command `scopes`.
 pub(crate) fn command<'a>(alloc: Global) -> Result<Command<'a>, AllocError> {
@@ -33,6 +38,7 @@ pub(crate) fn command<'a>(alloc: Global) -> Result<Command<'a>, AllocError> {
         "draw functions and scopes, and who closes over what",
     );
     let command = with_files(alloc, command)?;
+    let command = with_functions(alloc, command)?;
     let formats = FORMATS.as_slice();
     let format = choice(alloc, "format", formats, "human", "how scopes are drawn");
     with(command, format)
@@ -41,6 +47,7 @@ pub(crate) fn command<'a>(alloc: Global) -> Result<Command<'a>, AllocError> {
 fn format_of(word: &str) -> ScopesFormat {
     match word {
         "plain" => ScopesFormat::Plain,
+        "json" => ScopesFormat::Json,
         "dot" => ScopesFormat::Dot,
         _ => ScopesFormat::Human,
     }
@@ -49,8 +56,10 @@ fn format_of(word: &str) -> ScopesFormat {
 /// What the words of `scopes` ask for.
 pub(crate) fn options(alloc: Global, found: &ArgMatches<'_>) -> Result<ScopesOptions, AllocError> {
     let files = file_options(alloc, found)?;
+    let functions = function_words(alloc, found)?;
     Ok(ScopesOptions {
         files,
         format: format_of(value(found, "format", "human")),
+        functions,
     })
 }

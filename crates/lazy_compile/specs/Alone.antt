@@ -31,4 +31,5 @@ pub record IsReadAlone (alone : FunctionAlone) (items : Stmts) (m : Site) : Type
 
 -- whichever script's function has this record, it was read
 abbrev pub ReadsAlone : (file : List ℕ) → (lazy : RecordView) → (texts : List (List ℕ)) → FunctionAlone → Type 0
-ReadsAlone file lazy texts alone = (chain : List LinkView) (items : Stmts) (m : Site) → CanBeDelazified file lazy texts chain items m → IsReadAlone alone items m
+ReadsAlone file lazy texts alone =
+    (chain : List LinkView) (items : Stmts) (m : Site) → CanBeDelazified file lazy texts chain items m → IsReadAlone alone items m

@@ -26,7 +26,8 @@ pub record IsRecordOf (texts : List (List ℕ)) (lazy : RecordView) (items : Stm
 
 -- The file is UTF-8 and a script with these statements, without an early error. The function at this site is one of its
 -- functions, under this chain, and the record is that function's, by these texts, whose atoms leave room for more.
-pub record CanBeDelazified (file : List ℕ) (lazy : RecordView) (texts : List (List ℕ)) (chain : List LinkView) (items : Stmts) (m : Site) : Type 0 where
+pub record CanBeDelazified (file : List ℕ) (lazy : RecordView) (texts : List (List ℕ)) (chain : List LinkView) (items : Stmts)
+    (m : Site) : Type 0 where
   pub short : length file ≤ 16777215
   pub utf8 : IsUtf8 file
   pub text : IsText (lexemes file) items
@@ -38,7 +39,8 @@ pub record CanBeDelazified (file : List ℕ) (lazy : RecordView) (texts : List (
 
 -- Some function of a script can be, under some chain, and these are the extents of the functions directly in it.
 abbrev pub CanBeRead : (file : List ℕ) → (lazy : RecordView) → (within : List Extent) → (texts : List (List ℕ)) → Type 0
-CanBeRead file lazy within texts = (chain : List LinkView) × (items : Stmts) × (m : Site) × CanBeDelazified file lazy texts chain items m × (within ≡ extents_in m.inner)
+CanBeRead file lazy within texts =
+    (chain : List LinkView) × (items : Stmts) × (m : Site) × CanBeDelazified file lazy texts chain items m × (within ≡ extents_in m.inner)
 
 -- The stencil stands for what the whole script has of the function, by texts without equals, and these are the chains that the
 -- function hands down there, in the order of the functions directly in it.

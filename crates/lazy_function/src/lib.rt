@@ -50,7 +50,8 @@ pub fn chain_inside<'a>(initial: &InitialStencil, made: &'a Delazified, number: 
     requires made { (bytes : List ℕ) × IsInitialOf bytes initial.now × IsCompiledFunction bytes (around_in initial.now number).number made.now }
     requires number { IsNumberIn initial.now number }
     requires inside { 0 < (around_in initial.now number).number }
-    ensures { (bytes : List ℕ) → IsCompiledFunction bytes (around_in initial.now number).number made.now → IsChainOf bytes initial.now number result.now }
+    ensures { (bytes : List ℕ) → IsCompiledFunction bytes (around_in initial.now number).number made.now
+        → IsChainOf bytes initial.now number result.now }
 {
     let around = around_of(initial, number);
     &made.chains[around.place]

@@ -2,11 +2,13 @@
 
 ghost use Rattle.std.specs.Prelude.{◌≡◌, ◌&&◌, List, Option, None, IfOk, cond, nat_eq};
 ghost use Rattle.script_grammar.specs.Interpretation.{Interpretation, text_of, named, maybe_named};
-ghost use Rattle.script_grammar.specs.Shows.{ShowAll, ShowMaybe, ShowArgs, ShowOperand, ShowPart, ShowTail, ShowKey, ShowFunc, ShowBind, ShowInit, ShowEach, ShowClause};
+ghost use Rattle.script_grammar.specs.Shows.{ShowAll, ShowMaybe, ShowArgs, ShowOperand, ShowPart, ShowTail, ShowKey, ShowFunc, ShowBind, ShowInit};
+ghost use Rattle.script_grammar.specs.Shows.{ShowEach, ShowClause};
 ghost use Rattle.script_grammar.specs.declared.token.word.TheConstants as names;
 ghost use Rattle.script_grammar.specs.Tree as model;
 ghost use Rattle.script_grammar.specs.TreeLists as part;
-ghost use Rattle.script_grammar.specs.TreeLists.{exprs_of, maybe_expr_of, items_of, maybe_args_of, operands_of, parts_of, tails_of, props_of, binds_of, clauses_of, stmts_of, maybe_stmt_of};
+ghost use Rattle.script_grammar.specs.TreeLists.{exprs_of, maybe_expr_of, items_of, maybe_args_of, operands_of, parts_of, tails_of, props_of};
+ghost use Rattle.script_grammar.specs.TreeLists.{binds_of, clauses_of, stmts_of, maybe_stmt_of};
 ghost use Rattle.parse_track.specs.EarlyErrors.{sooner};
 ghost use Rattle.parse_early_handler.specs.declared.shape.Shape.TheVariants as form;
 ghost use Rattle.parse_early_handler.specs.declared.directive.Directive.TheVariants as kind;
@@ -229,7 +231,8 @@ impl Handler for EarlyErrorHandler {
         head: ExprErrors,
         tails: Vec<NodeTail<ExprErrors>>,
     ) -> Result<ExprErrors, AllocError>
-        ensures { (i : Interpretation) (t : model.Expr) (ts : List model.Tail) → HasErrorsExpr i head t → ShowAll (ShowTail i (HasErrorsExpr i)) tails.items ts
+        ensures { (i : Interpretation) (t : model.Expr) (ts : List model.Tail) → HasErrorsExpr i head t
+            → ShowAll (ShowTail i (HasErrorsExpr i)) tails.items ts
             → IfOk result (λ e. HasErrorsExpr i e (model.Chain t (tails_of ts))) }
     {
         let first = sooner(head.first, tails.first_early());
@@ -248,7 +251,8 @@ impl Handler for EarlyErrorHandler {
         callee: ExprErrors,
         args: Option<NodeArgs<ExprErrors>>,
     ) -> Result<ExprErrors, AllocError>
-        ensures { (i : Interpretation) (t : model.Expr) (a : Option part.Args) → HasErrorsExpr i callee t → ShowMaybe (ShowArgs (HasErrorsExpr i)) args a
+        ensures { (i : Interpretation) (t : model.Expr) (a : Option part.Args) → HasErrorsExpr i callee t
+            → ShowMaybe (ShowArgs (HasErrorsExpr i)) args a
             → IfOk result (λ e. HasErrorsExpr i e (model.New at t (maybe_args_of a))) }
     {
         let first = sooner(callee.first, args.first_early());
@@ -290,7 +294,8 @@ impl Handler for EarlyErrorHandler {
         first: ExprErrors,
         rest: Vec<NodeOperand<ExprErrors>>,
     ) -> Result<ExprErrors, AllocError>
-        ensures { (i : Interpretation) (t : model.Expr) (os : List part.Operand) → HasErrorsExpr i first t → ShowAll (ShowOperand (HasErrorsExpr i)) rest.items os
+        ensures { (i : Interpretation) (t : model.Expr) (os : List part.Operand) → HasErrorsExpr i first t
+            → ShowAll (ShowOperand (HasErrorsExpr i)) rest.items os
             → IfOk result (λ e. HasErrorsExpr i e (model.Binary t (operands_of os))) }
     {
         let start = first.start;
@@ -363,7 +368,8 @@ impl Handler for EarlyErrorHandler {
         key: NodeKey<ExprErrors>,
         func: NodeFunc<ExprErrors, BodyErrors>,
     ) -> Result<PropErrors, AllocError>
-        ensures { (i : Interpretation) (k : model.Key) (f : model.Function) → ShowKey i (HasErrorsExpr i) key k → ShowFunc i (HasErrorsExpr i) (HasErrorsBody i) func f
+        ensures { (i : Interpretation) (k : model.Key) (f : model.Function) → ShowKey i (HasErrorsExpr i) key k
+            → ShowFunc i (HasErrorsExpr i) (HasErrorsBody i) func f
             → IfOk result (λ p. HasErrorsProp i p (model.Method k f)) }
     {
         Ok(method(&key, &func))
@@ -374,7 +380,8 @@ impl Handler for EarlyErrorHandler {
         key: NodeKey<ExprErrors>,
         func: NodeFunc<ExprErrors, BodyErrors>,
     ) -> Result<PropErrors, AllocError>
-        ensures { (i : Interpretation) (k : model.Key) (f : model.Function) → ShowKey i (HasErrorsExpr i) key k → ShowFunc i (HasErrorsExpr i) (HasErrorsBody i) func f
+        ensures { (i : Interpretation) (k : model.Key) (f : model.Function) → ShowKey i (HasErrorsExpr i) key k
+            → ShowFunc i (HasErrorsExpr i) (HasErrorsBody i) func f
             → IfOk result (λ p. HasErrorsProp i p (model.Get k f)) }
     {
         Ok(method(&key, &func))
@@ -385,7 +392,8 @@ impl Handler for EarlyErrorHandler {
         key: NodeKey<ExprErrors>,
         func: NodeFunc<ExprErrors, BodyErrors>,
     ) -> Result<PropErrors, AllocError>
-        ensures { (i : Interpretation) (k : model.Key) (f : model.Function) → ShowKey i (HasErrorsExpr i) key k → ShowFunc i (HasErrorsExpr i) (HasErrorsBody i) func f
+        ensures { (i : Interpretation) (k : model.Key) (f : model.Function) → ShowKey i (HasErrorsExpr i) key k
+            → ShowFunc i (HasErrorsExpr i) (HasErrorsBody i) func f
             → IfOk result (λ p. HasErrorsProp i p (model.Set k f)) }
     {
         Ok(method(&key, &func))
@@ -438,7 +446,8 @@ impl Handler for EarlyErrorHandler {
         yes: StmtErrors,
         no: Option<StmtErrors>,
     ) -> Result<StmtErrors, AllocError>
-        ensures { (i : Interpretation) (t : model.Expr) (u : model.Stmt) (v : Option model.Stmt) → HasErrorsExpr i test t → HasErrorsStmt i yes u → ShowMaybe (HasErrorsStmt i) no v
+        ensures { (i : Interpretation) (t : model.Expr) (u : model.Stmt) (v : Option model.Stmt) → HasErrorsExpr i test t → HasErrorsStmt i yes u
+            → ShowMaybe (HasErrorsStmt i) no v
             → IfOk result (λ s. HasErrorsStmt i s (model.If t u (maybe_stmt_of v))) }
     {
         let branches = sooner(yes.first, no.first_early());
@@ -493,7 +502,8 @@ impl Handler for EarlyErrorHandler {
         over: ExprErrors,
         body: StmtErrors,
     ) -> Result<StmtErrors, AllocError>
-        ensures { (i : Interpretation) (n : model.Each) (t : model.Expr) (b : model.Stmt) → ShowEach i (HasErrorsExpr i) each n → HasErrorsExpr i over t → HasErrorsStmt i body b
+        ensures { (i : Interpretation) (n : model.Each) (t : model.Expr) (b : model.Stmt) → ShowEach i (HasErrorsExpr i) each n
+            → HasErrorsExpr i over t → HasErrorsStmt i body b
             → IfOk result (λ s. HasErrorsStmt i s (model.ForIn n t b)) }
     {
         let rest = sooner(over.first, body.first);
@@ -546,7 +556,8 @@ impl Handler for EarlyErrorHandler {
         of: ExprErrors,
         clauses: Vec<NodeClause<ExprErrors, StmtErrors>>,
     ) -> Result<StmtErrors, AllocError>
-        ensures { (i : Interpretation) (t : model.Expr) (cs : List part.Clause) → HasErrorsExpr i of t → ShowAll (ShowClause (HasErrorsExpr i) (HasErrorsStmt i)) clauses.items cs
+        ensures { (i : Interpretation) (t : model.Expr) (cs : List part.Clause) → HasErrorsExpr i of t
+            → ShowAll (ShowClause (HasErrorsExpr i) (HasErrorsStmt i)) clauses.items cs
             → IfOk result (λ s. HasErrorsStmt i s (model.Switch t (clauses_of cs))) }
     {
         let first = sooner(of.first, clauses.first_early());
@@ -566,7 +577,8 @@ impl Handler for EarlyErrorHandler {
         _param: Option<Ident>,
         handler: Vec<StmtErrors>,
     ) -> Result<StmtErrors, AllocError>
-        ensures { (i : Interpretation) (bs hs : List model.Stmt) → ShowAll (HasErrorsStmt i) body.items bs → ShowAll (HasErrorsStmt i) handler.items hs
+        ensures { (i : Interpretation) (bs hs : List model.Stmt) → ShowAll (HasErrorsStmt i) body.items bs
+            → ShowAll (HasErrorsStmt i) handler.items hs
             → IfOk result (λ s. HasErrorsStmt i s (model.Try (stmts_of bs) (maybe_named i _param) (stmts_of hs))) }
     {
         let tried = body.first_early();

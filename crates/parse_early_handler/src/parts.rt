@@ -2,7 +2,9 @@
 
 ghost use Rattle.std.specs.Prelude.{◌≡◌, Option, map};
 ghost use Rattle.parse_track.specs.declared.region.Early.{Early};
-ghost use Rattle.parse_early_handler.specs.Firsts.{are_more, args_first, binds_first, body_first, clause_first, each_first, end_in_property, expr_first, first_of, function_first, init_first, is_more, is_property, key_first, maybe_first, start_of_first, strict_first, tail_first, target_first};
+ghost use Rattle.parse_early_handler.specs.Firsts.{are_more, args_first, binds_first, body_first, clause_first, each_first, end_in_property};
+ghost use Rattle.parse_early_handler.specs.Firsts.{expr_first, first_of, function_first, init_first, is_more, is_property, key_first, maybe_first};
+ghost use Rattle.parse_early_handler.specs.Firsts.{start_of_first, strict_first, tail_first, target_first};
 
 use crate::early::{error_if, error_of, smaller, sooner};
 use crate::keys::const_errors;

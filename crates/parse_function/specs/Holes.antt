@@ -36,7 +36,8 @@ pub record AreHolesOf (file : List ℕ) (extent : Extent) (i : Inner) (holes : L
 
 -- they are so of whichever function has this extent and, directly in it, functions of these extents
 abbrev pub AreHolesAt : List ℕ → Extent → List Extent → List Hole → Type 0
-AreHolesAt file extent within holes = (form : FuncForm) (items : Stmts) (i : Inner) → IsExtentOf file extent form items i → within ≡ extents_in i → AreHolesOf file extent i holes
+AreHolesAt file extent within holes =
+    (form : FuncForm) (items : Stmts) (i : Inner) → IsExtentOf file extent form items i → within ≡ extents_in i → AreHolesOf file extent i holes
 
 -- ---- what is known of each
 
@@ -91,7 +92,8 @@ pub data IsJointOf : List Kind → Type 0 where
 -- kinds of the tokens of a function's head
 pub data IsHeadOf : List Kind → Type 0 where
   single : IsHeadOf (kind.Name ∷ kind.Mark mark.ARROW ∷ [])
-  listed : (params joint all : List Kind) → IsBalanced params → IsJointOf joint → all ≡ kind.Mark mark.OPEN_PAREN ∷ (params ++ kind.Mark mark.CLOSE_PAREN ∷ joint) → IsHeadOf all
+  listed : (params joint all : List Kind) → IsBalanced params → IsJointOf joint
+      → all ≡ kind.Mark mark.OPEN_PAREN ∷ (params ++ kind.Mark mark.CLOSE_PAREN ∷ joint) → IsHeadOf all
 
 -- the first n kinds are those of a head
 pub record IsHeadLength (ks : List Kind) (n : ℕ) : Type 0 where

@@ -4,3 +4,4 @@ pub mod Words
 pub mod Shifted
 pub mod Holes
 pub mod Without
+pub mod Left

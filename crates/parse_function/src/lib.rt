@@ -30,13 +30,13 @@ ghost use Rattle.parse_function.specs.Words.{KnowsAccessors};
 mod holes;
 mod parsing;
 mod points;
+mod scanning;
 
 use parse_exprs::place::ParseFault;
 use parse_track::region::WellKnownAtoms;
 use parser_atoms::Atoms;
 use script_grammar::token::FuncForm;
 use script_grammar::tree::Func;
-use script_scanner::scan;
 use std::alloc::{AllocError, Global};
 use stencil_data::{Extent, Text};
 
@@ -60,8 +60,10 @@ pub fn read_function(
     requires function { IsFunctionExtent file.now extent form inside.now }
     requires words { KnowsAccessors atoms known }
     requires room { extent.end - extent.start + length atoms < 2 ^ 32 - 1 }
-    ensures tree { IfOk result (λ read. (items : Stmts) (inner : Inner) → IsExtentOf file.now extent form items inner → func_of (under read.1.items (own_statements items)) read.0 ≡ nameless inner.func) }
-    ensures body { IfOk result (λ read. (bodies : ℕ → Stmts) → HasBody (under read.1.items bodies) read.0 (body_in (func_of (under read.1.items bodies) read.0))) }
+    ensures tree { IfOk result (λ read. (items : Stmts) (inner : Inner) → IsExtentOf file.now extent form items inner
+        → func_of (under read.1.items (own_statements items)) read.0 ≡ nameless inner.func) }
+    ensures body { IfOk result (λ read. (bodies : ℕ → Stmts)
+        → HasBody (under read.1.items bodies) read.0 (body_in (func_of (under read.1.items bodies) read.0))) }
     ensures start { IfOk result (λ read. (out-Func read.0).start ≡ extent.start) }
     ensures end { IfOk result (λ read. (out-Func read.0).end ≡ extent.end) }
     ensures gains { IfOk result (λ read. GainsOnly atoms read.1.items (tokens (points file.now) extent.start extent.end)) }
@@ -70,8 +72,7 @@ pub fn read_function(
     ensures few { IfOk result (λ read. length read.1.items < 2 ^ 32) }
 {
     let holes = holes::holes_in(alloc, file, extent, inside)?;
-    let points = points::without(alloc, file, extent, &holes)?;
-    let tokens = scan(alloc, &points, extent.start, extent.end, &mut atoms)?;
+    let tokens = scanning::tokens_without(alloc, file, extent, &holes, &mut atoms)?;
     let texts = atoms.into_texts();
     match parsing::function_of(alloc, &tokens, form, known) {
         Ok(func) => Ok((func, texts)),

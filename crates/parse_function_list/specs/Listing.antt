@@ -58,13 +58,15 @@ body_late false items = strict_errors items
 -- Functions that stand directly in one were listed after those of the extents `before`: they and all functions in them are
 -- placed, the bodies `taken` were taken, and the others are left; and of the bodies that were taken the first error of
 -- rule 14 was met.
-pub record Places (i : Interpretation) (old new : Listing) (before after : List Extent) (fs : List Inner) (around : ℕ) (taken others : List Stmts) (late : List Early) : Type 0 where
+pub record Places (i : Interpretation) (old new : Listing) (before after : List Extent) (fs : List Inner) (around : ℕ) (taken others : List Stmts)
+    (late : List Early) : Type 0 where
   pub all : List Placed
   pub placed : AllPlaced around (length before) (suc (length old.functions.items)) fs all
   pub listed : map (placed_of i) new.functions.items ≡ map (placed_of i) old.functions.items ++ all
   pub extents : after ≡ before ++ extents_of fs
   pub left : AtHand i new.bodies.items others
-  pub meets : StrictAtHand old.bodies.items taken → StrictAtHand new.bodies.items others × (error_of 14 new.strict ≡ sooner (error_of 14 old.strict) (first_note late))
+  pub meets : StrictAtHand old.bodies.items taken
+      → StrictAtHand new.bodies.items others × (error_of 14 new.strict ≡ sooner (error_of 14 old.strict) (first_note late))
 
 -- What was found is listed, where the bodies at hand are those of these functions and then others.
 pub record Lists (old new : Listing) (before after : List Extent) (found : List FoundFunction) (around : ℕ) : Type 0 where
@@ -74,12 +76,14 @@ pub record Lists (old new : Listing) (before after : List Extent) (found : List 
 -- So is one function.
 pub record ListsOne (old new : Listing) (before after : List Extent) (found : FoundFunction) (around : ℕ) : Type 0 where
   pub places : (i : Interpretation) (f : Inner) (others : List Stmts) → Mirrors (founds_before i (found ∷ []) no_inner) (f ∷ [])
-      → AtHand i old.bodies.items (bodies_before (f ∷ []) others) → Places i old new before after (f ∷ []) around (bodies_before (f ∷ []) others) others (late_function f.func)
+      → AtHand i old.bodies.items (bodies_before (f ∷ []) others)
+      → Places i old new before after (f ∷ []) around (bodies_before (f ∷ []) others) others (late_function f.func)
 
 -- So is what is in one function.
 pub record ListsInside (old new : Listing) (before after : List Extent) (found : FoundFunction) (around : ℕ) : Type 0 where
   pub places : (i : Interpretation) (f : Inner) (others : List Stmts) → Mirrors (founds_before i (found ∷ []) no_inner) (f ∷ [])
-      → AtHand i old.bodies.items (bodies_before (f ∷ []) others) → Places i old new before after (directly_in f) around (bodies_before (f ∷ []) others) others (late_function f.func)
+      → AtHand i old.bodies.items (bodies_before (f ∷ []) others)
+      → Places i old new before after (directly_in f) around (bodies_before (f ∷ []) others) others (late_function f.func)
 
 -- So is what is in the next body.
 pub record ListsBody (old new : Listing) (before after : List Extent) (simple : Bool) (around : ℕ) : Type 0 where

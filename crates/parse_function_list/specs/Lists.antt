@@ -27,4 +27,5 @@ ListsFunctions top bodies functions =
 abbrev pub FindsLateError : SyntaxBody → List FoundBody → Option Early → Type 0
 FindsLateError top bodies late =
     (i : Interpretation) (items : Stmts) → ProperStmts whole false items → HoldsBody i top items
-    → ShowAll (λ b. HoldsBody i b.found) bodies (braced_all items) → ShowAll HasStrict bodies (braced_all items) → late ≡ first_note (late_stmts items)
+    → ShowAll (λ b. HoldsBody i b.found) bodies (braced_all items) → ShowAll HasStrict bodies (braced_all items)
+    → late ≡ first_note (late_stmts items)

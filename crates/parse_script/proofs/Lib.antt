@@ -1,3 +1,4 @@
+pub mod AsciiFiles
 pub mod FewTexts
 pub mod FileTexts
 pub mod ReadLemmas

@@ -21,7 +21,8 @@ under texts bodies = record { texts = texts; bodies = bodies }
 -- There is a node for the script that the tokens are, and one for each braced body of the functions in it, in the order of the
 -- source, those inside a body after it. In each of them the body of a function has the statements that the interpretation
 -- gives to it.
-pub record IsShown {B : Type 0} (shows : Interpretation → B → Stmts → Type 0) (i : Interpretation) (tokens : List Lexeme) (script : Script B) : Type 0 where
+pub record IsShown {B : Type 0} (shows : Interpretation → B → Stmts → Type 0) (i : Interpretation) (tokens : List Lexeme)
+    (script : Script B) : Type 0 where
   pub items : Stmts
   pub is : IsText tokens items
   pub top : shows i script.top (fill_stmts (body_at i) items)

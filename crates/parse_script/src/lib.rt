@@ -7,7 +7,7 @@
 //! The main contracts are two. [`tokens_of`] answers the tokens of the file's bytes (`lexemes` of script_scanner), or the length of
 //! their longest front that is UTF-8. [`read_script`] answers nodes for the one script that these tokens are and for the braced
 //! bodies of its functions, or the first fault of all tokens (`IsReadingBy`), also where brackets match only up to some
-//! token. Neither looks at how the bytes were scanned, and no clause names code points.
+//! token. Neither clause says how the bytes were scanned: those of ASCII alone are, as they lie there, and others as code points.
 #![tactic(auto)]
 
 mod file_tokens;

@@ -20,12 +20,16 @@ use Rattle.script_grammar.specs.declared.node.NodeClause.{NodeClause}
 use Rattle.script_grammar.specs.declared.token.Decl.{Decl}
 use Rattle.script_grammar.specs.declared.tree.Ident.{Ident}
 use Rattle.script_grammar.specs.Interpretation.{Interpretation, text_of, maybe_named}
+use Rattle.stencil_data.specs.declared.functions.Extent.{Extent}
+use Rattle.stencil_data.specs.declared.functions.FuncKind.{FuncKind}
 use Rattle.parse_track.specs.declared.region.Declare.{Declare}
 use Rattle.parse_track.specs.declared.region.Declare.TheVariants as how
 use Rattle.parse_track.specs.EarlyErrors.{sooner}
 use Rattle.parse_track.specs.Tells.{function_region, function_declares, declared_as}
 use Rattle.parse_track.specs.Told as told
 use Rattle.parse_handlers.specs.Inner.{Inner, no_inner, more_inner, kind_of, text_of_name}
+use Rattle.parse_handlers.specs.FoundOf.{FoundAs, founds_before}
+use Rattle.parse_handlers.specs.declared.found.FoundFunction.{FoundFunction}
 use Rattle.parse_early_handler.specs.Firsts.{are_more, const_first, is_some_or, many_args, many_params, strict_error, target_first}
 use Rattle.parse_track_handler.specs.Pieces.{Rest, piece_says, says_passed, says_read, says_region}
 use Rattle.parse_track_handler.specs.Parts.{declares_as}
@@ -37,7 +41,8 @@ use Rattle.parse_skim_handler.specs.declared.nodes.SkimStmt.{SkimStmt}
 use Rattle.parse_skim_handler.specs.declared.nodes.WholeExpr.{WholeExpr}
 use Rattle.parse_skim_handler.specs.declared.nodes.WholeProp.{WholeProp}
 use Rattle.parse_skim_handler.specs.declared.packed.Whole.{Whole}
-use Rattle.parse_skim_handler.specs.Meaning.{Meaning, nothing_meant, then_meant, all_meant, maybe_meant, error_meant, said_meant, name_meant, region_meant}
+use Rattle.parse_skim_handler.specs.Meaning.{Meaning, nothing_meant, then_meant, all_meant, maybe_meant}
+use Rattle.parse_skim_handler.specs.Meaning.{error_meant, said_meant, name_meant, region_meant}
 use Rattle.parse_skim_handler.specs.Packed.{expr_errors, whole_expr, whole_prop, whole_stmt}
 use Rattle.parse_skim_handler.specs.Telling.{told_says, told_puts}
 
@@ -142,7 +147,11 @@ handling_means i (Some name) block = region_meant told.Catch 0 (then_meant (name
 
 -- a body that was read where it stands
 abbrev pub read_means : Interpretation → (more : Bool) → SkimBody → Meaning
-read_means i more b = record { says = says_read (piece_says i b.told); puts = λ inner. inner; first = sooner (strict_error more b.errors.strict) b.errors.first }
+read_means i more b = record {
+  says = says_read (piece_says i b.told);
+  puts = λ inner. inner;
+  first = sooner (strict_error more b.errors.strict) b.errors.first;
+}
 
 -- the body of a function whose parameters start at an offset, and are more than names or are not
 abbrev pub body_means : Interpretation → (more : Bool) → (start : ℕ) → NodeFuncBody SkimExpr SkimBody → Meaning
@@ -168,14 +177,33 @@ has_braces (bodies.Passed) = true
 -- what stands in a function: its parameters and its body
 abbrev pub inside_means : Interpretation → (start : ℕ) → List (NodeParam SkimExpr) → NodeFuncBody SkimExpr SkimBody → Meaning
 inside_means i start params body =
-    then_meant (error_meant (many_params params)) (then_meant (all_meant (param_means i) params) (own_means i (have_initializer params) (are_more params) start body))
+    then_meant (error_meant (many_params params))
+    (then_meant (all_meant (param_means i) params) (own_means i (have_initializer params) (are_more params) start body))
+
+-- the function with what these nodes have, and these functions directly in it
+abbrev pub more_function : Interpretation → (declared : Bool) → NodeFunc SkimExpr SkimBody → (inside : Inner) → Inner → Inner
+more_function i declared n inside =
+    more_inner n.start n.end (kind_of declared n.form) (option_map text_of_name (maybe_named i n.name))
+    (has_braces n.body) (not (are_more n.params.items)) inside
 
 -- a function, and what stands in it
 abbrev pub function_around : Interpretation → (declared : Bool) → NodeFunc SkimExpr SkimBody → Meaning → Meaning
 function_around i declared n m = record {
   says = says_region (function_region n.form) n.start m.says;
-  puts = more_inner n.start n.end (kind_of declared n.form) (option_map text_of_name (maybe_named i n.name)) (has_braces n.body) (not (are_more n.params.items)) (m.puts no_inner);
+  puts = more_function i declared n (m.puts no_inner);
   first = m.first;
+}
+
+-- a function that was found, with these functions directly in it
+abbrev pub found_as : Interpretation → Extent → FuncKind → (name : Option ℕ) → (braced simple : Bool) → List FoundFunction → FoundAs
+found_as i extent kind name braced simple inner = record {
+  start = extent.start;
+  end = extent.end;
+  kind = kind;
+  name = option_map (text_of i) name;
+  braced = braced;
+  simple = simple;
+  inner = founds_before i inner no_inner;
 }
 
 abbrev pub function_means : Interpretation → (declared : Bool) → NodeFunc SkimExpr SkimBody → Meaning

@@ -64,4 +64,9 @@ abbrev pub stmt_owed : (top : Bool) → Stmt → Owed
 stmt_owed top s = record { tells = tell.tells_stmt top s; braced = braced.in_stmt true s; inner = inner.in_stmt s; errors = note.notes_stmt s }
 
 abbrev pub stmts_owed : (top : Bool) → Stmts → Owed
-stmts_owed top ss = record { tells = tell.tells_stmts top ss; braced = braced.in_stmts true ss; inner = inner.in_stmts ss; errors = note.notes_stmts ss }
+stmts_owed top ss = record {
+  tells = tell.tells_stmts top ss;
+  braced = braced.in_stmts true ss;
+  inner = inner.in_stmts ss;
+  errors = note.notes_stmts ss;
+}

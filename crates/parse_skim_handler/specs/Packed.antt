@@ -1,9 +1,12 @@
 -- What is packed, whole again.
-use Rattle.std.specs.Prelude.{false, None}
+use Rattle.std.specs.Prelude.{ℕ, Bool, false, Option, None}
+use Rattle.script_grammar.specs.declared.tree.Ident.{Ident}
 use Rattle.parse_early_handler.specs.declared.directive.Directive.TheVariants as kind
 use Rattle.parse_early_handler.specs.declared.nodes.ExprErrors.{ExprErrors}
 use Rattle.parse_early_handler.specs.declared.nodes.PropErrors.{PropErrors}
 use Rattle.parse_early_handler.specs.declared.nodes.StmtErrors.{StmtErrors}
+use Rattle.parse_early_handler.specs.declared.shape.Shape.{Shape}
+use Rattle.parse_skim_handler.specs.declared.kept.Kept.{Kept}
 use Rattle.parse_skim_handler.specs.declared.nodes.SkimExpr.{SkimExpr}
 use Rattle.parse_skim_handler.specs.declared.nodes.SkimProp.{SkimProp}
 use Rattle.parse_skim_handler.specs.declared.nodes.SkimStmt.{SkimStmt}
@@ -34,6 +37,23 @@ whole_prop n = record { told = (unpacked n.kept).told; errors = record { first =
 
 abbrev pub whole_stmt : SkimStmt → Whole
 whole_stmt n = unpacked n.kept
+
+-- an expression of this form, of which this is kept
+abbrev pub expr_of : Kept → (start : ℕ) → Shape → WholeExpr
+expr_of kept start shape = record { told = kept.told; errors = record { first = kept.first; start = start; shape = shape } }
+
+-- a property, of which this is kept
+abbrev pub prop_of : Kept → (proto : Option ℕ) → WholeProp
+prop_of kept proto = record { told = kept.told; errors = record { first = kept.first; proto = proto } }
+
+-- a statement that is no directive, of which this is kept
+abbrev pub stmt_of : Kept → (declares : Option Ident) → (labels_on : Bool) → Whole
+stmt_of kept declares labels_on = record {
+  declares = declares;
+  labels_on = labels_on;
+  told = kept.told;
+  errors = record { first = kept.first; directive = kind.No };
+}
 
 abbrev pub expr_errors : SkimExpr → ExprErrors
 expr_errors n = (whole_expr n).errors

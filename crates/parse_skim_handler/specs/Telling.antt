@@ -45,7 +45,11 @@ pub record UsesBefore (atom : ℕ) (others parts : Parts) : Type 0 where
   pub says : (i : Interpretation) (rest : Rest) → pieces_say i parts.pieces.items rest ≡ use_says i atom (pieces_say i others.pieces.items rest)
   pub found : parts.found.items ≡ others.found.items
 
+-- what some parts say and then what others say
+abbrev pub both_say : Interpretation → (some others : Parts) → Rest → Rest
+both_say i some others rest = pieces_say i some.pieces.items (pieces_say i others.pieces.items rest)
+
 -- These parts say what some say and then what others say, and have the functions of the first and then those of the others.
 pub record Joins (some others parts : Parts) : Type 0 where
-  pub says : (i : Interpretation) (rest : Rest) → pieces_say i parts.pieces.items rest ≡ pieces_say i some.pieces.items (pieces_say i others.pieces.items rest)
+  pub says : (i : Interpretation) (rest : Rest) → pieces_say i parts.pieces.items rest ≡ both_say i some others rest
   pub found : parts.found.items ≡ some.found.items ++ others.found.items

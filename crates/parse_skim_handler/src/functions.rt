@@ -5,10 +5,11 @@ ghost use Rattle.script_grammar.specs.Interpretation.{Interpretation, text_of, m
 ghost use Rattle.parse_track.specs.Log.{region_of};
 ghost use Rattle.parse_track.specs.Tells as tell;
 ghost use Rattle.track_log_laws.specs.Spelled.{region_text};
-ghost use Rattle.parse_handlers.specs.FoundOf.{found_of, founds_before};
-ghost use Rattle.parse_handlers.specs.Inner.{kind_of, no_inner};
+ghost use Rattle.parse_handlers.specs.FoundOf.{found_of};
+ghost use Rattle.parse_handlers.specs.Inner.{kind_of};
 ghost use Rattle.parse_early_handler.specs.Firsts.{strict_error};
-ghost use Rattle.parse_skim_handler.specs.Kept.{Adds, Means, body_means, function_means, has_braces, have_initializer, inside_means, named_means, own_means, param_means, read_means};
+ghost use Rattle.parse_skim_handler.specs.Kept.{Adds, Means, found_as, has_braces, have_initializer};
+ghost use Rattle.parse_skim_handler.specs.Kept.{body_means, function_means, inside_means, named_means, own_means, param_means, read_means};
 
 use crate::kept::{Kept, Skim, declared, nothing, of_error, region, with_error, with_said};
 use crate::nodes::{SkimBody, SkimExpr};
@@ -190,7 +191,7 @@ fn found(
     simple: bool,
     inner: Vec<FoundFunction>,
 ) -> FoundFunction
-    ensures { (i : Interpretation) → found_of i result ≡ record { start = extent.start; end = extent.end; kind = kind; name = option_map (text_of i) name; braced = braced; simple = simple; inner = founds_before i inner.items no_inner } }
+    ensures { (i : Interpretation) → found_of i result ≡ found_as i extent kind name braced simple inner.items }
 {
     FoundFunction {
         extent,

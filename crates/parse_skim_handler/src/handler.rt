@@ -2,14 +2,15 @@
 
 ghost use Rattle.std.specs.Prelude.{◌≡◌, List, Option, None, true, false, IfOk};
 ghost use Rattle.script_grammar.specs.Interpretation.{Interpretation, text_of, named, maybe_named};
-ghost use Rattle.script_grammar.specs.Shows.{ShowAll, ShowMaybe, ShowArgs, ShowOperand, ShowPart, ShowTail, ShowKey, ShowFunc, ShowBind, ShowInit, ShowEach, ShowClause};
+ghost use Rattle.script_grammar.specs.Shows.{ShowAll, ShowMaybe, ShowArgs, ShowOperand, ShowPart, ShowTail, ShowKey, ShowFunc};
+ghost use Rattle.script_grammar.specs.Shows.{ShowBind, ShowInit, ShowEach, ShowClause};
 ghost use Rattle.script_grammar.specs.Tree as model;
 ghost use Rattle.script_grammar.specs.TreeLists as part;
-ghost use Rattle.script_grammar.specs.TreeLists.{exprs_of, maybe_expr_of, items_of, maybe_args_of, operands_of, parts_of, tails_of, props_of, binds_of, clauses_of, stmts_of, maybe_stmt_of};
-ghost use Rattle.parse_early_handler.specs.declared.directive.Directive.TheVariants as kind;
+ghost use Rattle.script_grammar.specs.TreeLists.{exprs_of, maybe_expr_of, items_of, maybe_args_of, operands_of, parts_of, tails_of};
+ghost use Rattle.script_grammar.specs.TreeLists.{props_of, binds_of, clauses_of, stmts_of, maybe_stmt_of};
 ghost use Rattle.parse_early_handler.specs.declared.shape.Shape.TheVariants as form;
 ghost use Rattle.parse_skim_handler.specs.declared.told.Told.TheVariants as told;
-ghost use Rattle.parse_skim_handler.specs.Packed.{whole_expr, whole_prop, whole_stmt};
+ghost use Rattle.parse_skim_handler.specs.Packed.{expr_of, prop_of, stmt_of, whole_expr, whole_prop, whole_stmt};
 ghost use Rattle.parse_skim_handler.specs.Skims.{SkimsExpr, SkimsStmt, SkimsProp, SkimsBody};
 
 use crate::forms::{first_strict, later_protos, start_of_first};
@@ -61,7 +62,7 @@ fn quiet(alloc: Global, errors: ExprErrors) -> Result<SkimExpr, AllocError>
 
 /// An expression of this form, of which this is kept.
 fn expr(alloc: Global, kept: Kept, start: u32, shape: Shape) -> Result<SkimExpr, AllocError>
-    ensures { IfOk result (λ made. whole_expr made ≡ record { told = kept.told; errors = record { first = kept.first; start = start; shape = shape } }) }
+    ensures { IfOk result (λ made. whole_expr made ≡ expr_of kept start shape) }
 {
     let Kept { told, first } = kept;
     let errors = ExprErrors {
@@ -74,14 +75,14 @@ fn expr(alloc: Global, kept: Kept, start: u32, shape: Shape) -> Result<SkimExpr,
 
 /// An expression whose form no rule looks at.
 fn other(alloc: Global, kept: Kept, start: u32) -> Result<SkimExpr, AllocError>
-    ensures { IfOk result (λ made. whole_expr made ≡ record { told = kept.told; errors = record { first = kept.first; start = start; shape = form.Other } }) }
+    ensures { IfOk result (λ made. whole_expr made ≡ expr_of kept start form.Other) }
 {
     expr(alloc, kept, start, Shape::Other)
 }
 
 /// A property, of which this is kept.
 fn prop(alloc: Global, kept: Kept, proto: Option<u32>) -> Result<SkimProp, AllocError>
-    ensures { IfOk result (λ made. whole_prop made ≡ record { told = kept.told; errors = record { first = kept.first; proto = proto } }) }
+    ensures { IfOk result (λ made. whole_prop made ≡ prop_of kept proto) }
 {
     let Kept { told, first } = kept;
     let errors = PropErrors { first, proto };
@@ -95,7 +96,7 @@ fn stmt(
     declares: Option<Ident>,
     labels_on: bool,
 ) -> Result<SkimStmt, AllocError>
-    ensures { IfOk result (λ made. whole_stmt made ≡ record { declares = declares; labels_on = labels_on; told = kept.told; errors = record { first = kept.first; directive = kind.No } }) }
+    ensures { IfOk result (λ made. whole_stmt made ≡ stmt_of kept declares labels_on) }
 {
     let Kept { told, first } = kept;
     let errors = StmtErrors {
@@ -113,14 +114,14 @@ fn stmt(
 
 /// A statement that declares no function and is neither a loop nor a label.
 fn plain(alloc: Global, kept: Kept) -> Result<SkimStmt, AllocError>
-    ensures { IfOk result (λ made. whole_stmt made ≡ record { declares = None; labels_on = false; told = kept.told; errors = record { first = kept.first; directive = kind.No } }) }
+    ensures { IfOk result (λ made. whole_stmt made ≡ stmt_of kept None false) }
 {
     stmt(alloc, kept, None, false)
 }
 
 /// A loop, or a statement after a label.
 fn looping(alloc: Global, kept: Kept) -> Result<SkimStmt, AllocError>
-    ensures { IfOk result (λ made. whole_stmt made ≡ record { declares = None; labels_on = true; told = kept.told; errors = record { first = kept.first; directive = kind.No } }) }
+    ensures { IfOk result (λ made. whole_stmt made ≡ stmt_of kept None true) }
 {
     stmt(alloc, kept, None, true)
 }
@@ -272,7 +273,8 @@ impl Handler for Skimming {
         head: SkimExpr,
         tails: Vec<NodeTail<SkimExpr>>,
     ) -> Result<SkimExpr, AllocError>
-        ensures { (i : Interpretation) (t : model.Expr) (ts : List model.Tail) → SkimsExpr i head t → ShowAll (ShowTail i (SkimsExpr i)) tails.items ts
+        ensures { (i : Interpretation) (t : model.Expr) (ts : List model.Tail) → SkimsExpr i head t
+            → ShowAll (ShowTail i (SkimsExpr i)) tails.items ts
             → IfOk result (λ e. SkimsExpr i e (model.Chain t (tails_of ts))) }
     {
         let start = head.start;
@@ -334,7 +336,8 @@ impl Handler for Skimming {
         first: SkimExpr,
         rest: Vec<NodeOperand<SkimExpr>>,
     ) -> Result<SkimExpr, AllocError>
-        ensures { (i : Interpretation) (t : model.Expr) (os : List part.Operand) → SkimsExpr i first t → ShowAll (ShowOperand (SkimsExpr i)) rest.items os
+        ensures { (i : Interpretation) (t : model.Expr) (os : List part.Operand) → SkimsExpr i first t
+            → ShowAll (ShowOperand (SkimsExpr i)) rest.items os
             → IfOk result (λ e. SkimsExpr i e (model.Binary t (operands_of os))) }
     {
         let start = first.start;
@@ -409,7 +412,8 @@ impl Handler for Skimming {
         key: NodeKey<SkimExpr>,
         func: NodeFunc<SkimExpr, SkimBody>,
     ) -> Result<SkimProp, AllocError>
-        ensures { (i : Interpretation) (k : model.Key) (f : model.Function) → ShowKey i (SkimsExpr i) key k → ShowFunc i (SkimsExpr i) (SkimsBody i) func f
+        ensures { (i : Interpretation) (k : model.Key) (f : model.Function) → ShowKey i (SkimsExpr i) key k
+            → ShowFunc i (SkimsExpr i) (SkimsBody i) func f
             → IfOk result (λ p. SkimsProp i p (model.Method k f)) }
     {
         let named = key.skim(self.alloc, nothing())?;
@@ -423,7 +427,8 @@ impl Handler for Skimming {
         key: NodeKey<SkimExpr>,
         func: NodeFunc<SkimExpr, SkimBody>,
     ) -> Result<SkimProp, AllocError>
-        ensures { (i : Interpretation) (k : model.Key) (f : model.Function) → ShowKey i (SkimsExpr i) key k → ShowFunc i (SkimsExpr i) (SkimsBody i) func f
+        ensures { (i : Interpretation) (k : model.Key) (f : model.Function) → ShowKey i (SkimsExpr i) key k
+            → ShowFunc i (SkimsExpr i) (SkimsBody i) func f
             → IfOk result (λ p. SkimsProp i p (model.Get k f)) }
     {
         let named = key.skim(self.alloc, nothing())?;
@@ -437,7 +442,8 @@ impl Handler for Skimming {
         key: NodeKey<SkimExpr>,
         func: NodeFunc<SkimExpr, SkimBody>,
     ) -> Result<SkimProp, AllocError>
-        ensures { (i : Interpretation) (k : model.Key) (f : model.Function) → ShowKey i (SkimsExpr i) key k → ShowFunc i (SkimsExpr i) (SkimsBody i) func f
+        ensures { (i : Interpretation) (k : model.Key) (f : model.Function) → ShowKey i (SkimsExpr i) key k
+            → ShowFunc i (SkimsExpr i) (SkimsBody i) func f
             → IfOk result (λ p. SkimsProp i p (model.Set k f)) }
     {
         let named = key.skim(self.alloc, nothing())?;
@@ -505,7 +511,8 @@ impl Handler for Skimming {
         yes: SkimStmt,
         no: Option<SkimStmt>,
     ) -> Result<SkimStmt, AllocError>
-        ensures { (i : Interpretation) (t : model.Expr) (u : model.Stmt) (v : Option model.Stmt) → SkimsExpr i test t → SkimsStmt i yes u → ShowMaybe (SkimsStmt i) no v
+        ensures { (i : Interpretation) (t : model.Expr) (u : model.Stmt) (v : Option model.Stmt) → SkimsExpr i test t → SkimsStmt i yes u
+            → ShowMaybe (SkimsStmt i) no v
             → IfOk result (λ s. SkimsStmt i s (model.If t u (maybe_stmt_of v))) }
     {
         let chosen = yes.skim(self.alloc, of_expr(test))?;
@@ -567,7 +574,8 @@ impl Handler for Skimming {
         over: SkimExpr,
         body: SkimStmt,
     ) -> Result<SkimStmt, AllocError>
-        ensures { (i : Interpretation) (n : model.Each) (t : model.Expr) (b : model.Stmt) → ShowEach i (SkimsExpr i) each n → SkimsExpr i over t → SkimsStmt i body b
+        ensures { (i : Interpretation) (n : model.Each) (t : model.Expr) (b : model.Stmt) → ShowEach i (SkimsExpr i) each n → SkimsExpr i over t
+            → SkimsStmt i body b
             → IfOk result (λ s. SkimsStmt i s (model.ForIn n t b)) }
     {
         let begun = each.skim(self.alloc, nothing())?;
@@ -629,7 +637,8 @@ impl Handler for Skimming {
         of: SkimExpr,
         clauses: Vec<NodeClause<SkimExpr, SkimStmt>>,
     ) -> Result<SkimStmt, AllocError>
-        ensures { (i : Interpretation) (t : model.Expr) (cs : List part.Clause) → SkimsExpr i of t → ShowAll (ShowClause (SkimsExpr i) (SkimsStmt i)) clauses.items cs
+        ensures { (i : Interpretation) (t : model.Expr) (cs : List part.Clause) → SkimsExpr i of t
+            → ShowAll (ShowClause (SkimsExpr i) (SkimsStmt i)) clauses.items cs
             → IfOk result (λ s. SkimsStmt i s (model.Switch t (clauses_of cs))) }
     {
         let inside = clauses.skim(self.alloc, nothing())?;

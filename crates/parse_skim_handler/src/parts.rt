@@ -5,7 +5,8 @@ ghost use Rattle.script_grammar.specs.Interpretation.{Interpretation};
 ghost use Rattle.parse_track.specs.Tells as tell;
 ghost use Rattle.parse_skim_handler.specs.Meaning.{all_meant};
 ghost use Rattle.parse_skim_handler.specs.Packed.{whole_stmt};
-ghost use Rattle.parse_skim_handler.specs.Kept.{Adds, Means, args_mean, bind_means, binds_mean, block_means, clause_means, each_means, handling_means, init_means, key_means, labelled_as, operand_means, part_means, tail_means};
+ghost use Rattle.parse_skim_handler.specs.Kept.{Adds, Means, args_mean, bind_means, binds_mean, block_means, clause_means, each_means};
+ghost use Rattle.parse_skim_handler.specs.Kept.{handling_means, init_means, key_means, labelled_as, operand_means, part_means, tail_means};
 
 use crate::forms::many_args;
 use crate::kept::{Kept, Skim, declared, nothing, of_target, region, then_kept, with_error};

@@ -42,8 +42,12 @@ opens heads k = counts heads (is_head k)
 abbrev pub base : Region ℕ → Firsts → Firsts
 base k firsts = cond (stops_vars k) no_firsts firsts
 
+-- with the lexical names of a region, where those of its kind count
+abbrev pub opened_in : Bool → Region ℕ → Told ℕ → Firsts → Firsts
+opened_in heads k i firsts = cond (opens heads k) (open_all (directly is_lexical i) firsts) firsts
+
 abbrev pub opened : Bool → Region ℕ → Told ℕ → Firsts → Firsts
-opened heads k i firsts = cond (opens heads k) (open_all (directly is_lexical i) (base k firsts)) (base k firsts)
+opened heads k i firsts = opened_in heads k i (base k firsts)
 
 abbrev pub clashes : Bool → Firsts → Told ℕ → Option ℕ
 clashes heads firsts nothing = None

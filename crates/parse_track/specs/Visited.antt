@@ -1,9 +1,12 @@
 -- What a visit of the code leaves after, in the words of the walk.
-use Rattle.std.specs.Prelude.{ℕ, ◌≡◌, ◌+◌, ◌++◌, Bool, Option, List, length, nat_eq}
+use Rattle.std.specs.Prelude.{ℕ, ◌≡◌, ◌+◌, ◌++◌, Bool, false, Option, None, List, length, map, slice_get, nat_eq}
 use Rattle.parse_track.specs.declared.closed.RegionContext.{RegionContext}
 use Rattle.parse_track.specs.declared.closed.FoundClosed.{FoundClosed}
-use Rattle.parse_track.specs.Told.{Told, KnownNames}
-use Rattle.parse_track.specs.ClosedNames.{Bound, bindings, scope_count}
+use Rattle.parse_track.specs.declared.track.RegionRow.{RegionRow}
+use Rattle.parse_track.specs.Told.{Region, Told, KnownNames}
+use Rattle.parse_track.specs.Log as log
+use Rattle.parse_track.specs.Rows.{row_of, told_at}
+use Rattle.parse_track.specs.ClosedNames.{Bound, at_of, bindings, scope_count}
 use Rattle.parse_track.specs.Scopes.{bounds_of}
 use Rattle.parse_track.specs.AtomTables.{entry}
 use Rattle.parse_track.specs.Walk.{Tops, walk}
@@ -26,3 +29,11 @@ stand_of found scope = record { bound = bounds_of found.bound.items; hits = foun
 
 abbrev pub IsVisited : KnownNames ℕ → RegionContext → ℕ → FoundClosed → FoundClosed → ℕ → Told ℕ → Type 0
 IsVisited known around scope before now next t = Visits known around.named around.func around.depth (stand_of before scope) (stand_of now next) t
+
+-- the same where no function is around
+abbrev pub IsVisitedOutside : KnownNames ℕ → ℕ → FoundClosed → FoundClosed → ℕ → Told ℕ → Type 0
+IsVisitedOutside known scope before now next t = Visits known false None 0 (stand_of before scope) (stand_of now next) t
+
+-- where the function begins that begins at a region of this kind
+abbrev pub begun_at : ℕ → List RegionRow → Region ℕ → ℕ → ℕ
+begun_at room rows k region = at_of k (log.at_of (slice_get (map row_of rows) region)) (told_at room rows region)

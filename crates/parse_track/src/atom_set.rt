@@ -1,7 +1,7 @@
 //! A set of atoms that is used again and again.
 
-ghost use Rattle.std.specs.Prelude.{◌≡◌, ◌<◌, ◌≤◌, ℕ, cond, true, false, not, length, slice_index, IfOk, OnOk, nat_eq};
-ghost use Rattle.parse_track.specs.AtomSets.{has_atom};
+ghost use Rattle.std.specs.Prelude.{◌≡◌, ◌<◌, ◌≤◌, ℕ, false, not, length, slice_index, IfOk, OnOk};
+ghost use Rattle.parse_track.specs.AtomSets.{has_atom, Gains};
 
 use std::alloc::{AllocError, Global};
 
@@ -53,7 +53,7 @@ impl AtomSet {
     /// Adds an atom, and says whether it is new.
     pub fn insert(&mut self, atom: u32) -> Result<bool, AllocError>
         ensures added { IfOk result (λ is_new. is_new ≡ not (has_atom self.old.marks.items self.old.version atom)) }
-        ensures has { OnOk result ((y : ℕ) → has_atom self.new.marks.items self.new.version y ≡ cond (nat_eq atom y) true (has_atom self.old.marks.items self.old.version y)) }
+        ensures has { OnOk result (Gains atom (has_atom self.old.marks.items self.old.version) (has_atom self.new.marks.items self.new.version)) }
     {
         self.reach(atom)?;
         let place = atom as usize;

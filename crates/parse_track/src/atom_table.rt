@@ -1,8 +1,7 @@
 //! A table of what each atom is bound to.
 
-ghost use Rattle.std.specs.Prelude.{◌≡◌, [], ℕ, cond, length, map, IfOk, OnOk, false, nat_eq, Option};
-ghost use Rattle.parse_track.specs.EarlyErrors.{has};
-ghost use Rattle.parse_track.specs.AtomTables.{entry};
+ghost use Rattle.std.specs.Prelude.{◌≡◌, [], ℕ, cond, length, map, IfOk, OnOk, nat_eq, Option};
+ghost use Rattle.parse_track.specs.AtomTables.{entry, Says, SaysOutside};
 
 use std::alloc::{AllocError, Global};
 
@@ -66,7 +65,8 @@ pub fn put_back<V: Copy>(
     saved: &[Option<V>],
 ) -> Result<(), AllocError>
     requires { length atoms.now ≡ length saved.now }
-    ensures { (tops : ℕ → Option V) → saved.now ≡ map tops atoms.now → ((y : ℕ) → has nat_eq y atoms.now ≡ false → entry table.old.entries.items y ≡ tops y) → OnOk result ((y : ℕ) → entry table.new.entries.items y ≡ tops y) }
+    ensures { (tops : ℕ → Option V) → saved.now ≡ map tops atoms.now → SaysOutside table.old.entries.items atoms.now tops
+        → OnOk result (Says table.new.entries.items tops) }
 {
     for (atom, bound) in atoms.iter().zip(saved) {
         table.set(*atom, *bound)?;

@@ -1,15 +1,16 @@
 //! The first var name that clashes with a lexical name of a region around it, by one walk from the outside in.
 
-ghost use Rattle.std.specs.Prelude.{◌≡◌, ◌<◌, ◌≤◌, ◌+◌, ◌-◌, ◌^◌, ◌∷◌, [], ℕ, Bool, true, false, None, Some, length, slice_get, cond, IfOk, OnOk, map, nat_eq};
-ghost use Rattle.parse_track.specs.RegionNames.{is_head, is_lexical, is_var, stops_vars, declared_by, directly};
+ghost use Rattle.std.specs.Prelude.{◌≡◌, ◌<◌, ◌≤◌, ◌+◌, ◌-◌, ◌^◌, ◌∷◌, [], Bool, true, false, None, Some, length, slice_get, IfOk, OnOk, map, nat_eq};
+ghost use Rattle.parse_track.specs.RegionNames.{is_head, is_var, stops_vars, declared_by};
 ghost use Rattle.parse_track.specs.EarlyErrors.{smaller};
-ghost use Rattle.parse_track.specs.Log.{name_of, region_of, told_items, told_region, told_of, outermost_if};
-ghost use Rattle.parse_track.specs.Rows.{item_of, row_of};
+ghost use Rattle.parse_track.specs.Log.{name_of, region_of};
+ghost use Rattle.parse_track.specs.Rows.{told_at, told_by, told_outermost, told_of_rows};
 ghost use Rattle.parse_track.specs.Told.{Declared};
-ghost use Rattle.parse_track.specs.AtomTables.{entry};
+ghost use Rattle.parse_track.specs.AtomTables.{entry, Says};
 ghost use Rattle.parse_track.specs.Walk.{deeper};
-ghost use Rattle.parse_track.specs.Clashes.{no_firsts, open_all, clash_at, clash_all, opens, clashes};
-ghost use Rattle.parse_track.specs.LexicalNames.{offset_for, no_offsets, lessened, first_in, firsts_of, keep, keep_all, AreKeptTo, AreClashes};
+ghost use Rattle.parse_track.specs.Clashes.{no_firsts, clash_at, clashes};
+ghost use Rattle.parse_track.specs.LexicalNames.{offset_for, no_offsets, lessened, first_in, keep, keep_all};
+ghost use Rattle.parse_track.specs.LexicalNames.{AreClashesOf, AreOutermostClashes, TakesClashes, TakesInside};
 
 use crate::atom_table::{AtomTable, look_up, put_back};
 use crate::closed::kind_at;
@@ -141,7 +142,7 @@ fn open_name(
     is_head: bool,
     name: Ident,
 ) -> Result<(), AllocError>
-    ensures { OnOk result ((y : ℕ) → entry names.new.entries.items y ≡ keep depth is_head (entry names.old.entries.items) (name_of name) y) }
+    ensures { OnOk result (Says names.new.entries.items (keep depth is_head (entry names.old.entries.items) (name_of name))) }
 {
     let first = first_of(names, depth, name.atom).with(is_head, name.at);
     names.set(name.atom, Some(LexicalName { depth, first }))?;
@@ -155,7 +156,7 @@ fn open_names(
     is_head: bool,
     opened: &[Ident],
 ) -> Result<(), AllocError>
-    ensures { OnOk result ((y : ℕ) → entry names.new.entries.items y ≡ keep_all depth is_head (map name_of opened.now) (entry names.old.entries.items) y) }
+    ensures { OnOk result (Says names.new.entries.items (keep_all depth is_head (map name_of opened.now) (entry names.old.entries.items))) }
 {
     for name in opened {
         open_name(names, depth, is_head, *name)?;
@@ -171,7 +172,7 @@ fn clash_of_declared(
     name: Ident,
     found: &mut LexicalOffsets,
 )
-    ensures { (heads : Bool) → offset_for heads found.new ≡ smaller (offset_for heads found.old) (clash_all heads (firsts_of heads depth (entry names.now.entries.items)) (declared_by is_var (Declared how (name_of name)))) }
+    ensures { AreClashesOf depth (entry names.now.entries.items) found.old found.new (declared_by is_var (Declared how (name_of name))) }
 {
     match how {
         Declare::Var => found.lessen(first_of(names, depth, name.atom).clashes_at(name.at)),
@@ -193,8 +194,8 @@ fn clash_in_item(
     found: &mut LexicalOffsets,
 ) -> Result<(), AllocError>
     requires { depth + room + 1 < 2 ^ 32 }
-    ensures same { OnOk result ((y : ℕ) → entry names.new.entries.items y ≡ entry names.old.entries.items y) }
-    ensures found { OnOk result (AreKeptTo depth (entry names.old.entries.items) → AreClashes depth (entry names.old.entries.items) found.old found.new (told_items (map row_of rows.now) (told_region room (map row_of rows.now)) (item_of item ∷ []))) }
+    ensures same { OnOk result (Says names.new.entries.items (entry names.old.entries.items)) }
+    ensures found { OnOk result (TakesClashes depth names.old.entries.items found.old found.new (told_by room rows.now item)) }
 {
     match item {
         Item::Declared(how, name) => {
@@ -225,8 +226,8 @@ fn clash_inside(
     found: &mut LexicalOffsets,
 ) -> Result<(), AllocError>
     requires { depth + room < 2 ^ 32 }
-    ensures same { OnOk result ((y : ℕ) → entry names.new.entries.items y ≡ entry names.old.entries.items y) }
-    ensures found { OnOk result (AreKeptTo depth (entry names.old.entries.items) → (heads : Bool) → let told = told_region room (map row_of rows.now) region in let firsts = firsts_of heads depth (entry names.old.entries.items) in offset_for heads found.new ≡ smaller (offset_for heads found.old) (clashes heads (cond (opens heads (region_of kind)) (open_all (directly is_lexical told) firsts) firsts) told)) }
+    ensures same { OnOk result (Says names.new.entries.items (entry names.old.entries.items)) }
+    ensures found { OnOk result (TakesInside depth names.old.entries.items found.old found.new (region_of kind) (told_at room rows.now region)) }
 {
     let opened = names_in(alloc, rows, room, region, Asked::Lexical)?;
     let atoms = atoms_of(alloc, &opened)?;
@@ -249,8 +250,8 @@ fn clash_in(
     found: &mut LexicalOffsets,
 ) -> Result<(), AllocError>
     requires { depth + room < 2 ^ 32 }
-    ensures same { OnOk result ((y : ℕ) → entry names.new.entries.items y ≡ entry names.old.entries.items y) }
-    ensures found { OnOk result (AreKeptTo depth (entry names.old.entries.items) → AreClashes depth (entry names.old.entries.items) found.old found.new (told_region room (map row_of rows.now) region)) }
+    ensures same { OnOk result (Says names.new.entries.items (entry names.old.entries.items)) }
+    ensures found { OnOk result (TakesClashes depth names.old.entries.items found.old found.new (told_at room rows.now region)) }
 {
     let items = items_at(rows, room, region);
     for item in items {
@@ -268,7 +269,7 @@ fn clash_in_outermost(
     found: &mut LexicalOffsets,
 ) -> Result<(), AllocError>
     requires { length rows.now ≤ 2 ^ 32 - 2 }
-    ensures { OnOk result ((heads : Bool) → offset_for heads found.new ≡ smaller (offset_for heads found.old) (clashes heads no_firsts (told_items (map row_of rows.now) (told_region (length rows.now) (map row_of rows.now)) (outermost_if region around)))) }
+    ensures { OnOk result (AreOutermostClashes found.old found.new (told_outermost rows.now region around)) }
 {
     match around {
         Some(_) => Ok(()),
@@ -292,7 +293,7 @@ fn clash_in_outermost(
 /// name.
 pub fn first_clashes(alloc: Global, rows: &[RegionRow]) -> Result<LexicalOffsets, AllocError>
     requires { length rows.now ≤ 2 ^ 32 - 2 }
-    ensures { IfOk result (λ found. (heads : Bool) → offset_for heads found ≡ clashes heads no_firsts (told_of (map row_of rows.now))) }
+    ensures { IfOk result (λ found. (heads : Bool) → offset_for heads found ≡ clashes heads no_firsts (told_of_rows rows.now)) }
 {
     let mut found = LexicalOffsets::none();
     for (region, row) in rows.iter().enumerate() {

@@ -3,14 +3,14 @@
 ghost use Rattle.std.specs.Prelude.{◌≡◌, ◌<◌, ◌≤◌, ◌+◌, ◌^◌, ◌++◌, ◌∷◌, [], ℕ, Option, List, Bool, false, length, slice_get, cond, Some, None, IfOk, OnOk, map, nat_eq};
 ghost use Rattle.parse_track.specs.AtomTables.{entry};
 ghost use Rattle.parse_track.specs.RegionNames.{is_lambda};
-ghost use Rattle.parse_track.specs.ClosedNames.{begins, joined, bound_in, bound_by, first_at, at_of};
+ghost use Rattle.parse_track.specs.ClosedNames.{begins, joined, bound_in, bound_by, first_at};
 ghost use Rattle.parse_track.specs.Told.{Told};
-ghost use Rattle.parse_track.specs.Log.{Inner, region_of, kind_of, known_names, told_items, told_region};
+ghost use Rattle.parse_track.specs.Log.{region_of, kind_of, known_names, told_items};
 ghost use Rattle.parse_track.specs.Log.{at_of as offset_of};
-ghost use Rattle.parse_track.specs.Rows.{item_of, row_of};
+ghost use Rattle.parse_track.specs.Rows.{item_of, row_of, told_at, told_by, told_inner};
 ghost use Rattle.parse_track.specs.Scopes.{items_of_lists, bound_of, bounds_of};
 ghost use Rattle.parse_track.specs.Walk.{bind_all, hit, deeper};
-ghost use Rattle.parse_track.specs.Visited.{IsVisited};
+ghost use Rattle.parse_track.specs.Visited.{IsVisited, begun_at};
 
 use crate::atom_set::AtomSet;
 use crate::atom_table::{AtomTable, look_up, put_back};
@@ -241,7 +241,7 @@ fn first_at(rows: &[RegionRow], items: &[Item], at: u32) -> u32
 
 /// Where the function begins that begins at this region.
 fn function_at(rows: &[RegionRow], room: usize, kind: Region, region: u32) -> u32
-    ensures { result ≡ at_of (region_of kind) (offset_of (slice_get (map row_of rows.now) region)) (told_region room (map row_of rows.now) region) }
+    ensures { result ≡ begun_at room rows.now (region_of kind) region }
 {
     let at = offset_of(rows, region);
     if is_lambda(kind) {
@@ -261,7 +261,7 @@ fn around_inside(
 ) -> RegionContext
     requires { around.depth + room + 1 < 2 ^ 64 }
     ensures named { result.named ≡ is_lambda (region_of kind) }
-    ensures func { result.func ≡ cond (begins around.named (region_of kind)) (Some (at_of (region_of kind) (offset_of (slice_get (map row_of rows.now) region)) (told_region room (map row_of rows.now) region))) around.func }
+    ensures func { result.func ≡ cond (begins around.named (region_of kind)) (Some (begun_at room rows.now (region_of kind) region)) around.func }
     ensures depth { result.depth ≡ deeper (begins around.named (region_of kind)) around.depth }
 {
     let named = is_lambda(kind);
@@ -293,7 +293,7 @@ fn visit_item(
     found: &mut FoundClosed,
 ) -> Result<u32, AllocError>
     requires { around.depth + room + 1 < 2 ^ 64 }
-    ensures { IfOk result (λ next. IsVisited (known_names known.now) around scope found.old found.new next (told_items (map row_of rows.now) (told_region room (map row_of rows.now)) (item_of item ∷ []))) }
+    ensures { IfOk result (λ next. IsVisited (known_names known.now) around scope found.old found.new next (told_by room rows.now item)) }
 {
     match item {
         Item::Declared(_, _) => Ok(scope),
@@ -319,7 +319,7 @@ pub fn visit_inner(
     found: &mut FoundClosed,
 ) -> Result<u32, AllocError>
     requires { around.depth + room + 1 < 2 ^ 64 }
-    ensures { IfOk result (λ next. IsVisited (known_names known.now) around scope found.old found.new next (told_items (map row_of rows.now) (told_region room (map row_of rows.now)) (Inner region ∷ []))) }
+    ensures { IfOk result (λ next. IsVisited (known_names known.now) around scope found.old found.new next (told_inner room rows.now region)) }
 {
     let kind = kind_at(rows, region);
     let scopes = scopes_of(alloc, &mut found.seen, known, rows, room, kind, region)?;
@@ -351,7 +351,7 @@ fn visit(
     found: &mut FoundClosed,
 ) -> Result<u32, AllocError>
     requires { around.depth + room < 2 ^ 64 }
-    ensures { IfOk result (λ next. IsVisited (known_names known.now) around scope found.old found.new next (told_region room (map row_of rows.now) region)) }
+    ensures { IfOk result (λ next. IsVisited (known_names known.now) around scope found.old found.new next (told_at room rows.now region)) }
 {
     let mut next = scope;
     for item in items_at(rows, room, region) {

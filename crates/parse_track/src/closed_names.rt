@@ -1,12 +1,12 @@
 //! The names of a script that inner functions close over, from the walk over its regions.
 
-ghost use Rattle.std.specs.Prelude.{◌≡◌, ◌<◌, ◌≤◌, ◌-◌, ◌^◌, ◌++◌, ◌∷◌, [], ℕ, cond, None, false, true, length, replicate, slice_set, IfOk, OnOk, map, nat_eq};
+ghost use Rattle.std.specs.Prelude.{◌≡◌, ◌<◌, ◌≤◌, ◌-◌, ◌^◌, ◌++◌, ◌∷◌, [], ℕ, cond, false, true, length, replicate, slice_set, IfOk, OnOk, nat_eq};
 ghost use Rattle.parse_track.specs.ClosedNames.{closed, kept};
-ghost use Rattle.parse_track.specs.Log.{known_names, told_items, told_region, outermost_if, told_of};
-ghost use Rattle.parse_track.specs.Rows.{row_of};
+ghost use Rattle.parse_track.specs.Log.{known_names};
+ghost use Rattle.parse_track.specs.Rows.{told_outermost, told_of_rows};
 ghost use Rattle.parse_track.specs.Scopes.{bound_of, bounds_of};
 ghost use Rattle.parse_track.specs.Walk.{marks};
-ghost use Rattle.parse_track.specs.Visited.{Visits, stand_of};
+ghost use Rattle.parse_track.specs.Visited.{IsVisitedOutside};
 
 use crate::closed::{FoundClosed, RegionContext, count, visit_inner};
 use crate::region::{ClosedAt, WellKnownAtoms};
@@ -74,7 +74,7 @@ fn visit_outermost(
     found: &mut FoundClosed,
 ) -> Result<u32, AllocError>
     requires { length rows.now ≤ 2 ^ 32 - 2 }
-    ensures { IfOk result (λ next. Visits (known_names known.now) false None 0 (stand_of found.old scope) (stand_of found.new next) (told_items (map row_of rows.now) (told_region (length rows.now) (map row_of rows.now)) (outermost_if region around))) }
+    ensures { IfOk result (λ next. IsVisitedOutside (known_names known.now) scope found.old found.new next (told_outermost rows.now region around)) }
 {
     match around {
         Some(_) => Ok(scope),
@@ -99,7 +99,7 @@ fn visit_script(
     found: &mut FoundClosed,
 ) -> Result<u32, AllocError>
     requires { length rows.now ≤ 2 ^ 32 - 2 }
-    ensures { IfOk result (λ next. Visits (known_names known.now) false None 0 (stand_of found.old 0) (stand_of found.new next) (told_of (map row_of rows.now))) }
+    ensures { IfOk result (λ next. IsVisitedOutside (known_names known.now) 0 found.old found.new next (told_of_rows rows.now)) }
 {
     let mut scope = 0;
     for (region, row) in rows.iter().enumerate() {
@@ -115,7 +115,7 @@ pub fn closed_names(
     rows: &[RegionRow],
 ) -> Result<Vec<ClosedAt>, AllocError>
     requires { length rows.now ≤ 2 ^ 32 - 2 }
-    ensures { IfOk result (λ some. bounds_of some.items ≡ closed nat_eq (known_names known.now) (told_of (map row_of rows.now))) }
+    ensures { IfOk result (λ some. bounds_of some.items ≡ closed nat_eq (known_names known.now) (told_of_rows rows.now)) }
 {
     let mut found = FoundClosed::new(alloc);
     let _scopes = visit_script(alloc, known, rows, &mut found)?;

@@ -1,9 +1,9 @@
 //! The first early error of all rules.
 
-ghost use Rattle.std.specs.Prelude.{◌≡◌, ◌≤◌, ◌-◌, ◌^◌, ◌<◌, false, true, length, IfOk, map, nat_eq};
+ghost use Rattle.std.specs.Prelude.{◌≡◌, ◌≤◌, ◌-◌, ◌^◌, ◌<◌, false, true, length, IfOk, nat_eq};
 ghost use Rattle.parse_track.specs.EarlyErrors.{sooner, error_of, first_error};
-ghost use Rattle.parse_track.specs.Log.{known_names, told_of};
-ghost use Rattle.parse_track.specs.Rows.{row_of};
+ghost use Rattle.parse_track.specs.Log.{known_names};
+ghost use Rattle.parse_track.specs.Rows.{told_of_rows};
 
 use crate::clashing::first_clashes;
 use crate::jumps::first_wrong_jump;
@@ -47,7 +47,7 @@ pub fn first_error(
     noted: Option<Early>,
 ) -> Result<Option<Early>, AllocError>
     requires { length rows.now ≤ 2 ^ 32 - 2 }
-    ensures { IfOk result (λ error. error ≡ first_error nat_eq (known_names known.now) noted (told_of (map row_of rows.now))) }
+    ensures { IfOk result (λ error. error ≡ first_error nat_eq (known_names known.now) noted (told_of_rows rows.now)) }
 {
     let offsets = rule_offsets(alloc, known, rows)?;
     let lexical = error_of(1, offsets.twice_lexical);

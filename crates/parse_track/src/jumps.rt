@@ -1,12 +1,12 @@
 //! The first jump without its target, and the first label inside the same label.
 
-ghost use Rattle.std.specs.Prelude.{◌≡◌, ◌<◌, ◌≤◌, ◌-◌, ◌^◌, ◌∷◌, [], ℕ, Bool, Option, None, Some, true, false, cond, length, slice_get, IfOk, OnOk, IsSome, ◌++◌, map, nat_eq};
+ghost use Rattle.std.specs.Prelude.{◌≡◌, ◌<◌, ◌≤◌, ◌-◌, ◌^◌, ◌∷◌, [], ℕ, Bool, Option, None, Some, false, cond, length, slice_get, IfOk, OnOk, IsSome, ◌++◌, map, nat_eq};
 ghost use Rattle.std.specs.List.{list_any};
-ghost use Rattle.parse_track.specs.Told.{Jumped, Label as LabelRegion};
-ghost use Rattle.parse_track.specs.EarlyErrors.{smaller, smallest, nothing_around, within, is_loop, wrong_jump, wrong_label, wrong_jumps};
-ghost use Rattle.parse_track.specs.Log.{name_of, label_of, region_of, kind_of, told_items, told_region, told_of, outermost_if};
-ghost use Rattle.parse_track.specs.Rows.{item_of, row_of};
-ghost use Rattle.parse_track.specs.Targets.{around_of, AreWrongJumps, first_inner, loop_kind};
+ghost use Rattle.parse_track.specs.Told.{Jumped, Loop as LoopRegion, Switch as SwitchRegion, Label as LabelRegion};
+ghost use Rattle.parse_track.specs.EarlyErrors.{smaller, smallest, nothing_around, is_loop, wrong_jump, wrong_label, wrong_jumps};
+ghost use Rattle.parse_track.specs.Log.{name_of, label_of, region_of, kind_of};
+ghost use Rattle.parse_track.specs.Rows.{item_of, row_of, told_at, told_by, told_outermost, told_of_rows};
+ghost use Rattle.parse_track.specs.Targets.{around_of, AreWrongJumps, AreWrongIn, labelled, first_inner, loop_kind};
 
 use crate::closed::kind_at;
 use crate::names::items_at;
@@ -97,7 +97,7 @@ fn wrong_label(targets: &Targets, kind: Region) -> Option<u32>
 
 /// A label is around, of a loop or of another statement.
 fn add_label(targets: &mut Targets, name: u32, of_loop: bool) -> Result<(), AllocError>
-    ensures { OnOk result (around_of targets.new ≡ record (around_of targets.old) { labels = targets.old.labels.items ++ name ∷ []; loops = targets.old.loops.items ++ cond of_loop (name ∷ []) [] }) }
+    ensures { OnOk result (around_of targets.new ≡ labelled (around_of targets.old) name of_loop) }
 {
     targets.labels.push(name)?;
     if of_loop {
@@ -123,7 +123,7 @@ fn first_inner(items: &[Item]) -> Option<u32>
 /// Whether a region is a loop, also after labels.
 #[cycle(loops)]
 fn is_loop_at(rows: &[RegionRow], room: usize, region: u32) -> bool
-    ensures { result ≡ loop_kind (kind_of (slice_get (map row_of rows.now) region)) (told_region room (map row_of rows.now) region) }
+    ensures { result ≡ loop_kind (kind_of (slice_get (map row_of rows.now) region)) (told_at room rows.now region) }
 {
     match kind_at(rows, region) {
         Region::Loop => true,
@@ -143,7 +143,7 @@ fn is_loop_at(rows: &[RegionRow], room: usize, region: u32) -> bool
 /// Whether what stands in a region is a loop, also after labels.
 #[cycle(loops)]
 fn is_loop(rows: &[RegionRow], room: usize, region: u32) -> bool
-    ensures { result ≡ is_loop (told_region room (map row_of rows.now) region) }
+    ensures { result ≡ is_loop (told_at room rows.now region) }
 {
     match first_inner(items_at(rows, room, region)) {
         Some(inner) => is_loop_at(rows, room - 1, inner),
@@ -160,7 +160,7 @@ fn jumps_in_item(
     item: Item,
     targets: &mut Targets,
 ) -> Result<Option<u32>, AllocError>
-    ensures { IfOk result (AreWrongJumps (around_of targets.old) (around_of targets.old) (around_of targets.new) (told_items (map row_of rows.now) (told_region room (map row_of rows.now)) (item_of item ∷ []))) }
+    ensures { IfOk result (AreWrongJumps (around_of targets.old) (around_of targets.old) (around_of targets.new) (told_by room rows.now item)) }
 {
     match item {
         Item::Declared(_, _) => Ok(None),
@@ -186,7 +186,7 @@ fn jumps_inside(
     region: u32,
     targets: &mut Targets,
 ) -> Result<Option<u32>, AllocError>
-    ensures { IfOk result (AreWrongJumps (within (region_of kind) (told_region room (map row_of rows.now) region) (around_of targets.old)) (around_of targets.old) (around_of targets.new) (told_region room (map row_of rows.now) region)) }
+    ensures { IfOk result (AreWrongIn (region_of kind) (around_of targets.old) (around_of targets.new) (told_at room rows.now region)) }
 {
     match kind {
         Region::Script => jumps_in_function(alloc, rows, room, region),
@@ -211,7 +211,7 @@ fn jumps_in_function(
     room: usize,
     region: u32,
 ) -> Result<Option<u32>, AllocError>
-    ensures { IfOk result (λ first. first ≡ smallest (wrong_jumps nat_eq nothing_around (told_region room (map row_of rows.now) region))) }
+    ensures { IfOk result (λ first. first ≡ smallest (wrong_jumps nat_eq nothing_around (told_at room rows.now region))) }
 {
     let mut targets = Targets::new(alloc);
     let first = jumps_in(alloc, rows, room, region, &mut targets)?;
@@ -227,7 +227,7 @@ fn jumps_in_loop(
     region: u32,
     targets: &mut Targets,
 ) -> Result<Option<u32>, AllocError>
-    ensures { IfOk result (AreWrongJumps (record (around_of targets.old) { loop = true; leaves = true }) (around_of targets.old) (around_of targets.new) (told_region room (map row_of rows.now) region)) }
+    ensures { IfOk result (AreWrongIn LoopRegion (around_of targets.old) (around_of targets.new) (told_at room rows.now region)) }
 {
     let in_loop = targets.in_loop;
     let leaves = targets.leaves;
@@ -248,7 +248,7 @@ fn jumps_in_switch(
     region: u32,
     targets: &mut Targets,
 ) -> Result<Option<u32>, AllocError>
-    ensures { IfOk result (AreWrongJumps (record (around_of targets.old) { leaves = true }) (around_of targets.old) (around_of targets.new) (told_region room (map row_of rows.now) region)) }
+    ensures { IfOk result (AreWrongIn SwitchRegion (around_of targets.old) (around_of targets.new) (told_at room rows.now region)) }
 {
     let leaves = targets.leaves;
     targets.leaves = true;
@@ -267,7 +267,7 @@ fn jumps_in_label(
     region: u32,
     targets: &mut Targets,
 ) -> Result<Option<u32>, AllocError>
-    ensures { IfOk result (AreWrongJumps (within (LabelRegion (name_of name)) (told_region room (map row_of rows.now) region) (around_of targets.old)) (around_of targets.old) (around_of targets.new) (told_region room (map row_of rows.now) region)) }
+    ensures { IfOk result (AreWrongIn (LabelRegion (name_of name)) (around_of targets.old) (around_of targets.new) (told_at room rows.now region)) }
 {
     let labels = targets.labels.len();
     let loops = targets.loops.len();
@@ -287,7 +287,7 @@ fn jumps_in(
     region: u32,
     targets: &mut Targets,
 ) -> Result<Option<u32>, AllocError>
-    ensures { IfOk result (AreWrongJumps (around_of targets.old) (around_of targets.old) (around_of targets.new) (told_region room (map row_of rows.now) region)) }
+    ensures { IfOk result (AreWrongJumps (around_of targets.old) (around_of targets.old) (around_of targets.new) (told_at room rows.now region)) }
 {
     let mut first = None;
     let items = items_at(rows, room, region);
@@ -305,7 +305,7 @@ fn jumps_in_outermost(
     region: u32,
     around: Option<u32>,
 ) -> Result<Option<u32>, AllocError>
-    ensures { IfOk result (λ first. first ≡ smallest (wrong_jumps nat_eq nothing_around (told_items (map row_of rows.now) (told_region (length rows.now) (map row_of rows.now)) (outermost_if region around)))) }
+    ensures { IfOk result (λ first. first ≡ smallest (wrong_jumps nat_eq nothing_around (told_outermost rows.now region around))) }
 {
     match around {
         Some(_) => Ok(None),
@@ -320,7 +320,7 @@ fn jumps_in_outermost(
 /// The first jump without its target, or label inside the same label, in a script.
 pub fn first_wrong_jump(alloc: Global, rows: &[RegionRow]) -> Result<Option<u32>, AllocError>
     requires { length rows.now ≤ 2 ^ 32 - 2 }
-    ensures { IfOk result (λ first. first ≡ smallest (wrong_jumps nat_eq nothing_around (told_of (map row_of rows.now)))) }
+    ensures { IfOk result (λ first. first ≡ smallest (wrong_jumps nat_eq nothing_around (told_of_rows rows.now))) }
 {
     let mut first = None;
     for (region, row) in rows.iter().enumerate() {

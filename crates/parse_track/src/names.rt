@@ -1,9 +1,9 @@
 //! The names that a region declares.
 
-ghost use Rattle.std.specs.Prelude.{◌≡◌, ◌<◌, ◌++◌, ◌∷◌, [], true, false, length, slice_get, IfOk, OnOk, MatchOption, map, filter_map};
+ghost use Rattle.std.specs.Prelude.{◌≡◌, ◌<◌, ◌++◌, ◌∷◌, [], true, false, length, IfOk, OnOk, MatchOption, map, filter_map};
 ghost use Rattle.parse_track.specs.RegionNames.{stops_vars, vars};
-ghost use Rattle.parse_track.specs.Log.{name_of, region_of, kind_of, told_items, told_region};
-ghost use Rattle.parse_track.specs.Rows.{item_of, row_of, items_at};
+ghost use Rattle.parse_track.specs.Log.{region_of};
+ghost use Rattle.parse_track.specs.Rows.{item_of, row_of, items_at, kind_in, told_at, told_by, GainsNames};
 ghost use Rattle.std.specs.List.{list_any};
 ghost use Rattle.parse_track.specs.Asked.{asks, asked_in, is_declared};
 
@@ -106,7 +106,7 @@ pub fn stops_vars(region: Region) -> bool
 
 /// The region inside, where var names hoist out of it.
 fn open_region(rows: &[RegionRow], region: u32) -> Option<u32>
-    ensures { MatchOption result (stops_vars (kind_of (slice_get (map row_of rows.now) region)) ≡ true) (λ n. (n ≡ region) × (stops_vars (kind_of (slice_get (map row_of rows.now) region)) ≡ false)) }
+    ensures { MatchOption result (stops_vars (kind_in rows.now region) ≡ true) (λ n. (n ≡ region) × (stops_vars (kind_in rows.now region) ≡ false)) }
 {
     match rows.get(region as usize) {
         Some(row) => {
@@ -128,7 +128,7 @@ fn add_item_vars(
     item: Item,
     names: &mut Vec<Ident>,
 ) -> Result<(), AllocError>
-    ensures { OnOk result (map name_of names.new.items ≡ map name_of names.old.items ++ vars (told_items (map row_of rows.now) (told_region room (map row_of rows.now)) (item_of item ∷ []))) }
+    ensures { OnOk result (GainsNames names.old.items names.new.items (vars (told_by room rows.now item))) }
 {
     match item {
         Item::Declared(Declare::Var, name) => {
@@ -155,7 +155,7 @@ pub fn add_vars(
     region: u32,
     names: &mut Vec<Ident>,
 ) -> Result<(), AllocError>
-    ensures { OnOk result (map name_of names.new.items ≡ map name_of names.old.items ++ vars (told_region room (map row_of rows.now) region)) }
+    ensures { OnOk result (GainsNames names.old.items names.new.items (vars (told_at room rows.now region))) }
 {
     let items = items_at(rows, room, region);
     for item in items {

@@ -3,12 +3,13 @@
 ghost use Rattle.std.specs.Prelude.{◌≡◌, ◌<◌, ◌≤◌, ◌-◌, ◌^◌, ◌++◌, ◌∷◌, [], ℕ, Bool, true, None, length, slice_get, IfOk, OnOk, map, nat_eq, filter_map};
 ghost use Rattle.std.specs.List.{list_any};
 ghost use Rattle.parse_track.specs.Told.{Told};
-ghost use Rattle.parse_track.specs.RegionNames.{is_lexical, is_param, is_catch_param, is_block, is_body, directly, lexical_below};
-ghost use Rattle.parse_track.specs.EarlyErrors.{smaller, smallest, repeated, also_in, lambda_name, reserved, binds_reserved, at_regions};
-ghost use Rattle.parse_track.specs.Log.{name_of, region_of, kind_of, known_names, told_items, told_region, told_of, outermost_if, Inner};
-ghost use Rattle.parse_track.specs.Rows.{item_of, row_of, items_at};
+ghost use Rattle.parse_track.specs.RegionNames.{is_lexical, is_param, directly, lexical_below};
+ghost use Rattle.parse_track.specs.EarlyErrors.{smaller, smallest, repeated, lambda_name, reserved};
+ghost use Rattle.parse_track.specs.Log.{name_of, region_of, kind_of, known_names, Inner};
+ghost use Rattle.parse_track.specs.Rows.{items_at, told_at, told_by, told_outermost, told_of_rows, GainsNames};
 ghost use Rattle.parse_track.specs.Asked.{asks, asked_in, is_declared};
-ghost use Rattle.parse_track.specs.Rules.{RegionRule, rule_of, offset_of, AreLessened, is_inner};
+ghost use Rattle.parse_track.specs.Rules.{RegionRule, BindsReserved, offset_of, is_inner, first_at, equal_catch_param, equal_param};
+ghost use Rattle.parse_track.specs.Rules.{AreLessened, AreFirstAt, AreFirstOf, DeclaresNothing};
 
 use crate::atom_set::AtomSet;
 use crate::closed::kind_at;
@@ -80,7 +81,7 @@ pub fn names_in(
     region: u32,
     asked: Asked,
 ) -> Result<Vec<Ident>, AllocError>
-    ensures { IfOk result (λ names. map name_of names.items ≡ directly (asks asked) (told_region room (map row_of rows.now) region)) }
+    ensures { IfOk result (λ names. map name_of names.items ≡ directly (asks asked) (told_at room rows.now region)) }
 {
     direct_names(alloc, asked, items_at(rows, room, region))
 }
@@ -94,7 +95,7 @@ fn add_inner(
     item: Item,
     names: &mut Vec<Ident>,
 ) -> Result<(), AllocError>
-    ensures { OnOk result (map name_of names.new.items ≡ map name_of names.old.items ++ lexical_below (is_inner inner) (told_items (map row_of rows.now) (told_region room (map row_of rows.now)) (item_of item ∷ []))) }
+    ensures { OnOk result (GainsNames names.old.items names.new.items (lexical_below (is_inner inner) (told_by room rows.now item))) }
 {
     match item {
         Item::Inner(region) => {
@@ -119,7 +120,7 @@ fn add_inners(
     region: u32,
     names: &mut Vec<Ident>,
 ) -> Result<(), AllocError>
-    ensures { OnOk result (map name_of names.new.items ≡ map name_of names.old.items ++ lexical_below (is_inner inner) (told_region room (map row_of rows.now) region)) }
+    ensures { OnOk result (GainsNames names.old.items names.new.items (lexical_below (is_inner inner) (told_at room rows.now region))) }
 {
     let items = items_at(rows, room, region);
     for item in items {
@@ -158,7 +159,7 @@ fn first_catch(
     region: u32,
     atoms: &mut AtomSet,
 ) -> Result<Option<u32>, AllocError>
-    ensures { IfOk result (λ first. let told = told_region room (map row_of rows.now) region in first ≡ smallest (also_in nat_eq (directly is_catch_param told) (lexical_below is_block told))) }
+    ensures { IfOk result (λ first. first ≡ smallest (equal_catch_param (told_at room rows.now region))) }
 {
     let params = names_in(alloc, rows, room, region, Asked::Catch)?;
     if params.is_empty() {
@@ -180,9 +181,9 @@ fn first_param(
     lexical: Vec<Ident>,
     atoms: &mut AtomSet,
 ) -> Result<Option<u32>, AllocError>
-    requires params { map name_of params.now ≡ directly is_param (told_region room (map row_of rows.now) region) }
-    requires lexical { map name_of lexical.items ≡ directly is_lexical (told_region room (map row_of rows.now) region) }
-    ensures { IfOk result (λ first. let told = told_region room (map row_of rows.now) region in first ≡ smallest (also_in nat_eq (directly is_param told) (directly is_lexical told ++ lexical_below is_body told))) }
+    requires params { map name_of params.now ≡ directly is_param (told_at room rows.now region) }
+    requires lexical { map name_of lexical.items ≡ directly is_lexical (told_at room rows.now region) }
+    ensures { IfOk result (λ first. first ≡ smallest (equal_param (told_at room rows.now region))) }
 {
     if params.is_empty() {
         return Ok(None);
@@ -201,7 +202,7 @@ fn first_bound_reserved(
     kind: Region,
     region: u32,
 ) -> Result<Option<u32>, AllocError>
-    ensures { IfOk result (λ first. first ≡ smallest (binds_reserved nat_eq (known_names known.now) (region_of kind) (told_region room (map row_of rows.now) region))) }
+    ensures { IfOk result (λ first. first ≡ first_at BindsReserved (known_names known.now) (region_of kind) (told_at room rows.now region)) }
 {
     let own = names_in(alloc, rows, room, region, Asked::All)?;
     let first = lesser(
@@ -213,7 +214,7 @@ fn first_bound_reserved(
 
 /// The smallest offsets at a region itself that declares no name.
 fn offsets_without_names(known: &WellKnownAtoms, kind: Region) -> RuleOffsets
-    ensures { (rule : RegionRule) (told : Told ℕ) → ((asked : Asked) → directly (asks asked) told ≡ []) → offset_of result rule ≡ smallest (rule_of rule (known_names known.now) (region_of kind) told) }
+    ensures { (told : Told ℕ) → DeclaresNothing told → AreFirstAt (known_names known.now) result (region_of kind) told }
 {
     let mut offsets = RuleOffsets::none();
     offsets.binds_reserved = first_reserved_lambda(known, kind);
@@ -230,7 +231,7 @@ fn offsets_at(
     region: u32,
     atoms: &mut AtomSet,
 ) -> Result<RuleOffsets, AllocError>
-    ensures { IfOk result (λ offsets. (rule : RegionRule) → offset_of offsets rule ≡ smallest (rule_of rule (known_names known.now) (region_of kind) (told_region room (map row_of rows.now) region))) }
+    ensures { IfOk result (λ offsets. AreFirstAt (known_names known.now) offsets (region_of kind) (told_at room rows.now region)) }
 {
     if !declares_any(items_at(rows, room, region)) {
         return Ok(offsets_without_names(known, kind));
@@ -262,7 +263,7 @@ fn seek_in_item(
     atoms: &mut AtomSet,
     offsets: &mut RuleOffsets,
 ) -> Result<(), AllocError>
-    ensures { OnOk result (AreLessened (known_names known.now) offsets.old offsets.new (told_items (map row_of rows.now) (told_region room (map row_of rows.now)) (item_of item ∷ []))) }
+    ensures { OnOk result (AreLessened (known_names known.now) offsets.old offsets.new (told_by room rows.now item)) }
 {
     match item {
         Item::Inner(region) => {
@@ -289,7 +290,7 @@ fn seek_in(
     atoms: &mut AtomSet,
     offsets: &mut RuleOffsets,
 ) -> Result<(), AllocError>
-    ensures { OnOk result (AreLessened (known_names known.now) offsets.old offsets.new (told_region room (map row_of rows.now) region)) }
+    ensures { OnOk result (AreLessened (known_names known.now) offsets.old offsets.new (told_at room rows.now region)) }
 {
     let items = items_at(rows, room, region);
     for item in items {
@@ -308,7 +309,7 @@ fn seek_in_outermost(
     atoms: &mut AtomSet,
     offsets: &mut RuleOffsets,
 ) -> Result<(), AllocError>
-    ensures { OnOk result (AreLessened (known_names known.now) offsets.old offsets.new (told_items (map row_of rows.now) (told_region (length rows.now) (map row_of rows.now)) (outermost_if region around))) }
+    ensures { OnOk result (AreLessened (known_names known.now) offsets.old offsets.new (told_outermost rows.now region around)) }
 {
     match around {
         Some(_) => Ok(()),
@@ -331,7 +332,7 @@ pub fn rule_offsets(
     rows: &[RegionRow],
 ) -> Result<RuleOffsets, AllocError>
     requires { length rows.now ≤ 2 ^ 32 - 2 }
-    ensures { IfOk result (λ offsets. (rule : RegionRule) → offset_of offsets rule ≡ smallest (at_regions (rule_of rule (known_names known.now)) (told_of (map row_of rows.now)))) }
+    ensures { IfOk result (λ offsets. AreFirstOf (known_names known.now) offsets (told_of_rows rows.now)) }
 {
     let mut atoms = AtomSet::new(alloc);
     let mut offsets = RuleOffsets::none();

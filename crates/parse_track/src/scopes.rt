@@ -4,11 +4,11 @@ ghost use Rattle.std.specs.Prelude.{◌≡◌, ◌++◌, ◌∷◌, [], IfOk, On
 ghost use Rattle.std.specs.List.{list_any};
 ghost use Rattle.parse_track.specs.Told.{nothing};
 ghost use Rattle.parse_track.specs.RegionNames.{vars, directly};
-ghost use Rattle.parse_track.specs.ClosedNames.{distinct, names_of, scopes, function_scopes, scope_if_any, has_body};
-ghost use Rattle.parse_track.specs.Log.{name_of, region_of, kind_of, known_names, told_items, told_region};
-ghost use Rattle.parse_track.specs.Rows.{item_of, row_of, items_at};
+ghost use Rattle.parse_track.specs.ClosedNames.{distinct, names_of, scopes, scope_if_any, has_body};
+ghost use Rattle.parse_track.specs.Log.{name_of, region_of, kind_of, known_names, told_items};
+ghost use Rattle.parse_track.specs.Rows.{item_of, row_of, items_at, told_at};
 ghost use Rattle.parse_track.specs.Asked.{asks, asked_in};
-ghost use Rattle.parse_track.specs.Scopes.{items_of_lists};
+ghost use Rattle.parse_track.specs.Scopes.{items_of_lists, AreScopes, scope_of, function_scopes_of, script_scopes_of, body_scopes_of};
 
 use crate::atom_set::AtomSet;
 use crate::names::{Asked, add_vars, direct_names, items_at};
@@ -46,7 +46,7 @@ fn direct_atoms(
     region: u32,
     asked: Asked,
 ) -> Result<Vec<u32>, AllocError>
-    ensures { IfOk result (λ atoms. atoms.items ≡ names_of (directly (asks asked) (told_region room (map row_of rows.now) region))) }
+    ensures { IfOk result (λ atoms. atoms.items ≡ names_of (directly (asks asked) (told_at room rows.now region))) }
 {
     let names = direct_names(alloc, asked, items_at(rows, room, region))?;
     atoms_of(alloc, &names)
@@ -59,7 +59,7 @@ fn var_atoms(
     room: usize,
     region: u32,
 ) -> Result<Vec<u32>, AllocError>
-    ensures { IfOk result (λ atoms. atoms.items ≡ names_of (vars (told_region room (map row_of rows.now) region))) }
+    ensures { IfOk result (λ atoms. atoms.items ≡ names_of (vars (told_at room rows.now region))) }
 {
     let mut names = Vec::new(alloc);
     add_vars(rows, room, region, &mut names)?;
@@ -120,7 +120,7 @@ fn any_body(rows: &[RegionRow], items: &[Item]) -> bool
 
 /// Whether a body of its own is directly inside a region.
 fn has_body(rows: &[RegionRow], room: usize, region: u32) -> bool
-    ensures { result ≡ has_body (told_region room (map row_of rows.now) region) }
+    ensures { result ≡ has_body (told_at room rows.now region) }
 {
     any_body(rows, items_at(rows, room, region))
 }
@@ -135,7 +135,7 @@ fn function_scopes(
     room: usize,
     region: u32,
 ) -> Result<Vec<Vec<u32>>, AllocError>
-    ensures { IfOk result (λ scopes. let told = told_region room (map row_of rows.now) region in items_of_lists scopes.items ≡ function_scopes nat_eq implicit.now (has_body told) told) }
+    ensures { IfOk result (λ scopes. items_of_lists scopes.items ≡ function_scopes_of implicit.now (told_at room rows.now region)) }
 {
     let mut scopes = Vec::new(alloc);
     let mut atoms = direct_atoms(alloc, rows, room, region, Asked::Param)?;
@@ -162,7 +162,7 @@ fn one_scope(
     region: u32,
     asked: Asked,
 ) -> Result<Vec<Vec<u32>>, AllocError>
-    ensures { IfOk result (λ scopes. items_of_lists scopes.items ≡ scope_if_any (distinct nat_eq (names_of (directly (asks asked) (told_region room (map row_of rows.now) region))))) }
+    ensures { IfOk result (λ scopes. items_of_lists scopes.items ≡ scope_of (directly (asks asked) (told_at room rows.now region))) }
 {
     let mut scopes = Vec::new(alloc);
     let atoms = direct_atoms(alloc, rows, room, region, asked)?;
@@ -178,7 +178,7 @@ fn script_scopes(
     room: usize,
     region: u32,
 ) -> Result<Vec<Vec<u32>>, AllocError>
-    ensures { IfOk result (λ scopes. let told = told_region room (map row_of rows.now) region in items_of_lists scopes.items ≡ distinct nat_eq (names_of (vars told) ++ names_of (directly (asks Asked.Lexical) told)) ∷ []) }
+    ensures { IfOk result (λ scopes. items_of_lists scopes.items ≡ script_scopes_of (told_at room rows.now region)) }
 {
     let mut scopes = Vec::new(alloc);
     let mut atoms = var_atoms(alloc, rows, room, region)?;
@@ -196,7 +196,7 @@ fn body_scopes(
     room: usize,
     region: u32,
 ) -> Result<Vec<Vec<u32>>, AllocError>
-    ensures { IfOk result (λ scopes. let told = told_region room (map row_of rows.now) region in items_of_lists scopes.items ≡ scope_if_any (distinct nat_eq (names_of (vars told))) ++ scope_if_any (distinct nat_eq (names_of (directly (asks Asked.Lexical) told)))) }
+    ensures { IfOk result (λ scopes. items_of_lists scopes.items ≡ body_scopes_of (told_at room rows.now region)) }
 {
     let mut scopes = Vec::new(alloc);
     let atoms = var_atoms(alloc, rows, room, region)?;
@@ -228,7 +228,7 @@ pub fn scopes_of(
     kind: Region,
     region: u32,
 ) -> Result<Vec<Vec<u32>>, AllocError>
-    ensures { IfOk result (λ some. items_of_lists some.items ≡ scopes nat_eq (known_names known.now) (region_of kind) (told_region room (map row_of rows.now) region)) }
+    ensures { IfOk result (λ some. AreScopes (known_names known.now) (region_of kind) (told_at room rows.now region) some.items) }
 {
     match kind {
         Region::Script => script_scopes(alloc, seen, rows, room, region),

@@ -2,13 +2,13 @@
 
 ghost use Rattle.std.specs.Prelude.{◌≡◌, ◌<◌, ◌≤◌, ◌+◌, ◌^◌, ◌-◌, ◌⊎◌, length, map, IsSome, IfSome, IfOk, OnOk, OnErr, Some, None, [], nat_eq};
 ghost use Rattle.parse_track.specs.Told.{Declared, Used, Jumped};
-ghost use Rattle.parse_track.specs.Log.{name_of, label_of, region_of, with_leaf, entered, left, noting, tell, around_at, known_names, told_of};
+ghost use Rattle.parse_track.specs.Log.{name_of, label_of, region_of, with_leaf, entered, left, noting, around_at, known_names, told_of};
 ghost use Rattle.parse_track.specs.EarlyErrors.{first_error};
 ghost use Rattle.parse_track.specs.ClosedNames.{closed};
 ghost use Rattle.parse_track.specs.RegionNames.{is_function};
 ghost use Rattle.parse_track.specs.Counted.{counted};
 ghost use Rattle.parse_track.specs.Scopes.{bounds_of};
-ghost use Rattle.parse_track.specs.Rows.{item_of, row_of};
+ghost use Rattle.parse_track.specs.Rows.{row_of, IsTold, MayBeTold};
 
 use crate::closed_names::closed_names;
 use crate::errors::{first_error, sooner_early};
@@ -63,8 +63,8 @@ impl Model for Track {
 /// The item joins what stands in the present region.
 fn add_item(rows: &mut Vec<RegionRow>, present: Option<u32>, item: Item) -> Result<(), AllocError>
     requires { IfSome present (λ n. n < length rows.old.items) }
-    ensures told { OnOk result (map row_of rows.new.items ≡ tell present (item_of item) (map row_of rows.old.items)) }
-    ensures either { (map row_of rows.new.items ≡ tell present (item_of item) (map row_of rows.old.items)) ⊎ (map row_of rows.new.items ≡ map row_of rows.old.items) }
+    ensures told { OnOk result (IsTold present item rows.old.items rows.new.items) }
+    ensures either { MayBeTold present item rows.old.items rows.new.items }
 {
     if let Some(n) = present {
         let row = &mut rows[n as usize];

@@ -30,4 +30,5 @@ AtHand i bodies all = ShowAll (SaysBody i) (reverse bodies) all
 -- what the part says was told.
 pub record Walks (i : Interpretation) (old new : Log) (before after : List Piece) (says : Rest → Rest) : Type 0 where
   pub told : KnowsThis i old → (rest : Rest) (all : List Stmts) → AreWanted (says rest).bodies all → AtHand i before all
-      → (others : List Stmts) × AreWanted rest.bodies others × AtHand i after others × (logged (says rest).told (log_text i old) ≡ logged rest.told (log_text i new))
+      → (others : List Stmts) × AreWanted rest.bodies others × AtHand i after others
+      × (logged (says rest).told (log_text i old) ≡ logged rest.told (log_text i new))

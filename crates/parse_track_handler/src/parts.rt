@@ -6,7 +6,9 @@ ghost use Rattle.parse_track.specs.Log.{region_of};
 ghost use Rattle.parse_track.specs.Tells as tell;
 ghost use Rattle.track_log_laws.specs.Spelled.{region_text};
 ghost use Rattle.parse_track_handler.specs.Pieces.{Rest, in_turn, piece_says};
-ghost use Rattle.parse_track_handler.specs.Parts.{Appends, args_say, operand_says, part_says, tail_says, key_says, param_says, body_says, own_says, function_says, named_says, handling_says, have_initializer, bind_says, init_says, each_says, clause_says, labelled_says};
+ghost use Rattle.parse_track_handler.specs.Parts.{Appends, args_say, operand_says, part_says, tail_says, key_says, param_says, body_says, own_says};
+ghost use Rattle.parse_track_handler.specs.Parts.{function_says, named_says, handling_says, have_initializer, bind_says, init_says, each_says};
+ghost use Rattle.parse_track_handler.specs.Parts.{clause_says, labelled_says};
 
 use crate::piece::{Piece, ToldStmt};
 use crate::tells::{Inside, Tells, Then, together};
@@ -300,7 +302,8 @@ impl Tells for Labelled {
 
 /// What a function expression tells, in the region of its name where it has one.
 pub fn named_function(alloc: Global, func: NodeFunc<Piece, Piece>) -> Result<Piece, AllocError>
-    ensures { IfOk result (λ piece. (i : Interpretation) (rest : Rest) → piece_says i piece rest ≡ named_says i func.name (function_says i func) rest) }
+    ensures { IfOk result (λ piece. (i : Interpretation) (rest : Rest)
+        → piece_says i piece rest ≡ named_says i func.name (function_says i func) rest) }
 {
     match func.name {
         None => together(alloc, func),

@@ -2,10 +2,12 @@
 
 ghost use Rattle.std.specs.Prelude.{◌≡◌, List, Option, None, true, false, IfOk};
 ghost use Rattle.script_grammar.specs.Interpretation.{Interpretation, text_of, named, maybe_named};
-ghost use Rattle.script_grammar.specs.Shows.{ShowAll, ShowMaybe, ShowArgs, ShowOperand, ShowPart, ShowTail, ShowKey, ShowFunc, ShowBind, ShowInit, ShowEach, ShowClause};
+ghost use Rattle.script_grammar.specs.Shows.{ShowAll, ShowMaybe, ShowArgs, ShowOperand, ShowPart, ShowTail, ShowKey, ShowFunc, ShowBind, ShowInit};
+ghost use Rattle.script_grammar.specs.Shows.{ShowEach, ShowClause};
 ghost use Rattle.script_grammar.specs.Tree as model;
 ghost use Rattle.script_grammar.specs.TreeLists as part;
-ghost use Rattle.script_grammar.specs.TreeLists.{exprs_of, maybe_expr_of, items_of, maybe_args_of, operands_of, parts_of, tails_of, props_of, binds_of, clauses_of, stmts_of, maybe_stmt_of};
+ghost use Rattle.script_grammar.specs.TreeLists.{exprs_of, maybe_expr_of, items_of, maybe_args_of, operands_of, parts_of, tails_of, props_of};
+ghost use Rattle.script_grammar.specs.TreeLists.{binds_of, clauses_of, stmts_of, maybe_stmt_of};
 ghost use Rattle.parse_track_handler.specs.Pieces.{Rest, piece_says};
 ghost use Rattle.parse_track_handler.specs.Parts.{named_says};
 ghost use Rattle.parse_track_handler.specs.Says.{SaysExpr, SaysStmt, SaysProp, SaysBody};
@@ -238,7 +240,8 @@ impl Handler for Telling {
         first: Piece,
         rest: Vec<NodeOperand<Piece>>,
     ) -> Result<Piece, AllocError>
-        ensures { (i : Interpretation) (t : model.Expr) (os : List part.Operand) → SaysExpr i first t → ShowAll (ShowOperand (SaysExpr i)) rest.items os
+        ensures { (i : Interpretation) (t : model.Expr) (os : List part.Operand) → SaysExpr i first t
+            → ShowAll (ShowOperand (SaysExpr i)) rest.items os
             → IfOk result (λ e. SaysExpr i e (model.Binary t (operands_of os))) }
     {
         let parts = Then { first, then: rest };
@@ -295,7 +298,8 @@ impl Handler for Telling {
         key: NodeKey<Piece>,
         func: NodeFunc<Piece, Piece>,
     ) -> Result<Piece, AllocError>
-        ensures { (i : Interpretation) (k : model.Key) (f : model.Function) → ShowKey i (SaysExpr i) key k → ShowFunc i (SaysExpr i) (SaysBody i) func f
+        ensures { (i : Interpretation) (k : model.Key) (f : model.Function) → ShowKey i (SaysExpr i) key k
+            → ShowFunc i (SaysExpr i) (SaysBody i) func f
             → IfOk result (λ p. SaysProp i p (model.Method k f)) }
     {
         let parts = Then {
@@ -310,7 +314,8 @@ impl Handler for Telling {
         key: NodeKey<Piece>,
         func: NodeFunc<Piece, Piece>,
     ) -> Result<Piece, AllocError>
-        ensures { (i : Interpretation) (k : model.Key) (f : model.Function) → ShowKey i (SaysExpr i) key k → ShowFunc i (SaysExpr i) (SaysBody i) func f
+        ensures { (i : Interpretation) (k : model.Key) (f : model.Function) → ShowKey i (SaysExpr i) key k
+            → ShowFunc i (SaysExpr i) (SaysBody i) func f
             → IfOk result (λ p. SaysProp i p (model.Get k f)) }
     {
         let parts = Then {
@@ -325,7 +330,8 @@ impl Handler for Telling {
         key: NodeKey<Piece>,
         func: NodeFunc<Piece, Piece>,
     ) -> Result<Piece, AllocError>
-        ensures { (i : Interpretation) (k : model.Key) (f : model.Function) → ShowKey i (SaysExpr i) key k → ShowFunc i (SaysExpr i) (SaysBody i) func f
+        ensures { (i : Interpretation) (k : model.Key) (f : model.Function) → ShowKey i (SaysExpr i) key k
+            → ShowFunc i (SaysExpr i) (SaysBody i) func f
             → IfOk result (λ p. SaysProp i p (model.Set k f)) }
     {
         let parts = Then {
@@ -386,7 +392,8 @@ impl Handler for Telling {
         yes: ToldStmt,
         no: Option<ToldStmt>,
     ) -> Result<ToldStmt, AllocError>
-        ensures { (i : Interpretation) (t : model.Expr) (u : model.Stmt) (v : Option model.Stmt) → SaysExpr i test t → SaysStmt i yes u → ShowMaybe (SaysStmt i) no v
+        ensures { (i : Interpretation) (t : model.Expr) (u : model.Stmt) (v : Option model.Stmt) → SaysExpr i test t → SaysStmt i yes u
+            → ShowMaybe (SaysStmt i) no v
             → IfOk result (λ s. SaysStmt i s (model.If t u (maybe_stmt_of v))) }
     {
         let parts = Then {
@@ -439,7 +446,8 @@ impl Handler for Telling {
         update: Option<Piece>,
         body: ToldStmt,
     ) -> Result<ToldStmt, AllocError>
-        ensures { (i : Interpretation) (n : model.Init) (t u : Option model.Expr) (b : model.Stmt) → ShowInit i (SaysExpr i) init n → ShowMaybe (SaysExpr i) test t → ShowMaybe (SaysExpr i) update u → SaysStmt i body b
+        ensures { (i : Interpretation) (n : model.Init) (t u : Option model.Expr) (b : model.Stmt) → ShowInit i (SaysExpr i) init n
+            → ShowMaybe (SaysExpr i) test t → ShowMaybe (SaysExpr i) update u → SaysStmt i body b
             → IfOk result (λ s. SaysStmt i s (model.For n (maybe_expr_of t) (maybe_expr_of u) b)) }
     {
         let parts = Then {
@@ -474,7 +482,8 @@ impl Handler for Telling {
         over: Piece,
         body: ToldStmt,
     ) -> Result<ToldStmt, AllocError>
-        ensures { (i : Interpretation) (n : model.Each) (t : model.Expr) (b : model.Stmt) → ShowEach i (SaysExpr i) each n → SaysExpr i over t → SaysStmt i body b
+        ensures { (i : Interpretation) (n : model.Each) (t : model.Expr) (b : model.Stmt) → ShowEach i (SaysExpr i) each n → SaysExpr i over t
+            → SaysStmt i body b
             → IfOk result (λ s. SaysStmt i s (model.ForIn n t b)) }
     {
         let parts = Then {
@@ -545,7 +554,8 @@ impl Handler for Telling {
         of: Piece,
         clauses: Vec<NodeClause<Piece, ToldStmt>>,
     ) -> Result<ToldStmt, AllocError>
-        ensures { (i : Interpretation) (t : model.Expr) (cs : List part.Clause) → SaysExpr i of t → ShowAll (ShowClause (SaysExpr i) (SaysStmt i)) clauses.items cs
+        ensures { (i : Interpretation) (t : model.Expr) (cs : List part.Clause) → SaysExpr i of t
+            → ShowAll (ShowClause (SaysExpr i) (SaysStmt i)) clauses.items cs
             → IfOk result (λ s. SaysStmt i s (model.Switch t (clauses_of cs))) }
     {
         let parts = Inside {

@@ -68,7 +68,8 @@ fn tell_next(track: &mut Track, bodies: &mut Vec<Piece>) -> Result<(), AllocErro
     requires { IsSome track.old.present }
     ensures stays { OnOk result (Stays track.old track.new) }
     ensures lighter { OnOk result (weight bodies.new.items ≤ weight bodies.old.items) }
-    ensures tells { OnOk result ((i : Interpretation) (start : ℕ) → Walks i track.old track.new bodies.old.items bodies.new.items (says_passed i start)) }
+    ensures tells { OnOk result ((i : Interpretation) (start : ℕ)
+        → Walks i track.old track.new bodies.old.items bodies.new.items (says_passed i start)) }
 {
     match bodies.pop() {
         Some(body) => Ok(tell_piece(&body, track, bodies)?),
@@ -82,7 +83,8 @@ fn tell_kept(pieces: &[Piece], track: &mut Track, bodies: &mut Vec<Piece>) -> Re
     requires { IsSome track.old.present }
     ensures stays { OnOk result (Stays track.old track.new) }
     ensures lighter { OnOk result (weight bodies.new.items ≤ weight bodies.old.items) }
-    ensures tells { OnOk result ((i : Interpretation) → Walks i track.old track.new bodies.old.items bodies.new.items (says_read (pieces_say i pieces.now))) }
+    ensures tells { OnOk result ((i : Interpretation)
+        → Walks i track.old track.new bodies.old.items bodies.new.items (says_read (pieces_say i pieces.now))) }
 {
     bodies.pop();
     tell_pieces(pieces, track, bodies)?;
@@ -108,7 +110,9 @@ pub fn tell_script(
     bodies: &mut Vec<Piece>,
 ) -> Result<(), AllocError>
     requires { track.old.present ≡ None }
-    ensures tells { OnOk result ((i : Interpretation) (items : model.Stmts) → KnowsThis i track.old → SaysBody i script.now items → ShowAll (SaysBody i) (reverse bodies.old.items) (in_stmts true items []) → logged (tells_script items) (log_text i track.old) ≡ log_text i track.new) }
+    ensures tells { OnOk result ((i : Interpretation) (items : model.Stmts) → KnowsThis i track.old → SaysBody i script.now items
+        → ShowAll (SaysBody i) (reverse bodies.old.items) (in_stmts true items [])
+        → logged (tells_script items) (log_text i track.old) ≡ log_text i track.new) }
     ensures outside { OnOk result (track.new.present ≡ None) }
     ensures known { OnOk result (track.new.known ≡ track.old.known) }
     ensures noted { OnOk result (track.new.noted ≡ track.old.noted) }

@@ -1,12 +1,13 @@
 -- How a comment of many lines is read.
-use Rattle.std.proofs.Common.{◌≡◌, ℕ, ◌+◌, ◌<◌, List, [], ◌∷◌, map, length, drop, true, false, cond, refl, sym, ◌∙◌, ap, subst, arith}
+use Rattle.std.proofs.Common.{◌≡◌, ℕ, ◌+◌, ◌<◌, List, [], ◌∷◌, map, length, drop, true, false, cond, refl, sym, ◌∙◌, ap, subst, arith, length-drop, true≢false}
 use Rattle.std.specs.Prelude.{◌≤◌, Option, Some, None, option_map}
 use Rattle.std.proofs.Math.Dec.{eqb, leb}
 use Rattle.std.proofs.lemmas.Bool.{lt-leb, ne_eqb}
+use Rattle.std.proofs.lemmas.List.{length-map}
 use Rattle.unit_text.specs.declared.Point.{Point}
 use Rattle.unit_text.specs.Points.{code_of}
 use Rattle.script_scanner.specs.Blanks.{begins, blank_at, is_white_space, is_line_end, length_to_star_slash}
-use Rattle.script_scanner.proofs.Lists.{place_in}
+use Rattle.script_scanner.proofs.Lists.{place_in, and_right}
 
 one_more : (at : ℕ) (o : Option ℕ) → option_map (λ n. at + n) (option_map (λ n. 1 + n) o) ≡ option_map (λ n. (at + 1) + n) o
 one_more at None = refl
@@ -26,6 +27,17 @@ star_more points at lt absent before = let (p, rest, here, next) = place_in poin
     ∙ ap (option_map (λ n. at + n)) (not_here p.code (map code_of rest) (subst (λ (ps : List Point). begins (0x2A ∷ 0x2F ∷ []) (map code_of ps) ≡ false) here absent))
     ∙ one_more at (length_to_star_slash (map code_of rest))
     ∙ ap (λ ps. option_map (λ n. (at + 1) + n) (length_to_star_slash (map code_of ps))) (sym next)
+
+-- a `*/` is two code points
+two_long : (codes : List ℕ) → begins (0x2A ∷ 0x2F ∷ []) codes ≡ true → 2 ≤ length codes
+two_long [] e = absurd (true≢false (sym e))
+two_long (c ∷ []) e = absurd (true≢false (sym (and_right (eqb c 0x2A) false e)))
+two_long (c ∷ d ∷ codes) e = omega arith
+
+pub star_within : (points : List Point) (at : ℕ) → at ≤ length points → begins (0x2A ∷ 0x2F ∷ []) (map code_of (drop at points)) ≡ true → at + 2 ≤ length points
+star_within points at le here =
+    let long : 2 ≤ length (map code_of (drop at points)) = two_long (map code_of (drop at points)) here in
+    omega (arith, long, length-map (drop at points) code_of, length-drop at points, le)
 
 nothing_white : (c : ℕ) → 0x21 ≤ c → c ≤ 0x7E → is_white_space c ≡ false
 nothing_white c low high =

@@ -1,7 +1,6 @@
 -- A name whose text has an atom.
 use Rattle.std.proofs.Common.{◌≡◌, ℕ, ◌+◌, ◌<◌, ◌≤◌, ◌^◌, suc, List, [], ◌∷◌, ◌++◌, map, length, take, drop, get_or, Bool, true, false, refl, sym, ◌∙◌, ap, subst, arith}
 use Rattle.std.specs.Prelude.{Option, Some, None, option_map, slice_get}
-use Rattle.std.specs.List.{prefix_len}
 use Rattle.std.proofs.Math.ListN.{drop_of_length-le}
 use Rattle.std.proofs.lemmas.Bool.{le-leb}
 use Rattle.std.proofs.Math.Dec.{leb}
@@ -18,13 +17,12 @@ use Rattle.script_scanner.specs.Blanks.{blank_at}
 use Rattle.script_scanner.specs.Braces.{in_substitution}
 use Rattle.script_scanner.specs.Fronts.{BeginsName}
 use Rattle.script_scanner.specs.Known.{IsKnownName, TakesName}
-use Rattle.script_scanner.specs.Names.{is_name_start, is_name_part, name_length}
+use Rattle.script_scanner.specs.Names.{is_name_start, name_length}
 use Rattle.script_scanner.specs.Stands.{is_last}
 use Rattle.script_scanner.specs.Tokens.{Lexed, Piece, front_of, then_tokens, token_at, name_kind, name_piece, place, braces_after}
 use Rattle.script_scanner.specs.Words.{word_at, word_index}
 use Rattle.script_scanner.proofs.KindLemmas.{piece_no_last}
 use Rattle.script_scanner.proofs.Lists.{read_at, map_take}
-use Rattle.script_scanner.proofs.NameLemmas.{name_reaches}
 use Rattle.script_scanner.proofs.PieceLemmas.{token_is_name}
 use Rattle.script_scanner.proofs.ScanLemmas.{gains_nothing, rest_some, some_after}
 
@@ -33,12 +31,12 @@ one_unit : (c : ℕ) → c < 2 ^ 16 → code_units c ≡ c ∷ []
 one_unit c low = let few : leb c 0xFFFF ≡ true = le-leb c 0xFFFF (omega (arith, low)) in cc
 
 -- one more unit that is the same
-pub unit_more : (points : List Point) (units : List ℕ) (at : ℕ) (p : Point) (u : ℕ) → at < length points → at < length units → p ≡ get_or points at p → u ≡ get_or units at u
+pub unit_more : (points : List Point) (units : List ℕ) (at : ℕ) (p : Point) (u : ℕ) → at < length units → drop at points ≡ p ∷ drop (at + 1) points → u ≡ get_or units at u
     → p.code ≡ u → u < 2 ^ 16 → (text_units (map code_of (drop at points)) ≡ drop at units → text_units (map code_of points) ≡ units)
     → text_units (map code_of (drop (at + 1) points)) ≡ drop (at + 1) units → text_units (map code_of points) ≡ units
-unit_more points units at p u lt lt_units read read_unit same low before rest =
+unit_more points units at p u lt_units read read_unit same low before rest =
     before
-    (ap (λ ps. text_units (map code_of ps)) (read_at points at p lt read)
+    (ap (λ ps. text_units (map code_of ps)) read
     ∙ ap (λ us. us ++ text_units (map code_of (drop (at + 1) points))) (one_unit p.code (omega (arith, same, low)))
     ∙ ap (λ us. p.code ∷ us) rest
     ∙ ap (λ n. n ∷ drop (at + 1) units) same
@@ -51,19 +49,18 @@ units_all points units at all same before =
 
 -- a name that was compared with the text at an atom
 pub known_is : (texts : List (List ℕ)) (points name : List Point) (units : List ℕ) (atom n : ℕ) (k : Kind) → BeginsName (map code_of points)
-    → n ≡ 1 + prefix_len (λ (p : Point). is_name_part p.code) (drop 1 points) → name ≡ take n points → text_units (map code_of name) ≡ units → slice_get texts atom ≡ Some units
+    → n ≡ name_length (map code_of points) → 0 < n → name ≡ take n points → text_units (map code_of name) ≡ units → slice_get texts atom ≡ Some units
     → k ≡ name_kind (option_map word_index (word_at units)) → IsKnownName texts (map code_of points) (record { kind = k; atom = atom; length = n })
-known_is texts [] name units atom n k begins reach front same at is = absurd begins
-known_is texts (first ∷ others) name units atom n k begins reach front same at is =
+known_is texts [] name units atom n k begins long some front same at is = absurd begins
+known_is texts (first ∷ others) name units atom n k begins long some front same at is =
     let points = first ∷ others in
-    let long : n ≡ name_length (map code_of points) = reach ∙ sym (name_reaches points (omega arith)) in
     let text : units ≡ text_units (take (name_length (map code_of points)) (map code_of points)) =
     sym same ∙ ap (λ ps. text_units (map code_of ps)) front ∙ ap text_units (map_take code_of n points) ∙ ap (λ i. text_units (take i (map code_of points))) long in
     record {
       token = λ in_template. token_is_name in_template first.code (map code_of others) begins;
       kind = is ∙ ap (λ us. name_kind (option_map word_index (word_at us))) text;
       length = long;
-      positive = omega (arith, reach);
+      positive = some;
       text = at ∙ ap Some text;
     }
 

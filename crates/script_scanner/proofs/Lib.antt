@@ -1,5 +1,6 @@
 -- Lemmas of the scanner.
 pub mod BlankLemmas
+pub mod ByteLemmas
 pub mod FrontLemmas
 pub mod KindLemmas
 pub mod KnownLemmas

@@ -1,25 +1,35 @@
 -- Lists seen through a function of their items, and from a place on.
-use Rattle.std.proofs.Common.{◌≡◌, ℕ, ◌+◌, ◌<◌, zero, suc, List, [], ◌∷◌, map, length, take, drop, Bool, true, false, cond, refl, sym, ◌∙◌, ap, subst, arith, add-zero, add-one, get_or, ◌≢◌, inl, inr}
-use Rattle.std.specs.Prelude.{◌||◌, ◌&&◌, ◌==◌, fold, filter, find, Option, Some, IfSome}
+use Rattle.std.proofs.Common.{◌≡◌, ℕ, ◌+◌, ◌<◌, ◌≤◌, zero, suc, List, [], ◌∷◌, map, length, take, drop, Bool, true, false, cond, refl, sym, ◌∙◌, ap, subst, arith, add-zero, add-one, get_or, ◌≢◌, inl, inr}
+use Rattle.std.specs.Prelude.{◌||◌, ◌&&◌, ◌==◌, filter, find, Option, Some, IfSome}
 use Rattle.std.proofs.Math.Seq.{drop-cons}
+use Rattle.std.proofs.Math.ListN.{drop_of_length-le}
 use Rattle.std.proofs.lemmas.Bool.{cases_Bool, eqb-true}
 use Rattle.std.specs.List.{prefix_len, list_any, list_all, AllByRecursion}
 
 module _ {A B : Type 0} where
-  -- the longest front whose items pass a test
-  pub prefix_len_map : (p : B → Bool) (f : A → B) (xs : List A) → prefix_len p (map f xs) ≡ prefix_len (λ x. p (f x)) xs
-  prefix_len_map p f [] = refl
-  prefix_len_map p f (x ∷ xs) = ap (λ n. cond (p (f x)) (1 + n) 0) (prefix_len_map p f xs)
+  -- the longest front whose items pass a test, seen through a function: one more item
+  pub prefix_more : (p : B → Bool) (f : A → B) (xs : List A) (i : ℕ) (x : A) → drop i xs ≡ x ∷ drop (i + 1) xs → p (f x) ≡ true
+      → prefix_len p (map f (drop i xs)) ≡ 1 + prefix_len p (map f (drop (i + 1) xs))
+  prefix_more p f xs i x here passes = ap (λ ys. prefix_len p (map f ys)) here ∙ ap (λ b. cond b (1 + prefix_len p (map f (drop (i + 1) xs))) 0) passes
 
-  -- whether some item passes
-  pub list_any_map : (p : B → Bool) (f : A → B) (xs : List A) → list_any p (map f xs) ≡ list_any (λ x. p (f x)) xs
-  list_any_map p f [] = refl
-  list_any_map p f (x ∷ xs) = ap (λ b. p (f x) || b) (list_any_map p f xs)
+  -- an item that is not of it
+  pub prefix_stops : (p : B → Bool) (f : A → B) (xs : List A) (i : ℕ) (x : A) → drop i xs ≡ x ∷ drop (i + 1) xs → p (f x) ≡ false → prefix_len p (map f (drop i xs)) ≡ 0
+  prefix_stops p f xs i x here stops = ap (λ ys. prefix_len p (map f ys)) here ∙ ap (λ b. cond b (1 + prefix_len p (map f (drop (i + 1) xs))) 0) stops
 
-  -- a fold
-  pub fold_map : {C : Type 0} (g : C → B → C) (f : A → B) (c : C) (xs : List A) → fold g c (map f xs) ≡ fold (λ r x. g r (f x)) c xs
-  fold_map g f c [] = refl
-  fold_map g f c (x ∷ xs) = fold_map g f (g c (f x)) xs
+  -- nothing is left
+  pub prefix_ends : (p : B → Bool) (f : A → B) (xs : List A) (i : ℕ) → length xs ≤ i → prefix_len p (map f (drop i xs)) ≡ 0
+  prefix_ends p f xs i ended = ap (λ ys. prefix_len p (map f ys)) (drop_of_length-le xs ended)
+
+  -- whether some item passes, seen through a function: one that does not, and one that does
+  pub any_more : (p : B → Bool) (f : A → B) (xs : List A) (i : ℕ) (x : A) → drop i xs ≡ x ∷ drop (i + 1) xs → p (f x) ≡ false
+      → list_any p (map f (drop (i + 1) xs)) ≡ list_any p (map f (drop i xs))
+  any_more p f xs i x here fails = sym (ap (λ ys. list_any p (map f ys)) here ∙ ap (λ b. b || list_any p (map f (drop (i + 1) xs))) fails)
+
+  pub any_found : (p : B → Bool) (f : A → B) (xs : List A) (i : ℕ) (x : A) → drop i xs ≡ x ∷ drop (i + 1) xs → p (f x) ≡ true → list_any p (map f (drop i xs)) ≡ true
+  any_found p f xs i x here passes = ap (λ ys. list_any p (map f ys)) here ∙ ap (λ b. b || list_any p (map f (drop (i + 1) xs))) passes
+
+  pub any_ends : (p : B → Bool) (f : A → B) (xs : List A) (i : ℕ) → length xs ≤ i → list_any p (map f (drop i xs)) ≡ false
+  any_ends p f xs i ended = ap (λ ys. list_any p (map f ys)) (drop_of_length-le xs ended)
 
   -- a front and a rest
   pub map_take : (f : A → B) (n : ℕ) (xs : List A) → map f (take n xs) ≡ take n (map f xs)
@@ -51,6 +61,10 @@ module _ {X : Type 0} where
   drop_drop (suc n) zero xs = ap (λ k. drop k xs) (add-zero (suc n))
   drop_drop (suc n) (suc m) [] = ap (λ k. drop k []) (let e : suc n + suc m ≡ suc (suc n + m) = omega arith in e)
   drop_drop (suc n) (suc m) (x ∷ xs) = ap (λ k. drop k (x ∷ xs)) (let e : suc n + suc m ≡ suc (n + suc m) = omega arith in e) ∙ drop_drop n (suc m) xs
+
+  -- what is left behind the first item
+  pub behind_first : (xs others behind : List X) (x : X) → xs ≡ x ∷ others → behind ≡ drop 1 xs → xs ≡ x ∷ behind
+  behind_first xs others behind x split is = split ∙ ap (λ ys. x ∷ ys) (sym (is ∙ ap (λ ys. drop 1 ys) split))
 
   -- the item at a place, and the rest after it
   pub place_in : (xs : List X) (i : ℕ) → i < length xs → (x : X) × (rest : List X) × (drop i xs ≡ x ∷ rest) × (drop (i + 1) xs ≡ rest)

@@ -10,7 +10,6 @@ use Rattle.unicode_ident.proofs.IdentLemmas.{is_xid_start-ascii, is_xid_continue
 use Rattle.unit_text.specs.declared.Point.{Point}
 use Rattle.unit_text.specs.Points.{code_of}
 use Rattle.script_scanner.specs.Names.{is_name_start, is_name_part, name_length}
-use Rattle.script_scanner.proofs.Lists.{prefix_len_map}
 
 or_false : (a : Bool) → (a || false) ≡ a
 or_false true = refl
@@ -54,6 +53,6 @@ part_other c high =
     ap (λ b. ((b || (c == 0x200C)) || (c == 0x200D))) (ap (λ b. is_xid_continue c || b) (ne_eqb c 0x24 (λ e. absurd (omega (arith, high, e)))) ∙ or_false (is_xid_continue c))
 
 -- how far the name reaches that the first point begins
-pub name_reaches : (points : List Point) → 0 < length points → name_length (map code_of points) ≡ 1 + prefix_len (λ (p : Point). is_name_part p.code) (drop 1 points)
-name_reaches [] some = absurd (omega (arith, some))
-name_reaches (p ∷ points) some = ap (λ n. 1 + n) (prefix_len_map is_name_part code_of points)
+pub name_begins : (points : List Point) → 0 < length points → 1 + prefix_len is_name_part (map code_of (drop 1 points)) ≡ name_length (map code_of points)
+name_begins [] some = absurd (omega (arith, some))
+name_begins (p ∷ points) some = refl

@@ -1,13 +1,13 @@
 -- Digits, one group after the other, and their value.
-use Rattle.std.proofs.Common.{◌≡◌, ℕ, ◌+◌, ◌*◌, ◌<◌, ◌≤◌, List, [], ◌∷◌, map, length, take, drop, Bool, true, false, cond, refl, sym, ◌∙◌, ap, subst, arith, mul-le-mul_left, take-append-drop, get_or}
+use Rattle.std.proofs.Common.{◌≡◌, ℕ, ◌+◌, ◌*◌, ◌<◌, ◌≤◌, List, [], ◌∷◌, map, length, drop, Bool, true, false, cond, refl, sym, ◌∙◌, ap, subst, arith, mul-le-mul_left}
 use Rattle.std.specs.Prelude.{Some, None, fold, nat_le, ◌&&◌, ◌==◌}
 use Rattle.std.specs.Char.{is_digit, digit_value}
-use Rattle.std.proofs.lemmas.Bool.{leb-true}
-use Rattle.std.proofs.lemmas.List.Sums.{fold-append, fold_more}
+use Rattle.std.proofs.lemmas.Bool.{leb-true, le-leb}
+use Rattle.std.proofs.Math.ListN.{drop_of_length-le}
 use Rattle.unit_text.specs.declared.Point.{Point}
 use Rattle.unit_text.specs.Points.{code_of}
 use Rattle.script_scanner.specs.Numbers.{digit_length, more_digits, with_digit, limited, digits_value}
-use Rattle.script_scanner.proofs.Lists.{map_drop, drop_drop, fold_map}
+use Rattle.script_scanner.proofs.Lists.{map_drop, drop_drop}
 
 module _ (radix : ℕ) where
   one : (c : ℕ) (b : Bool) (n : ℕ) → cond b 1 0 ≡ n → 0 < n → cond b 1 0 ≡ n + more_digits radix (drop n (c ∷ []))
@@ -71,29 +71,33 @@ limited_by v false e h = refl
 pub limited_none : (v : ℕ) → 9007199254740991 < v → limited v ≡ None
 limited_none v h = limited_by v (nat_le v 9007199254740991) refl h
 
+-- a value within the limit
+limited_some : (v : ℕ) → v ≤ 9007199254740991 → limited v ≡ Some v
+limited_some v h = ap (λ b. cond b (Some v) None) (le-leb v 9007199254740991 h)
+
 module _ (radix : ℕ) where
-  -- one digit more, of a list of points
-  abbrev pub point_digit : ℕ → Point → ℕ
-  point_digit value point = with_digit radix value point.code
-
-  -- the value of points of which some at the front have this value
-  value_of_front : (points : List Point) (i value : ℕ) → value ≡ fold point_digit 0 (take i points) → fold (with_digit radix) 0 (map code_of points) ≡ fold (with_digit radix) value (map code_of (drop i points))
-  value_of_front points i value is =
-      fold_map (with_digit radix) code_of 0 points
-      ∙ ap (λ ps. fold point_digit 0 ps) (sym (take-append-drop i points))
-      ∙ fold-append point_digit 0 (take i points) (drop i points)
-      ∙ ap (λ v. fold point_digit v (drop i points)) (sym is)
-      ∙ sym (fold_map (with_digit radix) code_of value (drop i points))
-
-  -- the value of one point more
-  pub value_next : (points : List Point) (i value next : ℕ) (d : Point) → i < length points → value ≡ fold point_digit 0 (take i points)
-      → next ≡ with_digit radix value (get_or points i d).code → next ≡ fold point_digit 0 (take (i + 1) points)
-  value_next points i value next d lt is more = more ∙ ap (λ v. point_digit v (get_or points i d)) is ∙ sym (fold_more point_digit 0 points i d lt)
+  -- one digit more was read
+  pub value_next : (points : List Point) (i value next : ℕ) (d : Point) → drop i points ≡ d ∷ drop (i + 1) points → next ≡ with_digit radix value d.code
+      → fold (with_digit radix) value (map code_of (drop i points)) ≡ fold (with_digit radix) 0 (map code_of points)
+      → fold (with_digit radix) next (map code_of (drop (i + 1) points)) ≡ fold (with_digit radix) 0 (map code_of points)
+  value_next points i value next d here more before =
+      ap (λ v. fold (with_digit radix) v (map code_of (drop (i + 1) points))) more
+      ∙ sym (ap (λ ps. fold (with_digit radix) value (map code_of ps)) here)
+      ∙ before
 
   -- a front whose value is above the limit
-  pub value_over : (points : List Point) (i value next : ℕ) (d : Point) → 1 ≤ radix → i < length points → value ≡ fold point_digit 0 (take i points)
-      → next ≡ with_digit radix value (get_or points i d).code → 9007199254740991 < next → digits_value radix (map code_of points) ≡ None
-  value_over points i value next d low lt is more over =
-      let whole : fold (with_digit radix) 0 (map code_of points) ≡ fold (with_digit radix) next (map code_of (drop (i + 1) points)) = value_of_front points (i + 1) next (value_next points i value next d lt is more) in
+  pub value_over : (points : List Point) (i value next : ℕ) (d : Point) → 1 ≤ radix → drop i points ≡ d ∷ drop (i + 1) points → next ≡ with_digit radix value d.code
+      → fold (with_digit radix) value (map code_of (drop i points)) ≡ fold (with_digit radix) 0 (map code_of points)
+      → 9007199254740991 < next → digits_value radix (map code_of points) ≡ None
+  value_over points i value next d low here more before over =
+      let whole : fold (with_digit radix) next (map code_of (drop (i + 1) points)) ≡ fold (with_digit radix) 0 (map code_of points) = value_next points i value next d here more before in
       let grown : next ≤ fold (with_digit radix) next (map code_of (drop (i + 1) points)) = value_grows radix next (map code_of (drop (i + 1) points)) low in
       limited_none (fold (with_digit radix) 0 (map code_of points)) (omega (arith, whole, grown, over))
+
+  -- all digits were read
+  pub value_all : (points : List Point) (i value : ℕ) → length points ≤ i → fold (with_digit radix) value (map code_of (drop i points)) ≡ fold (with_digit radix) 0 (map code_of points)
+      → value ≤ 9007199254740991 → Some value ≡ digits_value radix (map code_of points)
+  value_all points i value ended before small =
+      let same : value ≡ fold (with_digit radix) 0 (map code_of points) =
+      sym (ap (λ ps. fold (with_digit radix) value (map code_of ps)) (drop_of_length-le points ended)) ∙ before in
+      sym (ap limited (sym same) ∙ limited_some value small)

@@ -2,6 +2,7 @@
 pub mod Advances
 pub mod Blanks
 pub mod Braces
+pub mod Bytes
 pub mod Escapes
 pub mod Fits
 pub mod Fronts

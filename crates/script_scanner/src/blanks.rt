@@ -4,8 +4,7 @@ ghost use Rattle.std.specs.List.{prefix_len, list_any};
 ghost use Rattle.unit_text.specs.Points.{code_of};
 ghost use Rattle.script_scanner.specs.Blanks.{begins, blank_at, comment_at, block_comment, is_line_end, is_white_space, line_length, length_to_star_slash, line_end_length, first_line_length};
 
-use crate::points::{behind, front};
-use unit_text::Point;
+use crate::sources::Source;
 
 /// White space, a line end or a comment.
 #[derive(Clone, Copy, Debug, PartialEq, Eq)]
@@ -41,8 +40,8 @@ pub fn is_line_end(code: char) -> bool
 }
 
 /// Whether points begin with these characters.
-pub fn begins(rest: &[Point], text: &[u8]) -> bool
-    ensures { result ≡ begins text.now (map code_of rest.now) }
+pub fn begins<T: Source>(rest: T, text: &[u8]) -> bool
+    ensures { result ≡ begins text.now (map code_of (T.points rest)) }
 {
     match text.split_first() {
         None => true,
@@ -55,26 +54,22 @@ pub fn begins(rest: &[Point], text: &[u8]) -> bool
 }
 
 /// How many code points stand before the first line end.
-pub fn line_length(rest: &[Point]) -> usize
-    ensures value { result ≡ line_length (map code_of rest.now) }
-    ensures within { result ≤ length rest.now }
+#[tactic(auto, using(crate::proofs::Lists::prefix_more, crate::proofs::Lists::prefix_stops, crate::proofs::Lists::prefix_ends))]
+pub fn line_length<T: Source>(rest: T) -> usize
+    ensures value { result ≡ line_length (map code_of (T.points rest)) }
+    ensures within { result ≤ length (T.points rest) }
 {
-    points_before_line_end(rest)
-}
-
-fn points_before_line_end(rest: &[Point]) -> usize
-    ensures value { result ≡ prefix_len (λ point. not (is_line_end point.code)) rest.now }
-    ensures within { result ≤ length rest.now }
-{
-    rest.iter()
-        .take_while(|point| !is_line_end(point.code))
-        .count()
+    let mut at = 0;
+    while at < rest.count() && !is_line_end(rest.point_at(at).code) {
+        at += 1;
+    }
+    at
 }
 
 /// How many code points the line end at the front takes.
-pub fn line_end_length(rest: &[Point]) -> usize
-    ensures value { result ≡ line_end_length (map code_of rest.now) }
-    ensures within { result ≤ length rest.now }
+pub fn line_end_length<T: Source>(rest: T) -> usize
+    ensures value { result ≡ line_end_length (map code_of (T.points rest)) }
+    ensures within { result ≤ length (T.points rest) }
 {
     match rest.split_first() {
         None => 0,
@@ -92,13 +87,14 @@ pub fn line_end_length(rest: &[Point]) -> usize
 }
 
 /// How many code points there are up to the first `*/` and with it.
-fn length_to_star_slash(rest: &[Point]) -> Option<usize>
-    ensures value { result ≡ length_to_star_slash (map code_of rest.now) }
-    ensures within { IfSome result (λ n. n ≤ length rest.now) }
+fn length_to_star_slash<T: Source>(rest: T) -> Option<usize>
+    ensures value { result ≡ length_to_star_slash (map code_of (T.points rest)) }
+    ensures within { IfSome result (λ n. n ≤ length (T.points rest)) }
+    ensures few { IfSome result (λ n. n ≤ 9223372036854775807) }
 {
     let mut at = 0;
-    while at < rest.len() {
-        if begins(behind(rest, at), b"*/") {
+    while at < rest.count() {
+        if begins(rest.behind(at), b"*/") {
             return Some(at + 2);
         }
         at += 1;
@@ -106,39 +102,41 @@ fn length_to_star_slash(rest: &[Point]) -> Option<usize>
     None
 }
 
-fn some_point_is_line_end(points: &[Point]) -> bool
-    ensures { result ≡ list_any (λ point. is_line_end point.code) points.now }
-{
-    points.iter().any(|point| is_line_end(point.code))
-}
-
 /// Whether a line end stands among the points.
-fn holds_line_end(points: &[Point]) -> bool
-    ensures { result ≡ list_any is_line_end (map code_of points.now) }
+#[tactic(auto, using(crate::proofs::Lists::any_more, crate::proofs::Lists::any_found, crate::proofs::Lists::any_ends))]
+fn holds_line_end<T: Source>(points: T) -> bool
+    ensures { result ≡ list_any is_line_end (map code_of (T.points points)) }
 {
-    some_point_is_line_end(points)
+    let mut at = 0;
+    while at < points.count() {
+        if is_line_end(points.point_at(at).code) {
+            return true;
+        }
+        at += 1;
+    }
+    false
 }
 
 /// The comment of many lines, of what follows its `/*`.
 #[tactic(auto, using(crate::proofs::Lists::map_take))]
-fn block_comment(inner: &[Point]) -> Option<Blank>
-    ensures value { result ≡ block_comment (length_to_star_slash (map code_of inner.now)) (map code_of inner.now) }
-    ensures within { IfSome result (λ blank. (0 < blank.length) × (blank.length ≤ 2 + length inner.now)) }
+fn block_comment<T: Source>(inner: T) -> Option<Blank>
+    ensures value { result ≡ block_comment (length_to_star_slash (map code_of (T.points inner))) (map code_of (T.points inner)) }
+    ensures within { IfSome result (λ blank. (0 < blank.length) × (blank.length ≤ 2 + length (T.points inner))) }
 {
     match length_to_star_slash(inner) {
         None => None,
         Some(length) => Some(Blank {
             length: 2 + length,
-            breaks: holds_line_end(front(inner, length)),
+            breaks: holds_line_end(inner.front(length)),
         }),
     }
 }
 
 /// The comment at the front, if there is one.
 #[tactic(auto, using(crate::proofs::Lists::map_drop))]
-fn comment_at(rest: &[Point]) -> Option<Blank>
-    ensures value { result ≡ comment_at (map code_of rest.now) }
-    ensures within { IfSome result (λ blank. (0 < blank.length) × (blank.length ≤ length rest.now)) }
+fn comment_at<T: Source>(rest: T) -> Option<Blank>
+    ensures value { result ≡ comment_at (map code_of (T.points rest)) }
+    ensures within { IfSome result (λ blank. (0 < blank.length) × (blank.length ≤ length (T.points rest))) }
 {
     if begins(rest, b"//") {
         return Some(Blank {
@@ -147,7 +145,7 @@ fn comment_at(rest: &[Point]) -> Option<Blank>
         });
     }
     if begins(rest, b"/*") {
-        block_comment(behind(rest, 2))
+        block_comment(rest.behind(2))
     } else {
         None
     }
@@ -163,9 +161,9 @@ fn is_plain(code: char) -> bool
 /// The white space, line end or comment at the front, if there is one.
 #[inline]
 #[tactic(auto, using(crate::proofs::BlankLemmas::plain_is_no_blank, crate::proofs::BlankLemmas::space_is_blank, crate::proofs::BlankLemmas::line_feed_is_blank))]
-pub fn blank_at(rest: &[Point]) -> Option<Blank>
-    ensures value { result ≡ blank_at (map code_of rest.now) }
-    ensures within { IfSome result (λ blank. (0 < blank.length) × (blank.length ≤ length rest.now)) }
+pub fn blank_at<T: Source>(rest: T) -> Option<Blank>
+    ensures value { result ≡ blank_at (map code_of (T.points rest)) }
+    ensures within { IfSome result (λ blank. (0 < blank.length) × (blank.length ≤ length (T.points rest))) }
 {
     let (first, _) = rest.split_first()?;
     if is_plain(first.code) {
@@ -188,9 +186,9 @@ pub fn blank_at(rest: &[Point]) -> Option<Blank>
 
 /// The same, apart from the three tests that decide nearly always, so that they can stand in the scanner's loop.
 #[inline(never)]
-fn rare_blank_at(rest: &[Point]) -> Option<Blank>
-    ensures value { result ≡ blank_at (map code_of rest.now) }
-    ensures within { IfSome result (λ blank. (0 < blank.length) × (blank.length ≤ length rest.now)) }
+fn rare_blank_at<T: Source>(rest: T) -> Option<Blank>
+    ensures value { result ≡ blank_at (map code_of (T.points rest)) }
+    ensures within { IfSome result (λ blank. (0 < blank.length) × (blank.length ≤ length (T.points rest))) }
 {
     let (first, _) = rest.split_first()?;
     if is_white_space(first.code) {
@@ -209,9 +207,9 @@ fn rare_blank_at(rest: &[Point]) -> Option<Blank>
 }
 
 /// How many code points of a first line that begins with `#!` are passed over.
-pub fn first_line_length(rest: &[Point]) -> usize
-    ensures value { result ≡ first_line_length (map code_of rest.now) }
-    ensures within { result ≤ length rest.now }
+pub fn first_line_length<T: Source>(rest: T) -> usize
+    ensures value { result ≡ first_line_length (map code_of (T.points rest)) }
+    ensures within { result ≤ length (T.points rest) }
 {
     if begins(rest, b"#!") {
         line_length(rest)

@@ -7,8 +7,7 @@ ghost use Rattle.script_scanner.specs.Fits.{StepFits};
 
 use crate::blanks::{begins, is_line_end, line_end_length};
 use crate::numbers::digits_value;
-use crate::points::{behind, front};
-use unit_text::Point;
+use crate::sources::Source;
 
 /// What the code points at the front of a string's or a template's rest do.
 #[derive(Clone, Copy, Debug, PartialEq, Eq)]
@@ -24,8 +23,8 @@ pub enum Step {
 }
 
 /// Whether a decimal digit stands at the front.
-pub fn begins_with_digit(rest: &[Point]) -> bool
-    ensures { result ≡ begins_with_digit (map code_of rest.now) }
+pub fn begins_with_digit<T: Source>(rest: T) -> bool
+    ensures { result ≡ begins_with_digit (map code_of (T.points rest)) }
 {
     match rest.split_first() {
         None => false,
@@ -34,10 +33,10 @@ pub fn begins_with_digit(rest: &[Point]) -> bool
 }
 
 /// The value of two hexadecimal digits at the front.
-fn hex_byte(rest: &[Point]) -> Option<u32>
-    ensures value { result ≡ hex_byte (map code_of rest.now) }
+fn hex_byte<T: Source>(rest: T) -> Option<u32>
+    ensures value { result ≡ hex_byte (map code_of (T.points rest)) }
     ensures small { IfSome result (λ value. value < 256) }
-    ensures within { IfSome result (λ _. 2 ≤ length rest.now) }
+    ensures within { IfSome result (λ _. 2 ≤ length (T.points rest)) }
 {
     match rest.split_first() {
         None => None,
@@ -53,51 +52,48 @@ fn hex_byte(rest: &[Point]) -> Option<u32>
 
 /// The value of four hexadecimal digits at the front.
 #[tactic(auto, using(crate::proofs::Lists::map_drop))]
-fn hex_unit(rest: &[Point]) -> Option<u32>
-    ensures value { result ≡ hex_unit (map code_of rest.now) }
+fn hex_unit<T: Source>(rest: T) -> Option<u32>
+    ensures value { result ≡ hex_unit (map code_of (T.points rest)) }
     ensures small { IfSome result (λ value. value < 65536) }
-    ensures within { IfSome result (λ _. 4 ≤ length rest.now) }
+    ensures within { IfSome result (λ _. 4 ≤ length (T.points rest)) }
 {
     match hex_byte(rest) {
         None => None,
-        Some(high) => match hex_byte(behind(rest, 2)) {
+        Some(high) => match hex_byte(rest.behind(2)) {
             None => None,
             Some(low) => Some(256 * high + low),
         },
     }
 }
 
-fn hex_digits(rest: &[Point]) -> usize
-    ensures value { result ≡ prefix_len (λ point. is_hex_digit point.code) rest.now }
-    ensures within { result ≤ length rest.now }
-{
-    rest.iter()
-        .take_while(|point| point.code.is_digit(16))
-        .count()
-}
-
 /// How many hexadecimal digits stand at the front.
-fn hex_length(rest: &[Point]) -> usize
-    ensures value { result ≡ prefix_len is_hex_digit (map code_of rest.now) }
-    ensures within { result ≤ length rest.now }
+#[tactic(auto, using(crate::proofs::Lists::prefix_more, crate::proofs::Lists::prefix_stops, crate::proofs::Lists::prefix_ends))]
+fn hex_length<T: Source>(rest: T) -> usize
+    ensures value { result ≡ prefix_len is_hex_digit (map code_of (T.points rest)) }
+    ensures within { result ≤ length (T.points rest) }
+    ensures few { result ≤ 9223372036854775807 }
 {
-    hex_digits(rest)
+    let mut at = 0;
+    while at < rest.count() && rest.point_at(at).code.is_digit(16) {
+        at += 1;
+    }
+    at
 }
 
 /// What `\u{` and the text after it do.
 #[tactic(auto, using(crate::proofs::Lists::map_take, crate::proofs::Lists::map_drop))]
-fn braced_step(rest: &[Point]) -> Step
-    ensures value { result ≡ braced_step (map code_of rest.now) }
-    ensures fits { StepFits (3 + length rest.now) result }
+fn braced_step<T: Source>(rest: T) -> Step
+    ensures value { result ≡ braced_step (map code_of (T.points rest)) }
+    ensures fits { StepFits (3 + length (T.points rest)) result }
 {
     let count = hex_length(rest);
     if count == 0 {
         return Step::Break;
     }
-    if !begins(behind(rest, count), b"}") {
+    if !begins(rest.behind(count), b"}") {
         return Step::Break;
     }
-    match digits_value(front(rest, count), 16) {
+    match digits_value(rest.front(count), 16) {
         None => Step::Break,
         Some(value) => {
             if value <= 0x10_FFFF {
@@ -114,12 +110,12 @@ fn braced_step(rest: &[Point]) -> Step
 
 /// What `\u` and the text after it do.
 #[tactic(auto, using(crate::proofs::Lists::map_drop))]
-fn unicode_step(rest: &[Point]) -> Step
-    ensures value { result ≡ unicode_step (map code_of rest.now) }
-    ensures fits { StepFits (2 + length rest.now) result }
+fn unicode_step<T: Source>(rest: T) -> Step
+    ensures value { result ≡ unicode_step (map code_of (T.points rest)) }
+    ensures fits { StepFits (2 + length (T.points rest)) result }
 {
     if begins(rest, b"{") {
-        return braced_step(behind(rest, 1));
+        return braced_step(rest.behind(1));
     }
     match hex_unit(rest) {
         None => Step::Break,
@@ -128,9 +124,9 @@ fn unicode_step(rest: &[Point]) -> Step
 }
 
 /// What `\x` and the text after it do.
-fn hex_step(rest: &[Point]) -> Step
-    ensures value { result ≡ value_step (hex_byte (map code_of rest.now)) 4 }
-    ensures fits { StepFits (2 + length rest.now) result }
+fn hex_step<T: Source>(rest: T) -> Step
+    ensures value { result ≡ value_step (hex_byte (map code_of (T.points rest))) 4 }
+    ensures fits { StepFits (2 + length (T.points rest)) result }
 {
     match hex_byte(rest) {
         None => Step::Break,
@@ -155,9 +151,9 @@ fn single_escape(letter: char) -> u32
 }
 
 /// What a `\` and the text after it do.
-pub fn escape_step(rest: &[Point]) -> Step
-    ensures value { result ≡ escape_step (map code_of rest.now) }
-    ensures fits { StepFits (1 + length rest.now) result }
+pub fn escape_step<T: Source>(rest: T) -> Step
+    ensures value { result ≡ escape_step (map code_of (T.points rest)) }
+    ensures fits { StepFits (1 + length (T.points rest)) result }
 {
     match rest.split_first() {
         None => Step::Break,

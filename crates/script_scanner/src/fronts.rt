@@ -4,8 +4,8 @@ ghost use Rattle.unit_text.specs.Points.{code_of};
 ghost use Rattle.script_scanner.specs.Fronts.{StandsAt, EndsMark, BeginsEnded};
 ghost use Rattle.script_scanner.specs.declared.fronts.Front.TheVariants.{Other};
 
+use crate::sources::Source;
 use script_grammar::token::mark;
-use unit_text::Point;
 
 /// What stands at the front of a text.
 #[derive(Clone, Copy, Debug, PartialEq, Eq)]
@@ -48,8 +48,8 @@ fn ends_mark(code: char) -> bool
 
 /// Whether such a code point follows.
 #[inline]
-fn is_ended(others: &[Point]) -> bool
-    ensures { result ≡ true → BeginsEnded (map code_of others.now) }
+fn is_ended<T: Source>(others: T) -> bool
+    ensures { result ≡ true → BeginsEnded (map code_of (T.points others)) }
 {
     match others.split_first() {
         None => false,
@@ -59,8 +59,8 @@ fn is_ended(others: &[Point]) -> bool
 
 /// The same of a text that begins with this code point, where it may be the first of a mark of several code points.
 #[inline]
-fn operator_with(first: char, others: &[Point]) -> Front
-    ensures { StandsAt (first ∷ map code_of others.now) result }
+fn operator_with<T: Source>(first: char, others: T) -> Front
+    ensures { StandsAt (first ∷ map code_of (T.points others)) result }
 {
     if !is_ended(others) {
         return Front::Other;
@@ -80,8 +80,8 @@ fn operator_with(first: char, others: &[Point]) -> Front
 
 /// The same of a text that begins with this code point, where it is no letter.
 #[inline]
-fn front_with(first: char, others: &[Point]) -> Front
-    ensures { StandsAt (first ∷ map code_of others.now) result }
+fn front_with<T: Source>(first: char, others: T) -> Front
+    ensures { StandsAt (first ∷ map code_of (T.points others)) result }
 {
     match first {
         ' ' => Front::Space,
@@ -104,8 +104,8 @@ fn front_with(first: char, others: &[Point]) -> Front
 
 /// The same of a text that begins with a dot.
 #[inline]
-fn dot_before(others: &[Point]) -> Front
-    ensures { StandsAt (0x2E ∷ map code_of others.now) result }
+fn dot_before<T: Source>(others: T) -> Front
+    ensures { StandsAt (0x2E ∷ map code_of (T.points others)) result }
 {
     match others.split_first() {
         None => Front::Other,
@@ -123,17 +123,17 @@ fn dot_before(others: &[Point]) -> Front
 
 /// What stands at the front of a text.
 #[inline]
-pub fn front_at(rest: &[Point]) -> Front
-    ensures value { StandsAt (map code_of rest.now) result }
-    ensures some { result ≢ Other → 0 < length rest.now }
+pub fn front_at<T: Source>(rest: T) -> Front
+    ensures value { StandsAt (map code_of (T.points rest)) result }
+    ensures some { result ≢ Other → 0 < length (T.points rest) }
 {
     match rest.split_first() {
         None => Front::Other,
-        Some((first, others)) => {
+        Some((first, _)) => {
             if first.code.is_ascii_alphabetic() {
                 Front::Name
             } else {
-                front_with(first.code, others)
+                front_with(first.code, rest.behind(1))
             }
         }
     }

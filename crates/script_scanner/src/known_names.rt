@@ -8,11 +8,10 @@ ghost use Rattle.script_scanner.specs.Known.{IsKnownName};
 
 use crate::names::spelled_name;
 use crate::pieces::kind_of_name;
-use crate::points::front;
+use crate::sources::Source;
 use crate::words::word_at;
 use parser_atoms::Atoms;
 use script_grammar::token::Kind;
-use unit_text::Point;
 
 /// A name or word at the front of points, whose text has an atom.
 #[derive(Clone, Copy, Debug, PartialEq, Eq)]
@@ -27,14 +26,14 @@ pub struct KnownName {
 
 /// Whether code points are these units, each one of them. Where it answers no, they may still stand for the same text.
 #[tactic(auto, using(crate::proofs::KnownLemmas::unit_more, crate::proofs::KnownLemmas::units_all))]
-fn are_units(points: &[Point], units: &[u16]) -> bool
-    ensures { result ≡ true → text_units (map code_of points.now) ≡ units.now }
+fn are_units<T: Source>(points: T, units: &[u16]) -> bool
+    ensures { result ≡ true → text_units (map code_of (T.points points)) ≡ units.now }
 {
-    if points.len() != units.len() {
+    if points.count() != units.len() {
         return false;
     }
     for at in 0..units.len() {
-        if points[at].code as u32 != u32::from(units[at]) {
+        if points.point_at(at).code as u32 != u32::from(units[at]) {
             return false;
         }
     }
@@ -43,16 +42,16 @@ fn are_units(points: &[Point], units: &[u16]) -> bool
 
 /// The name at the front, where its text stands where the texts' guess is.
 #[inline]
-pub fn known_name(rest: &[Point], atoms: &Atoms) -> Option<KnownName>
-    requires begins { BeginsName (map code_of rest.now) }
-    requires some { 0 < length rest.now }
-    ensures value { IfSome result (IsKnownName atoms.now (map code_of rest.now)) }
-    ensures within { IfSome result (λ known. known.length ≤ length rest.now) }
+pub fn known_name<T: Source>(rest: T, atoms: &Atoms) -> Option<KnownName>
+    requires begins { BeginsName (map code_of (T.points rest)) }
+    requires some { 0 < length (T.points rest) }
+    ensures value { IfSome result (IsKnownName atoms.now (map code_of (T.points rest))) }
+    ensures within { IfSome result (λ known. known.length ≤ length (T.points rest)) }
 {
     let name = spelled_name(rest);
     let atom = atoms.guess(name.digest)?;
     let units = atoms.text(atom).units();
-    if !are_units(front(rest, name.length), units) {
+    if !are_units(rest.front(name.length), units) {
         return None;
     }
     Some(KnownName {

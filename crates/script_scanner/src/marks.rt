@@ -5,9 +5,8 @@ ghost use Rattle.script_scanner.specs.Marks.{mark_at, mark_from, sign_of};
 
 use crate::blanks::begins;
 use crate::escapes::begins_with_digit;
-use crate::points::behind;
+use crate::sources::Source;
 use script_grammar::token::mark;
-use unit_text::Point;
 
 /// A mark at the front of a text.
 #[derive(Clone, Copy, Debug, PartialEq, Eq)]
@@ -26,8 +25,8 @@ fn found(mark: u8, length: usize) -> Option<Sign>
 
 /// The mark that begins with `<`, of what follows it.
 #[tactic(auto, unfolding(crate::specs::Marks::mark_from))]
-fn mark_with_less(others: &[Point]) -> Option<Sign>
-    ensures { result ≡ option_map sign_of (mark_from 60 (map code_of others.now)) }
+fn mark_with_less<T: Source>(others: T) -> Option<Sign>
+    ensures { result ≡ option_map sign_of (mark_from 60 (map code_of (T.points others))) }
 {
     if begins(others, b"!--") {
         return None;
@@ -46,8 +45,8 @@ fn mark_with_less(others: &[Point]) -> Option<Sign>
 
 /// The mark that begins with `>`, of what follows it.
 #[tactic(auto, unfolding(crate::specs::Marks::mark_from))]
-fn mark_with_greater(others: &[Point]) -> Option<Sign>
-    ensures { result ≡ option_map sign_of (mark_from 62 (map code_of others.now)) }
+fn mark_with_greater<T: Source>(others: T) -> Option<Sign>
+    ensures { result ≡ option_map sign_of (mark_from 62 (map code_of (T.points others))) }
 {
     if begins(others, b">>=") {
         return found(mark::UNSIGNED_RIGHT_SHIFT_ASSIGN, 4);
@@ -69,8 +68,8 @@ fn mark_with_greater(others: &[Point]) -> Option<Sign>
 
 /// The mark that begins with `=`, of what follows it.
 #[tactic(auto, unfolding(crate::specs::Marks::mark_from))]
-fn mark_with_equals(others: &[Point]) -> Option<Sign>
-    ensures { result ≡ option_map sign_of (mark_from 61 (map code_of others.now)) }
+fn mark_with_equals<T: Source>(others: T) -> Option<Sign>
+    ensures { result ≡ option_map sign_of (mark_from 61 (map code_of (T.points others))) }
 {
     if begins(others, b"==") {
         return found(mark::STRICT_EQUAL, 3);
@@ -86,8 +85,8 @@ fn mark_with_equals(others: &[Point]) -> Option<Sign>
 
 /// The mark that begins with `!`, of what follows it.
 #[tactic(auto, unfolding(crate::specs::Marks::mark_from))]
-fn mark_with_bang(others: &[Point]) -> Option<Sign>
-    ensures { result ≡ option_map sign_of (mark_from 33 (map code_of others.now)) }
+fn mark_with_bang<T: Source>(others: T) -> Option<Sign>
+    ensures { result ≡ option_map sign_of (mark_from 33 (map code_of (T.points others))) }
 {
     if begins(others, b"==") {
         return found(mark::STRICT_NOT_EQUAL, 3);
@@ -100,8 +99,8 @@ fn mark_with_bang(others: &[Point]) -> Option<Sign>
 
 /// The mark that begins with `+`, of what follows it.
 #[tactic(auto, unfolding(crate::specs::Marks::mark_from))]
-fn mark_with_plus(others: &[Point]) -> Option<Sign>
-    ensures { result ≡ option_map sign_of (mark_from 43 (map code_of others.now)) }
+fn mark_with_plus<T: Source>(others: T) -> Option<Sign>
+    ensures { result ≡ option_map sign_of (mark_from 43 (map code_of (T.points others))) }
 {
     if begins(others, b"+") {
         return found(mark::INCREMENT, 2);
@@ -114,8 +113,8 @@ fn mark_with_plus(others: &[Point]) -> Option<Sign>
 
 /// The mark that begins with `-`, of what follows it.
 #[tactic(auto, unfolding(crate::specs::Marks::mark_from))]
-fn mark_with_minus(others: &[Point]) -> Option<Sign>
-    ensures { result ≡ option_map sign_of (mark_from 45 (map code_of others.now)) }
+fn mark_with_minus<T: Source>(others: T) -> Option<Sign>
+    ensures { result ≡ option_map sign_of (mark_from 45 (map code_of (T.points others))) }
 {
     if begins(others, b"-") {
         return found(mark::DECREMENT, 2);
@@ -128,8 +127,8 @@ fn mark_with_minus(others: &[Point]) -> Option<Sign>
 
 /// The mark that begins with `*`, of what follows it.
 #[tactic(auto, unfolding(crate::specs::Marks::mark_from))]
-fn mark_with_star(others: &[Point]) -> Option<Sign>
-    ensures { result ≡ option_map sign_of (mark_from 42 (map code_of others.now)) }
+fn mark_with_star<T: Source>(others: T) -> Option<Sign>
+    ensures { result ≡ option_map sign_of (mark_from 42 (map code_of (T.points others))) }
 {
     if begins(others, b"*=") {
         return found(mark::POWER_ASSIGN, 3);
@@ -145,8 +144,8 @@ fn mark_with_star(others: &[Point]) -> Option<Sign>
 
 /// The mark that begins with `/`, of what follows it.
 #[tactic(auto, unfolding(crate::specs::Marks::mark_from))]
-fn mark_with_slash(others: &[Point]) -> Option<Sign>
-    ensures { result ≡ option_map sign_of (mark_from 47 (map code_of others.now)) }
+fn mark_with_slash<T: Source>(others: T) -> Option<Sign>
+    ensures { result ≡ option_map sign_of (mark_from 47 (map code_of (T.points others))) }
 {
     if begins(others, b"*") {
         return None;
@@ -159,8 +158,8 @@ fn mark_with_slash(others: &[Point]) -> Option<Sign>
 
 /// The mark that begins with `%`, of what follows it.
 #[tactic(auto, unfolding(crate::specs::Marks::mark_from))]
-fn mark_with_percent(others: &[Point]) -> Option<Sign>
-    ensures { result ≡ option_map sign_of (mark_from 37 (map code_of others.now)) }
+fn mark_with_percent<T: Source>(others: T) -> Option<Sign>
+    ensures { result ≡ option_map sign_of (mark_from 37 (map code_of (T.points others))) }
 {
     if begins(others, b"=") {
         return found(mark::REMAINDER_ASSIGN, 2);
@@ -170,8 +169,8 @@ fn mark_with_percent(others: &[Point]) -> Option<Sign>
 
 /// The mark that begins with `&`, of what follows it.
 #[tactic(auto, unfolding(crate::specs::Marks::mark_from))]
-fn mark_with_ampersand(others: &[Point]) -> Option<Sign>
-    ensures { result ≡ option_map sign_of (mark_from 38 (map code_of others.now)) }
+fn mark_with_ampersand<T: Source>(others: T) -> Option<Sign>
+    ensures { result ≡ option_map sign_of (mark_from 38 (map code_of (T.points others))) }
 {
     if begins(others, b"&=") {
         return found(mark::AND_ASSIGN, 3);
@@ -187,8 +186,8 @@ fn mark_with_ampersand(others: &[Point]) -> Option<Sign>
 
 /// The mark that begins with `|`, of what follows it.
 #[tactic(auto, unfolding(crate::specs::Marks::mark_from))]
-fn mark_with_bar(others: &[Point]) -> Option<Sign>
-    ensures { result ≡ option_map sign_of (mark_from 124 (map code_of others.now)) }
+fn mark_with_bar<T: Source>(others: T) -> Option<Sign>
+    ensures { result ≡ option_map sign_of (mark_from 124 (map code_of (T.points others))) }
 {
     if begins(others, b"|=") {
         return found(mark::OR_ASSIGN, 3);
@@ -204,8 +203,8 @@ fn mark_with_bar(others: &[Point]) -> Option<Sign>
 
 /// The mark that begins with `^`, of what follows it.
 #[tactic(auto, unfolding(crate::specs::Marks::mark_from))]
-fn mark_with_caret(others: &[Point]) -> Option<Sign>
-    ensures { result ≡ option_map sign_of (mark_from 94 (map code_of others.now)) }
+fn mark_with_caret<T: Source>(others: T) -> Option<Sign>
+    ensures { result ≡ option_map sign_of (mark_from 94 (map code_of (T.points others))) }
 {
     if begins(others, b"=") {
         return found(mark::BIT_XOR_ASSIGN, 2);
@@ -215,8 +214,8 @@ fn mark_with_caret(others: &[Point]) -> Option<Sign>
 
 /// The mark that begins with `?`, of what follows it.
 #[tactic(auto, unfolding(crate::specs::Marks::mark_from))]
-fn mark_with_question(others: &[Point]) -> Option<Sign>
-    ensures { result ≡ option_map sign_of (mark_from 63 (map code_of others.now)) }
+fn mark_with_question<T: Source>(others: T) -> Option<Sign>
+    ensures { result ≡ option_map sign_of (mark_from 63 (map code_of (T.points others))) }
 {
     if begins(others, b"?=") {
         return found(mark::COALESCE_ASSIGN, 3);
@@ -224,7 +223,7 @@ fn mark_with_question(others: &[Point]) -> Option<Sign>
     if begins(others, b"?") {
         return found(mark::COALESCE, 2);
     }
-    if begins(others, b".") && !begins_with_digit(behind(others, 1)) {
+    if begins(others, b".") && !begins_with_digit(others.behind(1)) {
         return found(mark::OPTIONAL_DOT, 2);
     }
     found(mark::QUESTION, 1)
@@ -232,8 +231,8 @@ fn mark_with_question(others: &[Point]) -> Option<Sign>
 
 /// The mark that begins with `.`, of what follows it.
 #[tactic(auto, unfolding(crate::specs::Marks::mark_from))]
-fn mark_with_dot(others: &[Point]) -> Option<Sign>
-    ensures { result ≡ option_map sign_of (mark_from 46 (map code_of others.now)) }
+fn mark_with_dot<T: Source>(others: T) -> Option<Sign>
+    ensures { result ≡ option_map sign_of (mark_from 46 (map code_of (T.points others))) }
 {
     if begins(others, b"..") {
         return found(mark::ELLIPSIS, 3);
@@ -245,19 +244,19 @@ fn mark_with_dot(others: &[Point]) -> Option<Sign>
 }
 
 /// The longest mark at the front of a text, if there is one.
-pub fn mark_at(rest: &[Point]) -> Option<Sign>
-    ensures value { result ≡ option_map sign_of (mark_at (map code_of rest.now)) }
-    ensures within { IfSome result (λ sign. (0 < sign.length) × (sign.length ≤ length rest.now)) }
+pub fn mark_at<T: Source>(rest: T) -> Option<Sign>
+    ensures value { result ≡ option_map sign_of (mark_at (map code_of (T.points rest))) }
+    ensures within { IfSome result (λ sign. (0 < sign.length) × (sign.length ≤ length (T.points rest))) }
 {
     match rest.split_first() {
         None => None,
-        Some((first, others)) => mark_with(first.code, others),
+        Some((first, _)) => mark_with(first.code, rest.behind(1)),
     }
 }
 
 /// The same, of a text that begins with this code point.
-fn mark_with(first: char, others: &[Point]) -> Option<Sign>
-    ensures { result ≡ option_map sign_of (mark_from first (map code_of others.now)) }
+fn mark_with<T: Source>(first: char, others: T) -> Option<Sign>
+    ensures { result ≡ option_map sign_of (mark_from first (map code_of (T.points others))) }
 {
     match first {
         '{' => found(mark::OPEN_BRACE, 1),

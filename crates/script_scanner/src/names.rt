@@ -4,8 +4,8 @@ ghost use Rattle.std.specs.List.{prefix_len};
 ghost use Rattle.unit_text.specs.Points.{code_of};
 ghost use Rattle.script_scanner.specs.Names.{is_name_start, is_name_part, name_length};
 
+use crate::sources::Source;
 use parser_atoms::{EMPTY_DIGEST, digest_with};
-use unit_text::Point;
 
 /// Whether a name may begin with a code point (ECMA-262, 12th edition, clause 12.6: IdentifierStartChar).
 #[tactic(auto, using(crate::proofs::NameLemmas::start_ascii, crate::proofs::NameLemmas::start_other))]
@@ -43,35 +43,6 @@ pub fn is_name_part(code: char) -> bool
     }
 }
 
-fn points_in_name(rest: &[Point]) -> usize
-    ensures value { result ≡ prefix_len (λ point. is_name_part point.code) rest.now }
-    ensures within { result ≤ length rest.now }
-{
-    rest.iter()
-        .take_while(|point| is_name_part(point.code))
-        .count()
-}
-
-fn parts_length(rest: &[Point]) -> usize
-    ensures value { result ≡ prefix_len is_name_part (map code_of rest.now) }
-    ensures within { result ≤ length rest.now }
-{
-    points_in_name(rest)
-}
-
-/// How many code points the name takes that begins with the first one.
-pub fn name_length(rest: &[Point]) -> usize
-    requires { 0 < length rest.now }
-    ensures value { result ≡ name_length (map code_of rest.now) }
-    ensures positive { 0 < result }
-    ensures within { result ≤ length rest.now }
-{
-    match rest.split_first() {
-        None => 0,
-        Some((_, others)) => 1 + parts_length(others),
-    }
-}
-
 /// A name at the front of points: how many code points it takes, and the digest of its text.
 #[derive(Clone, Copy, Debug, PartialEq, Eq)]
 pub struct SpelledName {
@@ -82,16 +53,21 @@ pub struct SpelledName {
 }
 
 /// The name that begins with the first code point.
-pub fn spelled_name(rest: &[Point]) -> SpelledName
-    requires { 0 < length rest.now }
-    ensures value { result.length ≡ 1 + prefix_len (λ point. is_name_part point.code) (drop 1 rest.now) }
+#[tactic(auto, using(crate::proofs::NameLemmas::name_begins, crate::proofs::Lists::prefix_more, crate::proofs::Lists::prefix_stops, crate::proofs::Lists::prefix_ends))]
+pub fn spelled_name<T: Source>(rest: T) -> SpelledName
+    requires { 0 < length (T.points rest) }
+    ensures value { result.length ≡ name_length (map code_of (T.points rest)) }
     ensures positive { 0 < result.length }
-    ensures within { result.length ≤ length rest.now }
+    ensures within { result.length ≤ length (T.points rest) }
 {
     let mut length = 1;
-    let mut digest = digest_with(EMPTY_DIGEST, rest[0].code as u32);
-    while length < rest.len() && is_name_part(rest[length].code) {
-        digest = digest_with(digest, rest[length].code as u32);
+    let mut digest = digest_with(EMPTY_DIGEST, rest.point_at(0).code as u32);
+    while length < rest.count() {
+        let code = rest.point_at(length).code;
+        if !is_name_part(code) {
+            break;
+        }
+        digest = digest_with(digest, code as u32);
         length += 1;
     }
     SpelledName { length, digest }

@@ -4,8 +4,7 @@ ghost use Rattle.unit_text.specs.Points.{code_of};
 ghost use Rattle.script_scanner.specs.Numbers.{digit_length, more_digits, digits_value, with_digit, radix_of, with_radix, after_zero, numeral_at, is_spoiled_by, zero_literal};
 
 use crate::names::is_name_start;
-use crate::points::{behind, front};
-use unit_text::Point;
+use crate::sources::Source;
 
 /// The greatest value of a literal: 2^53 - 1.
 const MAX_VALUE: u64 = 9_007_199_254_740_991;
@@ -23,11 +22,11 @@ pub struct Numeral {
 
 /// How many code points one more digit takes, with the `_` before it; 0 where none follows.
 #[inline]
-fn digit_length(rest: &[Point], radix: u32) -> usize
+fn digit_length<T: Source>(rest: T, radix: u32) -> usize
     requires low { 2 ≤ radix }
     requires high { radix ≤ 36 }
-    ensures value { result ≡ digit_length radix (map code_of rest.now) }
-    ensures within { result ≤ length rest.now }
+    ensures value { result ≡ digit_length radix (map code_of (T.points rest)) }
+    ensures within { result ≤ length (T.points rest) }
 {
     match rest.split_first() {
         None => 0,
@@ -51,15 +50,15 @@ fn digit_length(rest: &[Point], radix: u32) -> usize
 
 /// How many code points the digits take that follow a digit.
 #[inline]
-fn more_digits(rest: &[Point], radix: u32) -> usize
+fn more_digits<T: Source>(rest: T, radix: u32) -> usize
     requires low { 2 ≤ radix }
     requires high { radix ≤ 36 }
-    ensures value { result ≡ more_digits radix (map code_of rest.now) }
-    ensures within { result ≤ length rest.now }
+    ensures value { result ≡ more_digits radix (map code_of (T.points rest)) }
+    ensures within { result ≤ length (T.points rest) }
 {
     let mut at = 0;
-    while at < rest.len() {
-        let taken = digit_length(behind(rest, at), radix);
+    while at < rest.count() {
+        let taken = digit_length(rest.behind(at), radix);
         if taken == 0 {
             return at;
         }
@@ -84,14 +83,15 @@ fn with_digit(value: u64, radix: u32, code: char) -> u64
 
 /// The value of digits, if it is at most 2^53 - 1.
 #[inline]
-pub fn digits_value(digits: &[Point], radix: u32) -> Option<u64>
+#[tactic(auto, using(crate::proofs::NumberLemmas::value_next, crate::proofs::NumberLemmas::value_all))]
+pub fn digits_value<T: Source>(digits: T, radix: u32) -> Option<u64>
     requires low { 2 ≤ radix }
     requires high { radix ≤ 36 }
-    ensures { result ≡ digits_value radix (map code_of digits.now) }
+    ensures { result ≡ digits_value radix (map code_of (T.points digits)) }
 {
     let mut value = 0;
-    for point in digits {
-        value = with_digit(value, radix, point.code);
+    for at in 0..digits.count() {
+        value = with_digit(value, radix, digits.point_at(at).code);
         if value > MAX_VALUE {
             return None;
         }
@@ -128,12 +128,12 @@ fn zero_literal() -> Numeral
 
 /// A literal of this base, of what follows `0` and a letter, or the `0` alone.
 #[tactic(auto, using(crate::proofs::Lists::map_take))]
-fn with_radix(radix: u32, rest: &[Point]) -> Numeral
+fn with_radix<T: Source>(radix: u32, rest: T) -> Numeral
     requires low { 2 ≤ radix }
     requires high { radix ≤ 36 }
-    ensures value { result ≡ with_radix (Some radix) (map code_of rest.now) }
+    ensures value { result ≡ with_radix (Some radix) (map code_of (T.points rest)) }
     ensures positive { 0 < result.length }
-    ensures within { result.length ≤ 2 + length rest.now }
+    ensures within { result.length ≤ 2 + length (T.points rest) }
 {
     match rest.split_first() {
         None => zero_literal(),
@@ -144,7 +144,7 @@ fn with_radix(radix: u32, rest: &[Point]) -> Numeral
             let more = more_digits(others, radix);
             Numeral {
                 length: 3 + more,
-                value: digits_value(front(rest, 1 + more), radix),
+                value: digits_value(rest.front(1 + more), radix),
                 is_decimal: false,
             }
         }
@@ -152,10 +152,10 @@ fn with_radix(radix: u32, rest: &[Point]) -> Numeral
 }
 
 /// The literal that begins with `0`, of what follows it.
-fn after_zero(rest: &[Point]) -> Numeral
-    ensures value { result ≡ after_zero (map code_of rest.now) }
+fn after_zero<T: Source>(rest: T) -> Numeral
+    ensures value { result ≡ after_zero (map code_of (T.points rest)) }
     ensures positive { 0 < result.length }
-    ensures within { result.length ≤ 1 + length rest.now }
+    ensures within { result.length ≤ 1 + length (T.points rest) }
 {
     match rest.split_first() {
         None => zero_literal(),
@@ -168,11 +168,11 @@ fn after_zero(rest: &[Point]) -> Numeral
 
 /// The literal at the front of points that begin with a decimal digit.
 #[tactic(auto, using(crate::proofs::Lists::map_take))]
-pub fn numeral_at(rest: &[Point]) -> Numeral
-    requires { 0 < length rest.now }
-    ensures value { result ≡ numeral_at (map code_of rest.now) }
+pub fn numeral_at<T: Source>(rest: T) -> Numeral
+    requires { 0 < length (T.points rest) }
+    ensures value { result ≡ numeral_at (map code_of (T.points rest)) }
     ensures positive { 0 < result.length }
-    ensures within { result.length ≤ length rest.now }
+    ensures within { result.length ≤ length (T.points rest) }
 {
     match rest.split_first() {
         None => zero_literal(),
@@ -183,7 +183,7 @@ pub fn numeral_at(rest: &[Point]) -> Numeral
             let more = more_digits(others, 10);
             Numeral {
                 length: 1 + more,
-                value: digits_value(front(rest, 1 + more), 10),
+                value: digits_value(rest.front(1 + more), 10),
                 is_decimal: true,
             }
         }
@@ -191,8 +191,8 @@ pub fn numeral_at(rest: &[Point]) -> Numeral
 }
 
 /// Whether what follows a literal directly spoils it.
-pub fn is_spoiled_by(is_decimal: bool, rest: &[Point]) -> bool
-    ensures { result ≡ is_spoiled_by is_decimal (map code_of rest.now) }
+pub fn is_spoiled_by<T: Source>(is_decimal: bool, rest: T) -> bool
+    ensures { result ≡ is_spoiled_by is_decimal (map code_of (T.points rest)) }
 {
     match rest.split_first() {
         None => false,

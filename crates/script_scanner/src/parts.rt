@@ -8,9 +8,9 @@ ghost use Rattle.script_scanner.specs.Reads.{ReadsBody};
 
 use crate::blanks::{begins, line_end_length};
 use crate::escapes::{Step, escape_step};
-use crate::points::behind;
+use crate::sources::Source;
 use std::alloc::AllocError;
-use unit_text::{Point, units_of_value};
+use unit_text::units_of_value;
 
 /// How a string or a template part ends.
 #[derive(Clone, Copy, Debug, PartialEq, Eq)]
@@ -32,9 +32,9 @@ pub struct Extent {
 
 /// What the code points at the front of a string's rest do.
 #[inline]
-fn string_step(quote: char, rest: &[Point]) -> Step
-    ensures value { result ≡ string_step quote (map code_of rest.now) }
-    ensures fits { StepFits (length rest.now) result }
+fn string_step<T: Source>(quote: char, rest: T) -> Step
+    ensures value { result ≡ string_step quote (map code_of (T.points rest)) }
+    ensures fits { StepFits (length (T.points rest)) result }
 {
     match rest.split_first() {
         None => Step::Break,
@@ -57,9 +57,9 @@ fn string_step(quote: char, rest: &[Point]) -> Step
 }
 
 /// What the code points at the front of a template part's rest do.
-fn template_step(rest: &[Point]) -> Step
-    ensures value { result ≡ template_step (map code_of rest.now) }
-    ensures fits { StepFits (length rest.now) result }
+fn template_step<T: Source>(rest: T) -> Step
+    ensures value { result ≡ template_step (map code_of (T.points rest)) }
+    ensures fits { StepFits (length (T.points rest)) result }
 {
     match rest.split_first() {
         None => Step::Break,
@@ -88,9 +88,9 @@ fn template_step(rest: &[Point]) -> Step
 
 /// The steps of a string or of a template part.
 #[inline]
-fn step_at(ending: Ending, rest: &[Point]) -> Step
-    ensures value { result ≡ step_at ending (map code_of rest.now) }
-    ensures fits { StepFits (length rest.now) result }
+fn step_at<T: Source>(ending: Ending, rest: T) -> Step
+    ensures value { result ≡ step_at ending (map code_of (T.points rest)) }
+    ensures fits { StepFits (length (T.points rest)) result }
 {
     match ending {
         Ending::Quote(quote) => string_step(quote, rest),
@@ -123,18 +123,19 @@ fn push_units(units: &mut Vec<u16>, code: u32) -> Result<(), AllocError>
 }
 
 /// Reads a string or a template part after what begins it, and leaves its units in the buffer.
-pub fn read_body(
+pub fn read_body<T: Source>(
     ending: Ending,
-    rest: &[Point],
+    rest: T,
     units: &mut Vec<u16>,
 ) -> Result<Option<Extent>, AllocError>
-    ensures value { IfOk result (λ extent. ReadsBody (body_of ending (map code_of rest.now)) extent units.new.items) }
-    ensures within { IfOk result (λ o. IfSome o (λ extent. extent.inner + extent.closing ≤ length rest.now)) }
+    ensures value { IfOk result (λ extent. ReadsBody (body_of ending (map code_of (T.points rest))) extent units.new.items) }
+    ensures within { IfOk result (λ o. IfSome o (λ extent. extent.inner + extent.closing ≤ length (T.points rest))) }
+    ensures few { IfOk result (λ o. IfSome o (λ extent. extent.inner + extent.closing ≤ 9223372036854775807)) }
 {
     units.clear();
     let mut at = 0;
-    while at < rest.len() {
-        match step_at(ending, behind(rest, at)) {
+    while at < rest.count() {
+        match step_at(ending, rest.behind(at)) {
             Step::Add { code, length } => {
                 push_code(units, code)?;
                 at += length;

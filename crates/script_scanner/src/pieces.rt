@@ -9,14 +9,13 @@ ghost use Rattle.script_scanner.specs.Tokens.{name_kind, name_piece, number_piec
 ghost use Rattle.script_scanner.specs.Reads.{FindsPiece};
 
 use crate::marks::mark_at;
-use crate::names::{is_name_start, name_length};
+use crate::names::{is_name_start, spelled_name};
 use crate::numbers::{is_spoiled_by, numeral_at};
 use crate::parts::{Ending, push_code, read_body};
-use crate::points::{behind, front};
+use crate::sources::Source;
 use crate::words::word_at;
 use script_grammar::token::Kind;
 use std::alloc::AllocError;
-use unit_text::Point;
 
 /// What a token has beside its kind.
 #[derive(Clone, Copy, Debug, PartialEq, Eq)]
@@ -41,11 +40,11 @@ pub struct FoundToken {
 }
 
 /// Appends the units of code points.
-fn push_points(units: &mut Vec<u16>, points: &[Point]) -> Result<(), AllocError>
-    ensures { OnOk result (units.new.items ≡ units.old.items ++ text_units (map code_of points.now)) }
+fn push_points<T: Source>(units: &mut Vec<u16>, points: T) -> Result<(), AllocError>
+    ensures { OnOk result (units.new.items ≡ units.old.items ++ text_units (map code_of (T.points points))) }
 {
-    for point in points {
-        push_code(units, point.code as u32)?;
+    for at in 0..points.count() {
+        push_code(units, points.point_at(at).code as u32)?;
     }
     Ok(())
 }
@@ -61,14 +60,14 @@ pub fn kind_of_name(word: Option<u8>) -> Kind
 }
 
 /// The name or word at the front.
-fn name_piece(rest: &[Point], units: &mut Vec<u16>) -> Result<FoundToken, AllocError>
-    requires { 0 < length rest.now }
-    ensures value { IfOk result (λ found. FindsPiece (Some (name_piece (map code_of rest.now))) (Some found) units.new.items) }
-    ensures within { IfOk result (λ found. (0 < found.length) × (found.length ≤ length rest.now)) }
+fn name_piece<T: Source>(rest: T, units: &mut Vec<u16>) -> Result<FoundToken, AllocError>
+    requires { 0 < length (T.points rest) }
+    ensures value { IfOk result (λ found. FindsPiece (Some (name_piece (map code_of (T.points rest)))) (Some found) units.new.items) }
+    ensures within { IfOk result (λ found. (0 < found.length) × (found.length ≤ length (T.points rest))) }
 {
-    let length = name_length(rest);
+    let length = spelled_name(rest).length;
     units.clear();
-    push_points(units, front(rest, length))?;
+    push_points(units, rest.front(length))?;
     Ok(FoundToken {
         kind: kind_of_name(word_at(units.as_slice())),
         content: Content::Units,
@@ -77,13 +76,13 @@ fn name_piece(rest: &[Point], units: &mut Vec<u16>) -> Result<FoundToken, AllocE
 }
 
 /// The number at the front, where digits begin.
-fn number_piece(rest: &[Point]) -> Option<FoundToken>
-    requires { 0 < length rest.now }
-    ensures value { (units : List ℕ) → FindsPiece (number_piece (numeral_at (map code_of rest.now)) (map code_of rest.now)) result units }
-    ensures within { IfSome result (λ found. (0 < found.length) × (found.length ≤ length rest.now)) }
+fn number_piece<T: Source>(rest: T) -> Option<FoundToken>
+    requires { 0 < length (T.points rest) }
+    ensures value { (units : List ℕ) → FindsPiece (number_piece (numeral_at (map code_of (T.points rest))) (map code_of (T.points rest))) result units }
+    ensures within { IfSome result (λ found. (0 < found.length) × (found.length ≤ length (T.points rest))) }
 {
     let numeral = numeral_at(rest);
-    if is_spoiled_by(numeral.is_decimal, behind(rest, numeral.length)) {
+    if is_spoiled_by(numeral.is_decimal, rest.behind(numeral.length)) {
         return None;
     }
     match numeral.value {
@@ -97,13 +96,13 @@ fn number_piece(rest: &[Point]) -> Option<FoundToken>
 }
 
 /// The string after its quote.
-fn string_piece(
+fn string_piece<T: Source>(
     quote: char,
-    others: &[Point],
+    others: T,
     units: &mut Vec<u16>,
 ) -> Result<Option<FoundToken>, AllocError>
-    ensures value { IfOk result (λ found. FindsPiece (string_piece (body_of (Ending.Quote quote) (map code_of others.now))) found units.new.items) }
-    ensures within { IfOk result (λ o. IfSome o (λ found. (0 < found.length) × (found.length ≤ 1 + length others.now))) }
+    ensures value { IfOk result (λ found. FindsPiece (string_piece (body_of (Ending.Quote quote) (map code_of (T.points others)))) found units.new.items) }
+    ensures within { IfOk result (λ o. IfSome o (λ found. (0 < found.length) × (found.length ≤ 1 + length (T.points others)))) }
 {
     match read_body(Ending::Quote(quote), others, units)? {
         None => Ok(None),
@@ -116,14 +115,14 @@ fn string_piece(
 }
 
 /// The part of a template after what begins it: of the one kind where a backquote ends it, of the other where `${` does.
-fn template_piece(
+fn template_piece<T: Source>(
     whole: Kind,
     head: Kind,
-    others: &[Point],
+    others: T,
     units: &mut Vec<u16>,
 ) -> Result<Option<FoundToken>, AllocError>
-    ensures value { IfOk result (λ found. FindsPiece (template_piece whole head (body_of Ending.Template (map code_of others.now))) found units.new.items) }
-    ensures within { IfOk result (λ o. IfSome o (λ found. (0 < found.length) × (found.length ≤ 1 + length others.now))) }
+    ensures value { IfOk result (λ found. FindsPiece (template_piece whole head (body_of Ending.Template (map code_of (T.points others)))) found units.new.items) }
+    ensures within { IfOk result (λ o. IfSome o (λ found. (0 < found.length) × (found.length ≤ 1 + length (T.points others)))) }
 {
     match read_body(Ending::Template, others, units)? {
         None => Ok(None),
@@ -136,9 +135,9 @@ fn template_piece(
 }
 
 /// The mark at the front.
-fn mark_piece(rest: &[Point]) -> Option<FoundToken>
-    ensures value { (units : List ℕ) → FindsPiece (mark_piece (mark_at (map code_of rest.now))) result units }
-    ensures within { IfSome result (λ found. (0 < found.length) × (found.length ≤ length rest.now)) }
+fn mark_piece<T: Source>(rest: T) -> Option<FoundToken>
+    ensures value { (units : List ℕ) → FindsPiece (mark_piece (mark_at (map code_of (T.points rest)))) result units }
+    ensures within { IfSome result (λ found. (0 < found.length) × (found.length ≤ length (T.points rest))) }
 {
     match mark_at(rest) {
         None => None,
@@ -151,18 +150,19 @@ fn mark_piece(rest: &[Point]) -> Option<FoundToken>
 }
 
 /// The longest token at the front of points that are no blank; its units are left in the buffer.
-pub fn token_at(
-    rest: &[Point],
+pub fn token_at<T: Source>(
+    rest: T,
     in_template: bool,
     units: &mut Vec<u16>,
 ) -> Result<Option<FoundToken>, AllocError>
-    ensures value { IfOk result (λ found. FindsPiece (token_at in_template (map code_of rest.now)) found units.new.items) }
-    ensures within { IfOk result (λ o. IfSome o (λ found. (0 < found.length) × (found.length ≤ length rest.now))) }
+    ensures value { IfOk result (λ found. FindsPiece (token_at in_template (map code_of (T.points rest))) found units.new.items) }
+    ensures within { IfOk result (λ o. IfSome o (λ found. (0 < found.length) × (found.length ≤ length (T.points rest)))) }
 {
     match rest.split_first() {
         None => Ok(None),
-        Some((first, others)) => {
+        Some((first, _)) => {
             let code = first.code;
+            let others = rest.behind(1);
             if is_name_start(code) {
                 let found = name_piece(rest, units)?;
                 Ok(Some(found))

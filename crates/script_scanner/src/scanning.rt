@@ -1,6 +1,7 @@
 //! The tokens of a text, one after the other.
 ghost use Rattle.std.specs.Prelude.{◌≡◌, ◌≤◌, ◌<◌, ◌+◌, ◌-◌, ◌^◌, ◌++◌, ℕ, suc, List, [], true, false, nat_lt, length, map, drop, IfOk, OnOk, OnErr, Some, None, ◌∷◌};
-ghost use Rattle.unit_text.specs.Points.{code_of, LieEndToEnd};
+ghost use Rattle.std.specs.Str.{IsAscii, chars};
+ghost use Rattle.unit_text.specs.Points.{code_of, points_from, LieEndToEnd};
 ghost use Rattle.std.specs.List.Sorted.{IsPartitionPoint, IsNonDecreasingBy};
 ghost use Rattle.script_scanner.specs.Order.{AreInOrder};
 ghost use Rattle.script_scanner.specs.Braces.{in_substitution};
@@ -17,15 +18,15 @@ use crate::braces::Brace;
 use crate::fronts::{Front, front_at};
 use crate::known_names::{KnownName, known_name};
 use crate::pieces::{Content, FoundToken, token_at};
-use crate::points::{behind, front};
+use crate::sources::{ByteSource, Source};
 use parser_atoms::Atoms;
 use script_grammar::token::{Kind, Token, mark};
 use std::alloc::{AllocError, Global};
 use unit_text::Point;
 
 /// The offset at which points begin, of a part of a text that ends at `to`.
-fn place(to: u32, rest: &[Point]) -> u32
-    ensures { result ≡ place to rest.now }
+fn place<T: Source>(to: u32, rest: T) -> u32
+    ensures { result ≡ place to (T.points rest) }
 {
     match rest.split_first() {
         None => to,
@@ -103,8 +104,8 @@ fn value_of(
 }
 
 /// The last token.
-fn last_token(rest: &[Point], to: u32, after_line: bool) -> Token
-    ensures { (texts : List (List ℕ)) → StandsFor texts result (last_token to after_line rest.now) }
+fn last_token<T: Source>(rest: T, to: u32, after_line: bool) -> Token
+    ensures { (texts : List (List ℕ)) → StandsFor texts result (last_token to after_line (T.points rest)) }
 {
     match rest.split_first() {
         None => Token {
@@ -150,18 +151,18 @@ impl Scanner {
     }
 
     /// Takes the token that was found, whose units are in the buffer; answers how many code points it takes.
-    fn take(
+    fn take<T: Source>(
         &mut self,
         alloc: Global,
         found: FoundToken,
-        rest: &[Point],
+        rest: T,
         to: u32,
         atoms: &mut Atoms,
     ) -> Result<usize, AllocError>
         requires few { length atoms.old < 2 ^ 32 - 1 }
-        requires within { found.length ≤ length rest.now }
+        requires within { found.length ≤ length (T.points rest) }
         ensures taken { IfOk result (λ taken. taken ≡ found.length) }
-        ensures value { OnOk result (TakesToken to rest.now found self.old self.new atoms.old atoms.new) }
+        ensures value { OnOk result (TakesToken to (T.points rest) found self.old self.new atoms.old atoms.new) }
         ensures keeps { Keeps atoms.old atoms.new }
     {
         let value = value_of(alloc, found.content, self.units.as_slice(), atoms)?;
@@ -169,7 +170,7 @@ impl Scanner {
             kind: found.kind,
             value,
             start: place(to, rest),
-            end: place(to, behind(rest, found.length)),
+            end: place(to, rest.behind(found.length)),
             after_line: self.after_line,
         })?;
         update_braces(&mut self.braces, found.kind)?;
@@ -178,9 +179,9 @@ impl Scanner {
     }
 
     /// Takes the last token.
-    fn finish(&mut self, rest: &[Point], to: u32) -> Result<usize, AllocError>
+    fn finish<T: Source>(&mut self, rest: T, to: u32) -> Result<usize, AllocError>
         ensures taken { IfOk result (λ taken. taken ≡ 0) }
-        ensures value { OnOk result (EndsWith (last_token to self.old.after_line rest.now) self.old.tokens.items self.new.tokens.items) }
+        ensures value { OnOk result (EndsWith (last_token to self.old.after_line (T.points rest)) self.old.tokens.items self.new.tokens.items) }
     {
         self.tokens.push(last_token(rest, to, self.after_line))?;
         Ok(0)
@@ -188,16 +189,21 @@ impl Scanner {
 
     /// Takes the name that was found with its atom; answers how many code points it takes.
     #[inline]
-    fn take_name(&mut self, known: KnownName, rest: &[Point], to: u32) -> Result<usize, AllocError>
-        requires { known.length ≤ length rest.now }
+    fn take_name<T: Source>(
+        &mut self,
+        known: KnownName,
+        rest: T,
+        to: u32,
+    ) -> Result<usize, AllocError>
+        requires { known.length ≤ length (T.points rest) }
         ensures taken { IfOk result (λ taken. taken ≡ known.length) }
-        ensures value { OnOk result (TakesName to rest.now known self.old self.new) }
+        ensures value { OnOk result (TakesName to (T.points rest) known self.old self.new) }
     {
         self.tokens.push(Token {
             kind: known.kind,
             value: u64::from(known.atom),
             start: place(to, rest),
-            end: place(to, behind(rest, known.length)),
+            end: place(to, rest.behind(known.length)),
             after_line: self.after_line,
         })?;
         self.after_line = false;
@@ -206,17 +212,17 @@ impl Scanner {
 
     /// Takes a token at the front, of whatever kind; answers how many code points that is, and 0 after the last token.
     #[inline(never)]
-    fn take_any(
+    fn take_any<T: Source>(
         &mut self,
         alloc: Global,
-        rest: &[Point],
+        rest: T,
         to: u32,
         atoms: &mut Atoms,
     ) -> Result<usize, AllocError>
         requires few { length atoms.old < 2 ^ 32 - 1 }
-        requires bare { blank_at (map code_of rest.now) ≡ None }
-        ensures value { IfOk result (Advances to rest.now self.old self.new atoms.old atoms.new) }
-        ensures within { IfOk result (λ taken. taken ≤ length rest.now) }
+        requires bare { blank_at (map code_of (T.points rest)) ≡ None }
+        ensures value { IfOk result (Advances to (T.points rest) self.old self.new atoms.old atoms.new) }
+        ensures within { IfOk result (λ taken. taken ≤ length (T.points rest)) }
         ensures keeps { Keeps atoms.old atoms.new }
     {
         match token_at(
@@ -238,19 +244,19 @@ impl Scanner {
     /// Takes the name or word at the front; answers how many code points that is. Its text has an atom most often, and then it has a
     /// shorter way.
     #[inline]
-    fn take_word(
+    fn take_word<T: Source>(
         &mut self,
         alloc: Global,
-        rest: &[Point],
+        rest: T,
         to: u32,
         atoms: &mut Atoms,
     ) -> Result<usize, AllocError>
         requires few { length atoms.old < 2 ^ 32 - 1 }
-        requires bare { blank_at (map code_of rest.now) ≡ None }
-        requires begins { BeginsName (map code_of rest.now) }
-        requires some { 0 < length rest.now }
-        ensures value { IfOk result (Advances to rest.now self.old self.new atoms.old atoms.new) }
-        ensures within { IfOk result (λ taken. taken ≤ length rest.now) }
+        requires bare { blank_at (map code_of (T.points rest)) ≡ None }
+        requires begins { BeginsName (map code_of (T.points rest)) }
+        requires some { 0 < length (T.points rest) }
+        ensures value { IfOk result (Advances to (T.points rest) self.old self.new atoms.old atoms.new) }
+        ensures within { IfOk result (λ taken. taken ≤ length (T.points rest)) }
         ensures keeps { Keeps atoms.old atoms.new }
     {
         match known_name(rest, atoms) {
@@ -267,16 +273,16 @@ impl Scanner {
 
     /// Takes the mark at the front, which takes one code point: so many it answers.
     #[inline]
-    fn take_mark(&mut self, index: u8, rest: &[Point], to: u32) -> Result<usize, AllocError>
-        requires { 0 < length rest.now }
+    fn take_mark<T: Source>(&mut self, index: u8, rest: T, to: u32) -> Result<usize, AllocError>
+        requires { 0 < length (T.points rest) }
         ensures taken { IfOk result (λ taken. taken ≡ 1) }
-        ensures value { (texts : List (List ℕ)) → OnOk result (TakesToken to rest.now (found_mark index) self.old self.new texts texts) }
+        ensures value { (texts : List (List ℕ)) → OnOk result (TakesToken to (T.points rest) (found_mark index) self.old self.new texts texts) }
     {
         self.tokens.push(Token {
             kind: Kind::Mark(index),
             value: 0,
             start: place(to, rest),
-            end: place(to, behind(rest, 1)),
+            end: place(to, rest.behind(1)),
             after_line: self.after_line,
         })?;
         update_braces(&mut self.braces, Kind::Mark(index))?;
@@ -286,18 +292,18 @@ impl Scanner {
 
     /// Takes what begins with the `}` at the front; answers how many code points that is.
     #[inline]
-    fn take_close(
+    fn take_close<T: Source>(
         &mut self,
         alloc: Global,
-        rest: &[Point],
+        rest: T,
         to: u32,
         atoms: &mut Atoms,
     ) -> Result<usize, AllocError>
         requires few { length atoms.old < 2 ^ 32 - 1 }
-        requires closes { StandsAt (map code_of rest.now) Close }
-        requires some { 0 < length rest.now }
-        ensures value { IfOk result (Advances to rest.now self.old self.new atoms.old atoms.new) }
-        ensures within { IfOk result (λ taken. taken ≤ length rest.now) }
+        requires closes { StandsAt (map code_of (T.points rest)) Close }
+        requires some { 0 < length (T.points rest) }
+        ensures value { IfOk result (Advances to (T.points rest) self.old self.new atoms.old atoms.new) }
+        ensures within { IfOk result (λ taken. taken ≤ length (T.points rest)) }
         ensures keeps { Keeps atoms.old atoms.new }
     {
         if in_substitution(self.braces.as_slice()) {
@@ -311,16 +317,16 @@ impl Scanner {
 
     /// Skips a blank or takes a token at the front, of whatever kind; answers how many code points that is, and 0 after the last token.
     #[inline(never)]
-    fn step_any(
+    fn step_any<T: Source>(
         &mut self,
         alloc: Global,
-        rest: &[Point],
+        rest: T,
         to: u32,
         atoms: &mut Atoms,
     ) -> Result<usize, AllocError>
         requires { length atoms.old < 2 ^ 32 - 1 }
-        ensures value { IfOk result (Advances to rest.now self.old self.new atoms.old atoms.new) }
-        ensures within { IfOk result (λ taken. taken ≤ length rest.now) }
+        ensures value { IfOk result (Advances to (T.points rest) self.old self.new atoms.old atoms.new) }
+        ensures within { IfOk result (λ taken. taken ≤ length (T.points rest)) }
         ensures keeps { Keeps atoms.old atoms.new }
     {
         match blank_at(rest) {
@@ -337,16 +343,16 @@ impl Scanner {
 
     /// The same. The blanks and tokens that are most of any script have shorter ways.
     #[inline]
-    fn step(
+    fn step<T: Source>(
         &mut self,
         alloc: Global,
-        rest: &[Point],
+        rest: T,
         to: u32,
         atoms: &mut Atoms,
     ) -> Result<usize, AllocError>
         requires { length atoms.old < 2 ^ 32 - 1 }
-        ensures value { IfOk result (Advances to rest.now self.old self.new atoms.old atoms.new) }
-        ensures within { IfOk result (λ taken. taken ≤ length rest.now) }
+        ensures value { IfOk result (Advances to (T.points rest) self.old self.new atoms.old atoms.new) }
+        ensures within { IfOk result (λ taken. taken ≤ length (T.points rest)) }
         ensures keeps { Keeps atoms.old atoms.new }
     {
         match front_at(rest) {
@@ -375,43 +381,43 @@ impl Scanner {
     }
 
     /// Takes all tokens of a text.
-    fn run(
+    fn run<T: Source>(
         &mut self,
         alloc: Global,
-        text: &[Point],
+        text: T,
         to: u32,
         atoms: &mut Atoms,
     ) -> Result<(), AllocError>
-        requires few { length text.now + length atoms.old < 2 ^ 32 - 1 }
+        requires few { length (T.points text) + length atoms.old < 2 ^ 32 - 1 }
         requires tokens { self.old.tokens.items ≡ [] }
         requires braces { self.old.braces.items ≡ [] }
         requires after_line { self.old.after_line ≡ false }
-        ensures stand { OnOk result (StandFor atoms.new self.new.tokens.items (tokens_within (suc (length text.now)) to [] false text.now)) }
+        ensures stand { OnOk result (StandFor atoms.new self.new.tokens.items (tokens_within (suc (length (T.points text))) to [] false (T.points text))) }
         ensures last { OnOk result (HasOneLast self.new.tokens.items) }
-        ensures gains { OnOk result (GainsOnly atoms.old atoms.new (tokens_within (suc (length text.now)) to [] false text.now)) }
+        ensures gains { OnOk result (GainsOnly atoms.old atoms.new (tokens_within (suc (length (T.points text))) to [] false (T.points text))) }
         ensures keeps { Keeps atoms.old atoms.new }
     {
         let mut at = 0;
         let mut taken = self.step(alloc, text, to, atoms)?;
         while taken != 0 {
             at += taken;
-            taken = self.step(alloc, behind(text, at), to, atoms)?;
+            taken = self.step(alloc, text.behind(at), to, atoms)?;
         }
         Ok(())
     }
 }
 
 /// The tokens of a text that ends at `to`.
-fn scan_text(
+fn scan_text<T: Source>(
     alloc: Global,
-    text: &[Point],
+    text: T,
     to: u32,
     atoms: &mut Atoms,
 ) -> Result<Vec<Token>, AllocError>
-    requires { length text.now + length atoms.old < 2 ^ 32 - 1 }
-    ensures stand { IfOk result (λ made. StandFor atoms.new made.items (tokens_within (suc (length text.now)) to [] false text.now)) }
+    requires { length (T.points text) + length atoms.old < 2 ^ 32 - 1 }
+    ensures stand { IfOk result (λ made. StandFor atoms.new made.items (tokens_within (suc (length (T.points text))) to [] false (T.points text))) }
     ensures last { IfOk result (λ made. HasOneLast made.items) }
-    ensures gains { OnOk result (GainsOnly atoms.old atoms.new (tokens_within (suc (length text.now)) to [] false text.now)) }
+    ensures gains { OnOk result (GainsOnly atoms.old atoms.new (tokens_within (suc (length (T.points text))) to [] false (T.points text))) }
     ensures keeps { Keeps atoms.old atoms.new }
 {
     let mut scanner = Scanner::new(alloc);
@@ -440,14 +446,14 @@ fn part(points: &[Point], from: u32, to: u32) -> &[Point]
     ensures value { result.now ≡ part from to points.now }
     ensures within { length result.now ≤ length points.now }
 {
-    let others = behind(points, count_before(points, from));
-    front(others, count_before(others, to))
+    let others = points.behind(count_before(points, from));
+    others.front(count_before(others, to))
 }
 
 /// How many points at the front of a part from this offset on are its first line, where that is passed over.
-fn passed_over(from: u32, text: &[Point]) -> usize
-    ensures value { drop result text.now ≡ without_first_line from text.now }
-    ensures within { result ≤ length text.now }
+fn passed_over<T: Source>(from: u32, text: T) -> usize
+    ensures value { drop result (T.points text) ≡ without_first_line from (T.points text) }
+    ensures within { result ≤ length (T.points text) }
 {
     if from == 0 {
         first_line_length(text)
@@ -476,6 +482,29 @@ pub fn scan(
     ensures keeps { Keeps atoms.old atoms.new }
 {
     let text = part(points, from, to);
-    let made = scan_text(alloc, behind(text, passed_over(from, text)), to, atoms)?;
+    let made = scan_text(alloc, text.behind(passed_over(from, text)), to, atoms)?;
+    Ok(made)
+}
+
+/// The tokens of bytes of ASCII that stand at an offset of their file, read beginning with no open brace; the last is End or Bad.
+///
+/// What [`scan`] answers of the points of these bytes, and in the same time; no list of points is made.
+pub fn scan_ascii(
+    alloc: Global,
+    bytes: &[u8],
+    start: u32,
+    atoms: &mut Atoms,
+) -> Result<Vec<Token>, AllocError>
+    requires ascii { IsAscii bytes.now }
+    requires fits { start + length bytes.now ≤ 4294967295 }
+    requires few { length bytes.now + length atoms.old < 2 ^ 32 - 1 }
+    ensures tokens { IfOk result (λ made. StandFor atoms.new made.items (tokens (points_from start (chars bytes.now)) start (start + length bytes.now))) }
+    ensures last { IfOk result (λ made. HasOneLast made.items) }
+    ensures gains { OnOk result (GainsOnly atoms.old atoms.new (tokens (points_from start (chars bytes.now)) start (start + length bytes.now))) }
+    ensures keeps { Keeps atoms.old atoms.new }
+{
+    let text = ByteSource::new(bytes, start);
+    let to = start + bytes.len() as u32;
+    let made = scan_text(alloc, text.behind(passed_over(start, text)), to, atoms)?;
     Ok(made)
 }

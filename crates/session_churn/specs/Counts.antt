@@ -27,4 +27,5 @@ FunctionHas bytes number count =
 -- all functions together have n instructions
 abbrev pub HaveInstructions : List ℕ → ℕ → Type 0
 HaveInstructions bytes count =
-    (items : Stmts) (functions : ℕ) (all : List Site) → IsValid bytes items functions → AreFunctions items (length bytes) all → count ≡ sum (map size_at all)
+    (items : Stmts) (functions : ℕ) (all : List Site) → IsValid bytes items functions → AreFunctions items (length bytes) all
+    → count ≡ sum (map size_at all)

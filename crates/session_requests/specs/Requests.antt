@@ -48,4 +48,5 @@ GainsAsked order want file work old new = (own : List Request) × AreAskedOf ord
 abbrev pub AreAllAsked : Order → Wanted → List (Option WorkView) → List ℕ → List Request → Type 0
 AreAllAsked order want works [] requests = requests ≡ []
 AreAllAsked order want works (file ∷ files) requests =
-    (own others : List Request) × AreAskedOf order want file (work_at works file) own × AreAllAsked order want works files others × (requests ≡ own ++ others)
+    (own others : List Request) × AreAskedOf order want file (work_at works file) own
+    × AreAllAsked order want works files others × (requests ≡ own ++ others)

@@ -31,7 +31,8 @@ work_at works file = slice_index_or works file None
 
 -- whatever functions are wanted, the stencil stands for what is shown of the script then, if the flags are those
 abbrev pub IsMerged : WorkView → MergedView → Type 0
-IsMerged work merged = (want : Wanted) → AreFlags want work.board.initial.parts.records work.shown → ShowsWanted want work.board.bytes work.board.initial merged
+IsMerged work merged =
+    (want : Wanted) → AreFlags want work.board.initial.parts.records work.shown → ShowsWanted want work.board.bytes work.board.initial merged
 
 abbrev pub IsMergedOf : Option WorkView → MergedView → Type 0
 IsMergedOf None merged = Unit {0}

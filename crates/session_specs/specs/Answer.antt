@@ -110,7 +110,8 @@ OfGenerated number size Then =
 
 abbrev pub IsTrial : ℕ → ℕ → List ℕ → Type 0
 IsTrial number size out = OfGenerated number size (λ count merged.
-    out ≡ codes "trial " ++ numbers_text number size ++ decimal (length (generated number size)) ++ codes " bytes, " ++ counts_text count (instruction_count (listed_merged merged)))
+    out ≡ codes "trial " ++ numbers_text number size ++ decimal (length (generated number size)) ++ codes " bytes, "
+    ++ counts_text count (instruction_count (listed_merged merged)))
 
 abbrev pub IsChurn : ℕ → ℕ → List ℕ → Type 0
 IsChurn number size out = OfGenerated number size (λ count merged.

@@ -1,5 +1,6 @@
 -- What a pass knows of the cells of a board, and what it has of the functions. This project's own choice.
-use Rattle.std.specs.Prelude.{◌≡◌, ◌≢◌, ℕ, zero, suc, ◌+◌, ◌-◌, ◌≤◌, Bool, true, ◌&&◌, if◌then◌else◌, is_none, nat_eq, List, length, Option, Some, None, slice_index_or, slice_set}
+use Rattle.std.specs.Prelude.{◌≡◌, ◌≢◌, ℕ, zero, suc, ◌+◌, ◌-◌, ◌≤◌, Bool, true, ◌&&◌, if◌then◌else◌, is_none, nat_eq, List, length, Option, Some}
+use Rattle.std.specs.Prelude.{None, slice_index_or, slice_set}
 use Rattle.lazy_compile.specs.declared.Delazified.{Delazified}
 use Rattle.compile_initial.specs.declared.InitialStencil.{InitialStencil}
 use Rattle.compile_initial.specs.Initial.{IsInitialOf}
@@ -105,7 +106,9 @@ lacking shown pass = count_to (length pass.cells) (λ number. shown number && is
 
 -- what is around a function among these is among these, or the script itself
 abbrev pub IsUpward : InitialStencil → (ℕ → Bool) → Type 0
-IsUpward initial shown = (number : ℕ) → IsNumberIn initial number → shown number ≡ true → (around_in initial number).number ≢ 0 → shown (around_in initial number).number ≡ true
+IsUpward initial shown =
+    (number : ℕ) → IsNumberIn initial number → shown number ≡ true → (around_in initial number).number ≢ 0
+    → shown (around_in initial number).number ≡ true
 
 -- The room serves for all of these functions for which the pass has nothing, this one among them.
 pub record Suffices (initial : InitialStencil) (shown : ℕ → Bool) (number : ℕ) (pass : PassView) (spare : ℕ) : Type 0 where

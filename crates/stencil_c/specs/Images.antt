@@ -25,7 +25,8 @@ abbrev pub IsImageFor : List ℕ → List ℕ → List ℕ → StencilAnswer →
 IsImageFor text before after out =
     ((out ≡ no_memory) × (after ≡ before))
     ⊎ (((why : Refusal) × IsRefusedAs asked.All text (refusal_of why) × (out ≡ refused why) × (after ≡ before))
-    ⊎ ((stencil : MergedView) × IsStencilOf asked.All text stencil × ((bytes : List ℕ) × IsWrittenOf stencil bytes × IsHandedOut bytes before after out)))
+    ⊎ ((stencil : MergedView) × IsStencilOf asked.All text stencil
+    × ((bytes : List ℕ) × IsWrittenOf stencil bytes × IsHandedOut bytes before after out)))
 
 -- the verdict on the code of the stencil that this is the image of; or it is no image, or memory is wanting
 abbrev pub IsVerifiedFor : List ℕ → StencilAnswer → Type 0

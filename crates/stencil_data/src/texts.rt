@@ -9,15 +9,19 @@ ghost use Rattle.std.specs.Hash.{same_Alike};
 ghost use Rattle.std.specs.Cmp.{partial_equiv_from_equiv};
 ghost use Rattle.std.specs.Cmp.Lexicographic.{pointwise, slice_cmp, nat_list_eq_equiv, nat_list_cmp_total, texts_ties, texts_po, bytes_decides};
 
+use smallvec::SmallVec;
 use std::alloc::{AllocError, Global};
 use std::cmp::Ordering;
 use std::hash::{Hash, Hasher};
 use std::marker::Model;
 
+/// How many units of a text lie in the value itself. Most names have fewer; a text with more takes a block of memory.
+pub const INLINE_UNITS: usize = 12;
+
 /// A list of 16-bit units.
 #[derive(Debug, Drop)]
 pub struct Text {
-    units: Vec<u16>,
+    units: SmallVec<u16, INLINE_UNITS>,
 }
 
 impl Model for Text {
@@ -34,15 +38,15 @@ impl Text {
         ensures { result ≡ [] }
     {
         Text {
-            units: Vec::new(alloc),
+            units: SmallVec::new(alloc),
         }
     }
 
-    /// The text of these units, in their order.
+    /// The text of these units, in their order. Up to [`INLINE_UNITS`] of them take no memory.
     pub fn of(alloc: Global, units: &[u16]) -> Result<Text, AllocError>
         ensures { IfOk result (λ text. text ≡ units.now) }
     {
-        let units = Vec::from_slice(alloc, units)?;
+        let units = SmallVec::from_slice(alloc, units)?;
         Ok(Text { units })
     }
 
@@ -56,6 +60,7 @@ impl Text {
     }
 
     /// The units, in their order. It takes no memory.
+    #[inline]
     pub fn units(&self) -> &[u16]
         ensures { result.now ≡ self.now }
     {

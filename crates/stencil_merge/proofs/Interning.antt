@@ -1,8 +1,8 @@
 -- Texts that are interned one after another, and their atoms.
 use Rattle.std.proofs.Common.{◌≡◌, ℕ, zero, suc, ◌+◌, ◌-◌, ◌^◌, ◌<◌, ◌≤◌, ◌⊎◌, inl, inr, List, [], ◌∷◌, ◌++◌, length, take, drop, get_or, Option, Some, refl, sym, ◌∙◌, ap, ap₂, subst, append_assoc, append-nil, arith, length-append, take-append-drop}
 use Rattle.std.specs.Prelude.{slice_get}
-use Rattle.std.proofs.lemmas.List.{get_or_past, get_or_append_left, get_or_read, map-append, take_all, take_more}
-use Rattle.std.proofs.lemmas.Option.{get_or_from_slice_get, slice_get_within}
+use Rattle.std.proofs.lemmas.List.{get_or_past, get_or_append_left, get_or_read, length-take-le, map-append, take_all, take_more}
+use Rattle.std.proofs.lemmas.Option.{get_or_from_slice_get, slice_get-get_or, slice_get_read, slice_get_within}
 use Rattle.parser_atoms.specs.Places.{AreWithoutEquals, StandsIn, Interns}
 use Rattle.parser_atoms.proofs.Interning.{slice_get-append_old, slice_get-append_last, slice_get-append_cases}
 use Rattle.stencil_merge.specs.Atoms.{no_text, atom_by, AreAtoms, TakesIn}
@@ -141,3 +141,34 @@ room_for_one before all now atoms i lt few so_far = omega (arith, few, few_so_fa
 -- no texts have no equals
 pub none_apart : AreWithoutEquals []
 none_apart text i j one two = absurd (cc)
+
+-- ---- texts without equals, which keep their places
+
+pub own_places_next : (all : List (List ℕ)) (atoms atoms_new : List ℕ) (i : ℕ) → i < length all → atoms_new ≡ atoms ++ i ∷ [] → AreAtoms (take i all) all atoms → AreAtoms (take (i + 1) all) all atoms_new
+own_places_next all atoms atoms_new i lt longer so_far =
+    subst (AreAtoms (take (i + 1) all) all) (sym longer)
+    (subst (λ (ts : List (List ℕ)). AreAtoms ts all (atoms ++ i ∷ [])) (sym (take_more all i [] lt)) (are_atoms_push (take i all) all atoms (get_or all i []) i so_far (slice_get-get_or all i [] lt)))
+
+-- interned in their order, they stand as before
+pub in_order_next : (all now new : List (List ℕ)) (i : ℕ) (text units : List ℕ) (atom : ℕ) → AreWithoutEquals all → i < length all → text ≡ get_or all i text → units ≡ text → now ≡ take i all → Interns now new units atom → new ≡ take (i + 1) all
+in_order_next all now new i text units atom apart lt item units_is so_far (inl there) = absurd (omega (arith, within, at_i, short))
+  where
+    stood : slice_get (take i all) atom ≡ Some units
+    stood = subst (λ (ts : List (List ℕ)). slice_get ts atom ≡ Some units) so_far there.0
+
+    within : atom < length (take i all)
+    within = slice_get_within (take i all) atom units stood
+
+    short : length (take i all) ≡ i
+    short = length-take-le i all (omega (arith, lt))
+
+    stands : slice_get all atom ≡ Some units
+    stands = subst (λ (ts : List (List ℕ)). slice_get ts atom ≡ Some units) (take-append-drop i all) (slice_get-append_old (take i all) (drop i all) atom units stood)
+
+    here : slice_get all i ≡ Some units
+    here = slice_get_read all (length all) i text refl lt item ∙ ap (λ (t : List ℕ). Some t) (sym units_is)
+
+    at_i : atom ≡ i
+    at_i = apart units atom i stands here
+in_order_next all now new i text units atom apart lt item units_is so_far (inr put) =
+    put.2 ∙ (ap₂ (λ (ts : List (List ℕ)) (t : List ℕ). ts ++ t ∷ []) so_far (units_is ∙ get_or_read all i text lt item []) ∙ sym (take_more all i [] lt))

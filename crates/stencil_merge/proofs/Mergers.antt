@@ -8,6 +8,7 @@ use Rattle.stencil_data.specs.MergedView.{MergedView}
 use Rattle.stencil_data.specs.StandsFor.{MergedStandsFor}
 use Rattle.stencil_data.specs.Views.{RecordView, FunctionView, InitialView}
 use Rattle.bytecode_buf.specs.Command.{ShowsCommands}
+use Rattle.parser_atoms.specs.Places.{AreWithoutEquals}
 use Rattle.stencil_merge.specs.Atoms.{record_by, AreAtoms, TakesIn}
 use Rattle.stencil_merge.specs.Functions.{inner_of, numbers_in, outermost}
 use Rattle.stencil_merge.specs.Instructions.{ShowsListed, numbered_list, numbered_commands}
@@ -69,7 +70,7 @@ adds_already merged number stencil texts compiled = record {
 
 -- ---- where no function is compiled
 
-module _ (parts : InitialView) (new : List (List ℕ)) (top : FunctionView) (atoms : List ℕ) (records : List RecordView) (entries : List Entry) (taken : TakesIn [] parts.texts new) (few : length new < 2 ^ 32) (are : AreAtoms parts.texts new atoms)
+module _ (parts : InitialView) (new : List (List ℕ)) (top : FunctionView) (atoms : List ℕ) (records : List RecordView) (entries : List Entry) (apart : AreWithoutEquals new) (few : length new < 2 ^ 32) (are : AreAtoms parts.texts new atoms)
     (by : IsFunctionBy atoms (outermost (inner_of parts.records)) parts.top top) (records_are : records ≡ map (record_by atoms) parts.records) (entries_are : entries ≡ replicate (length records) entry.Lazy) where
   same_length : length records ≡ length parts.records
   same_length = ap length records_are ∙ length-map parts.records (record_by atoms)
@@ -77,7 +78,7 @@ module _ (parts : InitialView) (new : List (List ℕ)) (top : FunctionView) (ato
   pub merging_begun : IsMerging (view new top records entries)
   merging_begun = record {
     few = few;
-    apart = taken.apart;
+    apart = apart;
     many = ap length entries_are ∙ length-replicate (length records) entry.Lazy;
     top = settled_by parts.texts new atoms (outermost (inner_of parts.records)) parts.top.code top.code are few by.code.are;
     entries = subst (AreSettled new) (sym entries_are) (are_settled_lazy new (length records));
@@ -117,29 +118,20 @@ pub place_within : (merged : MergedView) (records : List RecordView) (number : �
 place_within merged records number is h = omega (arith, ap length is, h.0, h.1)
 
 -- the parts of a script, in which no function is compiled
-pub both_begun : (parts : InitialView) (start given new : List (List ℕ)) (atoms given_atoms more_atoms numbers : List ℕ) (given_top top : FunctionView) (given_records more_records records : List RecordView) (entries : List Entry) (count : ℕ)
-    → start ≡ [] → given ≡ parts.texts → given_top ≡ parts.top → given_records ≡ parts.records → more_records ≡ parts.records → given_atoms ≡ atoms → more_atoms ≡ atoms → numbers ≡ outermost (inner_of given_records) → length parts.texts < 2 ^ 32 - 1
-    → TakesIn start given new → length new ≤ length start + length given → AreAtoms given new atoms → IsFunctionBy given_atoms numbers given_top top → records ≡ map (record_by more_atoms) more_records → entries ≡ replicate count entry.Lazy → count ≡ length records
+pub both_begun : (parts : InitialView) (new : List (List ℕ)) (atoms numbers : List ℕ) (given_top top : FunctionView) (given_records more_records records : List RecordView) (entries : List Entry) (count : ℕ)
+    → given_top ≡ parts.top → given_records ≡ parts.records → more_records ≡ parts.records → numbers ≡ outermost (inner_of given_records) → length new < 2 ^ 32 → AreWithoutEquals new → AreAtoms parts.texts new atoms
+    → IsFunctionBy atoms numbers given_top top → records ≡ map (record_by atoms) more_records → entries ≡ replicate count entry.Lazy → count ≡ length records
     → IsMerging (view new top records entries) × Begins parts (view new top records entries)
-both_begun parts start given new atoms given_atoms more_atoms numbers given_top top given_records more_records records entries count start_is given_is top_is records_is more_is atoms_is more_atoms_is numbers_is room_is taken few are by made filled count_is = (
-  merging_begun parts new top atoms records entries taken' few' are' by' made' filled',
-  begins parts new top atoms records entries taken' few' are' by' made' filled',
+both_begun parts new atoms numbers given_top top given_records more_records records entries count top_is records_is more_is numbers_is few apart are by made filled count_is = (
+  merging_begun parts new top atoms records entries apart few are by' made' filled',
+  begins parts new top atoms records entries apart few are by' made' filled',
 )
   where
-    taken' : TakesIn [] parts.texts new
-    taken' = subst₂ (λ (s g : List (List ℕ)). TakesIn s g new) start_is given_is taken
-
-    few' : length new < 2 ^ 32
-    few' = omega (arith, few, room_is, ap length start_is, ap length given_is)
-
-    are' : AreAtoms parts.texts new atoms
-    are' = subst (λ (g : List (List ℕ)). AreAtoms g new atoms) given_is are
-
     by' : IsFunctionBy atoms (outermost (inner_of parts.records)) parts.top top
-    by' = subst₂ (λ (xs ns : List ℕ). IsFunctionBy xs ns parts.top top) atoms_is (numbers_is ∙ ap (λ (ls : List RecordView). outermost (inner_of ls)) records_is) (subst (λ (t : FunctionView). IsFunctionBy given_atoms numbers t top) top_is by)
+    by' = subst₂ (λ (ns : List ℕ) (t : FunctionView). IsFunctionBy atoms ns t top) (numbers_is ∙ ap (λ (ls : List RecordView). outermost (inner_of ls)) records_is) top_is by
 
     made' : records ≡ map (record_by atoms) parts.records
-    made' = made ∙ ap₂ (λ (xs : List ℕ) (ls : List RecordView). map (record_by xs) ls) more_atoms_is more_is
+    made' = made ∙ ap (map (record_by atoms)) more_is
 
     filled' : entries ≡ replicate (length records) entry.Lazy
     filled' = filled ∙ ap (λ (n : ℕ). replicate n entry.Lazy) count_is

@@ -3,4 +3,5 @@ pub mod Functions
 pub mod Instructions
 pub mod Merging
 pub mod Parts
+pub mod Texts
 pub mod Whole

@@ -28,6 +28,18 @@ pub(crate) fn intern_all(
     Ok(numbers)
 }
 
+/// The places of these texts, which are their atoms among themselves.
+pub(crate) fn own_places(alloc: Global, texts: &[Text]) -> Result<Vec<u32>, AllocError>
+    requires { length texts.now < 2 ^ 32 }
+    ensures { IfOk result (λ numbers. AreAtoms texts.now texts.now numbers.items) }
+{
+    let mut numbers = Vec::with_capacity(alloc, texts.len())?;
+    for place in 0..texts.len() {
+        numbers.push(place as u32)?;
+    }
+    Ok(numbers)
+}
+
 /// The other atom of the text that has this one, by these; an atom that is no text's becomes one that is none's either.
 pub(crate) fn atom_at(atoms: &[u32], atom: usize) -> u32
     ensures { result ≡ atom_by atoms.now atom }

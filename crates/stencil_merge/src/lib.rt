@@ -17,6 +17,7 @@ mod code;
 mod functions;
 mod merger;
 mod parts;
+mod texts;
 mod whole;
 
 pub use merger::Merger;

@@ -3,14 +3,14 @@
 ghost use Rattle.std.specs.Prelude.{◌≡◌, ◌+◌, ◌-◌, ◌^◌, ◌<◌, ◌≤◌, ◌↔◌, [], length, replicate, slice_index_or, IfOk, OnOk, OnErr, IsTrue};
 ghost use Rattle.stencil_data.specs.declared.stencils.Entry.TheVariants as entry;
 ghost use Rattle.parser_atoms.specs.Places.{AreWithoutEquals};
-ghost use Rattle.stencil_merge.specs.Atoms.{TakesIn};
+ghost use Rattle.stencil_merge.specs.Atoms.{AreAtoms, TakesIn};
 ghost use Rattle.stencil_merge.specs.Merging as merging;
 ghost use Rattle.stencil_merge.specs.Merging.{Adds, Begins, HasFunction, IsCompiled, Keeps, SameParts};
 
-use crate::atoms::intern_all;
+use crate::atoms::own_places;
 use crate::functions::outermost_of;
 use crate::parts::{function_by, records_by};
-use parser_atoms::Atoms;
+use crate::texts::MergedTexts;
 use std::alloc::{AllocError, Global};
 use std::marker::Model;
 use stencil_data::{Entry, FunctionStencil, InitialParts, LazyRecord, MergedStencil, Text};
@@ -20,7 +20,7 @@ use stencil_data::{Entry, FunctionStencil, InitialParts, LazyRecord, MergedStenc
 /// A contract sees the merged stencil so far.
 #[derive(Drop)]
 pub struct Merger {
-    atoms: Atoms,
+    texts: MergedTexts,
     top: FunctionStencil,
     records: Vec<LazyRecord>,
     entries: Vec<Entry>,
@@ -32,16 +32,43 @@ impl Model for Merger {
 
     ghost Value = { MergedView };
 
-    ghost view = { λ merger. record { texts = merger.atoms; top = merger.top; records = merger.records.items; entries = merger.entries.items } };
+    ghost view = { λ merger. record { texts = merger.texts; top = merger.top; records = merger.records.items; entries = merger.entries.items } };
 
-    ghost invariant = { λ merger. IsMerging (record { texts = merger.atoms; top = merger.top; records = merger.records.items; entries = merger.entries.items }) };
+    ghost invariant = { λ merger. IsMerging (record { texts = merger.texts; top = merger.top; records = merger.records.items; entries = merger.entries.items }) };
+}
+
+// The parts of a script whose texts have these atoms, none of its functions being compiled.
+fn begin(
+    alloc: Global,
+    parts: &InitialParts,
+    texts: MergedTexts,
+    atoms: &[u32],
+) -> Result<Merger, AllocError>
+    requires few { length texts < 2 ^ 32 }
+    requires records { length parts.now.records < 2 ^ 32 }
+    requires apart { AreWithoutEquals texts }
+    requires atoms { AreAtoms parts.now.texts texts atoms.now }
+    ensures begins { IfOk result (Begins parts.now) }
+    ensures texts { IfOk result (λ merger. merger.texts ≡ texts) }
+    ensures records { IfOk result (λ merger. length merger.records ≡ length parts.now.records) }
+{
+    let outermost = outermost_of(alloc, &parts.records)?;
+    let top = function_by(alloc, atoms, &outermost, &parts.top)?;
+    let records = records_by(alloc, atoms, &parts.records)?;
+    let entries = lazy_entries(alloc, records.len())?;
+    Ok(Merger {
+        texts,
+        top,
+        records,
+        entries,
+    })
 }
 
 // n functions, none of which is compiled.
 fn lazy_entries(alloc: Global, count: usize) -> Result<Vec<Entry>, AllocError>
     ensures { IfOk result (λ entries. entries.items ≡ replicate count entry.Lazy) }
 {
-    let mut entries = Vec::new(alloc);
+    let mut entries = Vec::with_capacity(alloc, count)?;
     for _ in 0..count {
         entries.push(Entry::Lazy)?;
     }
@@ -70,18 +97,24 @@ impl Merger {
         ensures few { IfOk result (λ merger. length merger.texts ≤ length parts.now.texts) }
         ensures records { IfOk result (λ merger. length merger.records ≡ length parts.now.records) }
     {
-        let mut atoms = Atoms::new(alloc);
-        let numbers = intern_all(alloc, &mut atoms, &parts.texts)?;
-        let outermost = outermost_of(alloc, &parts.records)?;
-        let top = function_by(alloc, &numbers, &outermost, &parts.top)?;
-        let records = records_by(alloc, &numbers, &parts.records)?;
-        let entries = lazy_entries(alloc, records.len())?;
-        Ok(Merger {
-            atoms,
-            top,
-            records,
-            entries,
-        })
+        let mut texts = MergedTexts::new(alloc);
+        let atoms = texts.intern_all(alloc, &parts.texts)?;
+        begin(alloc, parts, texts, &atoms)
+    }
+
+    /// The same of parts whose texts have no equals, as those of a first pass: each text keeps its number. The texts are copied, and
+    /// none is looked up before a function is added.
+    pub fn of_apart(alloc: Global, parts: &InitialParts) -> Result<Merger, AllocError>
+        requires texts { length parts.now.texts < 2 ^ 32 - 1 }
+        requires records { length parts.now.records < 2 ^ 32 }
+        requires apart { AreWithoutEquals parts.now.texts }
+        ensures begins { IfOk result (Begins parts.now) }
+        ensures same { IfOk result (λ merger. merger.texts ≡ parts.now.texts) }
+        ensures records { IfOk result (λ merger. length merger.records ≡ length parts.now.records) }
+    {
+        let texts = MergedTexts::of(alloc, &parts.texts)?;
+        let atoms = own_places(alloc, &parts.texts)?;
+        begin(alloc, parts, texts, &atoms)
     }
 
     /// Takes a compiled function in, whose atoms are indexes into `texts`. In its code a function directly in it is named by its
@@ -110,7 +143,7 @@ impl Merger {
         if is_compiled(&self.entries[place]) {
             return Ok(());
         }
-        let atoms = intern_all(alloc, &mut self.atoms, texts)?;
+        let atoms = self.texts.intern_all(alloc, texts)?;
         let compiled = function_by(alloc, &atoms, &self.records[place].inner, stencil)?;
         self.entries[place] = Entry::Compiled(compiled);
         Ok(())
@@ -120,7 +153,7 @@ impl Merger {
     pub fn text_count(&self) -> usize
         ensures { result ≡ length self.now.texts }
     {
-        self.atoms.len()
+        self.texts.len()
     }
 
     /// How many functions the script has.
@@ -136,13 +169,13 @@ impl Merger {
         ensures apart { AreWithoutEquals result.texts }
     {
         let Merger {
-            atoms,
+            texts,
             top,
             records,
             entries,
         } = self;
         MergedStencil {
-            texts: atoms.into_texts(),
+            texts: texts.into_texts(),
             top,
             records,
             entries,

@@ -1,6 +1,6 @@
 use parser_atoms::Atoms;
 use script_grammar::token::{Kind, Token, mark, word};
-use script_scanner::scan;
+use script_scanner::{scan, scan_ascii};
 use std::test::Fail;
 use unit_text::decode;
 
@@ -17,6 +17,25 @@ fn tokens_have_their_places(rt: HostRuntime) -> Result<(), Fail> {
     assert_eq!(rt; tokens[4], token(Kind::Number, 1, 11, 12, false));
     assert_eq!(rt; tokens[5], token(Kind::TemplateTail, 2, 12, 14, false));
     assert_eq!(rt; tokens[6], token(Kind::End, 0, 14, 14, false));
+    Ok(())
+}
+
+#[test]
+fn bytes_of_ascii_have_the_same_tokens(rt: HostRuntime) -> Result<(), Fail> {
+    let text = b"#!x\n/* a\n */ if (b1 >= 0x1F) { c = 'd\\x41' } // e";
+    let points = decode(rt.alloc(), text)?;
+    let mut atoms = Atoms::new(rt.alloc());
+    let tokens = scan(rt.alloc(), points.as_slice(), 0, 49, &mut atoms)?;
+    let mut others = Atoms::new(rt.alloc());
+    let again = if text.is_ascii() {
+        scan_ascii(rt.alloc(), text, 0, &mut others)?
+    } else {
+        Vec::new(rt.alloc())
+    };
+    assert_eq!(rt; again.as_slice(), tokens.as_slice());
+    assert_eq!(rt; others.len(), 4);
+    assert_eq!(rt; tokens.len(), 12);
+    assert_eq!(rt; tokens[0], token(Kind::Word(word::IF), 0, 13, 15, true));
     Ok(())
 }
 

@@ -1,6 +1,7 @@
 -- What a script tells, told twice: with names that stand for one another, one written down in one way and one in another.
 use Rattle.std.specs.Prelude.{◌≡◌, ℕ, Bool, Option, None, Some, List, [], ◌∷◌}
-use Rattle.parse_track.specs.Told.{Name, Region, Script, Function, Arrow, Lambda, Block, Switch, ForHead, Catch, Loop, Label, VarBody, Leaf, Declared, Used, Jumped, Told, nothing, leaf, inner, KnownNames}
+use Rattle.parse_track.specs.Told.{Name, Region, Script, Function, Arrow, Lambda, Block, Switch, ForHead, Catch, Loop, Label, VarBody, Leaf, Declared}
+use Rattle.parse_track.specs.Told.{Used, Jumped, Told, nothing, leaf, inner, KnownNames}
 use Rattle.parse_track.specs.ClosedNames.{Bound}
 
 -- names that stand for one another, at the same offset

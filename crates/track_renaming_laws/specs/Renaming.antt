@@ -1,6 +1,7 @@
 -- What a script tells, with each name written down in another way.
 use Rattle.std.specs.Prelude.{ℕ, Bool, Option, None, Some}
-use Rattle.parse_track.specs.Told.{Name, Region, Script, Function, Arrow, Lambda, Block, Switch, ForHead, Catch, Loop, Label, VarBody, Leaf, Declared, Used, Jumped, Told, nothing, leaf, inner, KnownNames}
+use Rattle.parse_track.specs.Told.{Name, Region, Script, Function, Arrow, Lambda, Block, Switch, ForHead, Catch, Loop, Label, VarBody, Leaf, Declared}
+use Rattle.parse_track.specs.Told.{Used, Jumped, Told, nothing, leaf, inner, KnownNames}
 use Rattle.parse_track.specs.ClosedNames.{Bound}
 
 abbrev pub renamed_name : {A B : Type 0} → (A → B) → Name A → Name B

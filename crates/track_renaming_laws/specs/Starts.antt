@@ -10,7 +10,8 @@ abbrev pub KeepsStarts : {A B : Type 0} → (A → B) → (Region A → ℕ → 
 KeepsStarts f place nothing = Unit {0}
 KeepsStarts f place (leaf l t) = KeepsStarts f place t
 KeepsStarts f place (inner k at i t) =
-    (begins false k ≡ true → at_of (renamed_region f k) (place k at) (rewritten f place i) ≡ at_of k at i) × (KeepsStarts f place i × KeepsStarts f place t)
+    (begins false k ≡ true → at_of (renamed_region f k) (place k at) (rewritten f place i) ≡ at_of k at i)
+    × (KeepsStarts f place i × KeepsStarts f place t)
 
 -- The offset of a function, and 0 of any other region.
 abbrev pub if_function : {A : Type 0} → Region A → ℕ → ℕ

@@ -1,7 +1,7 @@
 //! Code points of a source text with their places, and the 16-bit units of a code point.
 //!
-//! The lowest crate of the pipeline: what reads a file hands its bytes to [`decode`], and the scanner
-//! reads the points. `decode` answers exactly the code points that the bytes spell in UTF-8, or the
+//! The lowest crate of the pipeline: what reads a file that is not of ASCII alone hands its bytes to [`decode`], and the
+//! scanner reads the points. `decode` answers exactly the code points that the bytes spell in UTF-8, or the
 //! length of their longest well-formed front; [`units_of`] answers the UTF-16 units of a code point.
 #![tactic(auto)]
 

@@ -10,8 +10,8 @@ use Rattle.parse_track.proofs.rules.offsets_at.Goals as goal
 
 pub returns-then-not-declares_any : goal.returns-then-not-declares_any
 returns-then-not-declares_any c = λ rule.
-    c.offsets_without_names.ensures rule (told_region c.args.room (map row_of c.args.rows.now) c.args.region)
-    (none_declared (map row_of c.args.rows.now) c.args.room c.args.region c.items_at.result.now c.items_at.ensures.items (sym c.declares_any.ensures ∙ c.if-not-declares_any.true))
+    c.offsets_without_names.ensures (told_region c.args.room (map row_of c.args.rows.now) c.args.region)
+    (none_declared (map row_of c.args.rows.now) c.args.room c.args.region c.items_at.result.now c.items_at.ensures.items (sym c.declares_any.ensures ∙ c.if-not-declares_any.true)) rule
 
 pub first_param-requires-clause-params : goal.first_param-requires-clause-params
 first_param-requires-clause-params c = ap (map name_of) c.deref-3.ensures.value ∙ c.in_ok-params.ensures

@@ -2,4 +2,4 @@ use Rattle.std.proofs.Common.{length}
 use Rattle.script_scanner.proofs.blanks.+begins.Given as goal
 
 abbrev pub decreases-begins : goal.decreases-begins
-decreases-begins l = length l.text.now
+decreases-begins g l = length l.text.now

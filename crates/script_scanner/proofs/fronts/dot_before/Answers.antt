@@ -7,5 +7,5 @@ use Rattle.script_scanner.proofs.FrontLemmas.{stands_46}
 use Rattle.script_scanner.proofs.fronts.dot_before.Goals as goal
 
 pub returns-else-is_digit : goal.returns-else-is_digit
-returns-else-is_digit c = subst (λ (ps : List Point). StandsAt (0x2E ∷ map code_of ps) (Mark 51)) (sym c.in-Some.ensures.cases.0)
-    (stands_46 c.in-Some.next.now.code (map code_of c.in-Some.field-0-1.now) c.if-next-eq46.false (sym c.is_digit.ensures.value ∙ c.if-is_digit.false))
+returns-else-is_digit g c = subst (λ (ps : List Point). StandsAt (0x2E ∷ map code_of ps) (Mark 51)) (sym c.in-Some.ensures.cases.0)
+    (stands_46 c.in-Some.next.code (map code_of (g.T.Source.points c.in-Some.field-0-1)) c.if-next-eq46.false (sym c.is_digit.ensures.value ∙ c.if-is_digit.false))

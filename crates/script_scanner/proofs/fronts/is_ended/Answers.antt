@@ -5,4 +5,4 @@ use Rattle.script_scanner.specs.Fronts.{BeginsEnded}
 use Rattle.script_scanner.proofs.fronts.is_ended.Goals as goal
 
 pub returns-in-Some : goal.returns-in-Some
-returns-in-Some c = λ ends. subst (λ (ps : List Point). BeginsEnded (map code_of ps)) (sym c.in-Some.ensures.cases.0) (c.ends_mark.ensures ends)
+returns-in-Some g c = λ ends. subst (λ (ps : List Point). BeginsEnded (map code_of ps)) (sym c.in-Some.ensures.cases.0) (c.ends_mark.ensures ends)

@@ -5,4 +5,4 @@ use Rattle.script_scanner.proofs.known_names.are_units.Given as goal
 
 -- where the rest is the same, all is
 abbrev pub invariant-loop-at : goal.invariant-loop-at
-invariant-loop-at l = text_units (map code_of (drop l.at l.points)) ≡ drop l.at l.units → text_units (map code_of l.points) ≡ l.units
+invariant-loop-at g l = text_units (map code_of (drop l.at (g.T.Source.points l.points))) ≡ drop l.at l.units → text_units (map code_of (g.T.Source.points l.points)) ≡ l.units

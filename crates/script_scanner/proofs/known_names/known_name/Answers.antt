@@ -5,11 +5,12 @@ use Rattle.script_scanner.proofs.KnownLemmas.{known_is}
 use Rattle.script_scanner.proofs.known_names.known_name.Goals as goal
 
 pub returns-clause-value : goal.returns-clause-value
-returns-clause-value c =
-    known_is c.args.atoms.now c.args.rest.now c.front.result.now c.units-units.result.now c.in_ok-atom.atom
+returns-clause-value g c =
+    known_is c.args.atoms.now (g.T.Source.points c.args.rest) (g.T.Source.points c.front.result) c.units-units.result.now c.in_ok-atom.atom
     c.spelled_name-name.result.length c.kind_of_name.result
     c.requires.begins
     c.spelled_name-name.ensures.value
+    c.spelled_name-name.ensures.positive
     c.front.ensures
     (c.are_units.ensures c.if-not-are_units.false)
     (c.text.ensures ∙ ap Some (sym c.units-units.ensures))

@@ -3,6 +3,6 @@ use Rattle.script_scanner.proofs.NumberLemmas.{value_over}
 use Rattle.script_scanner.proofs.numbers.digits_value.Goals as goal
 
 pub returns-then-value-gt-MAX_VALUE : goal.returns-then-value-gt-MAX_VALUE
-returns-then-value-gt-MAX_VALUE c =
-    sym (value_over c.args.radix c.args.digits.now c.loop-point.point-index c.loop-point.value c.with_digit-value.result _
-    (omega arith) c.loop-point-test.true c.loop-point.invariant.so_far c.with_digit-value.ensures c.if-value-gt-MAX_VALUE.true)
+returns-then-value-gt-MAX_VALUE g c =
+    sym (value_over c.args.radix (g.T.Source.points c.args.digits) c.loop-at.at c.loop-at.value c.with_digit-value.result c.point_at.result
+    (omega arith) c.point_at.ensures c.with_digit-value.ensures c.loop-at.invariant.so_far c.if-value-gt-MAX_VALUE.true)

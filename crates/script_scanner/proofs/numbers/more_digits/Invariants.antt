@@ -5,10 +5,10 @@ use Rattle.script_scanner.proofs.numbers.more_digits.Given as goal
 
 -- the points passed are digits
 abbrev pub invariant-loop-at : goal.invariant-loop-at
-invariant-loop-at l = record {
-  within : l.at ≤ length l.rest;
-  so_far : more_digits l.radix (map code_of l.rest) ≡ l.at + more_digits l.radix (map code_of (drop l.at l.rest));
+invariant-loop-at g l = record {
+  within : l.at ≤ length (g.T.Source.points l.rest);
+  so_far : more_digits l.radix (map code_of (g.T.Source.points l.rest)) ≡ l.at + more_digits l.radix (map code_of (drop l.at (g.T.Source.points l.rest)));
 }
 
 abbrev pub decreases-loop-at : goal.decreases-loop-at
-decreases-loop-at l = length l.rest - l.at
+decreases-loop-at g l = length (g.T.Source.points l.rest) - l.at

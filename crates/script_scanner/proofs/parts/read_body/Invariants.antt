@@ -3,7 +3,7 @@ use Rattle.script_scanner.proofs.PartLemmas.{IsReading}
 use Rattle.script_scanner.proofs.parts.read_body.Given as goal
 
 abbrev pub invariant-loop-at : goal.invariant-loop-at
-invariant-loop-at l = IsReading l.ending l.rest l.at l.units.items
+invariant-loop-at g l = IsReading l.ending (g.T.Source.points l.rest) l.at l.units.items
 
 abbrev pub decreases-loop-at : goal.decreases-loop-at
-decreases-loop-at l = length l.rest - l.at
+decreases-loop-at g l = length (g.T.Source.points l.rest) - l.at

@@ -10,16 +10,16 @@ use Rattle.script_scanner.proofs.Lists.{map_take}
 use Rattle.script_scanner.proofs.pieces.name_piece.Goals as goal
 
 pub returns-clause-value : goal.returns-clause-value
-returns-clause-value c =
-    let codes = map code_of c.args.rest.now in
+returns-clause-value g c =
+    let codes = map code_of (g.T.Source.points c.args.rest) in
     let text : c.push_points.new.units.items ≡ text_units (take (name_length codes) codes) =
     c.in_ok-push_points.ensures
-    ∙ ap (λ (us : List ℕ). us ++ text_units (map code_of c.front.result.now)) c.clear.ensures.items
+    ∙ ap (λ (us : List ℕ). us ++ text_units (map code_of (g.T.Source.points c.front.result))) c.clear.ensures.items
     ∙ ap (λ (ps : List Point). text_units (map code_of ps)) c.front.ensures
-    ∙ ap text_units (map_take code_of c.name_length-length.result c.args.rest.now)
-    ∙ ap (λ (n : ℕ). text_units (take n codes)) c.name_length-length.ensures.value in (
+    ∙ ap text_units (map_take code_of c.spelled_name-length.result.length (g.T.Source.points c.args.rest))
+    ∙ ap (λ (n : ℕ). text_units (take n codes)) c.spelled_name-length.ensures.value in (
       c.kind_of_name.ensures ∙ ap name_kind c.word_at.ensures
           ∙ ap (λ (us : List ℕ). name_kind (option_map word_index (word_at us))) (c.as_slice.ensures.value ∙ text),
-      c.name_length-length.ensures.value,
+      c.spelled_name-length.ensures.value,
       text,
     )

@@ -8,8 +8,8 @@ use Rattle.script_scanner.proofs.FrontLemmas.{moves_mark}
 use Rattle.script_scanner.proofs.scanning.Scanner.take_close.Goals as goal
 
 pub returns-in_ok-taken-2-clause-value : goal.returns-in_ok-taken-2-clause-value
-returns-in_ok-taken-2-clause-value c =
+returns-in_ok-taken-2-clause-value g c =
     let apart : false ≡ in_substitution c.args.self.now.braces.items = sym c.if-in_substitution.false ∙ c.in_substitution.ensures ∙ ap in_substitution c.as_slice.ensures.value in
-    moves_mark c.args.to 1 c.args.rest.now c.args.self.now c.take_mark.new.self c.args.atoms.now c.in_ok-taken-2.taken
-    c.requires.closes.0 (subst (λ (b : Bool). token_at b (map code_of c.args.rest.now) ≡ Some (lone_mark 1)) apart c.requires.closes.1)
+    moves_mark c.args.to 1 (g.T.Source.points c.args.rest) c.args.self.now c.take_mark.new.self c.args.atoms.now c.in_ok-taken-2.taken
+    c.requires.closes.0 (subst (λ (b : Bool). token_at b (map code_of (g.T.Source.points c.args.rest)) ≡ Some (lone_mark 1)) apart c.requires.closes.1)
     (c.in_ok-taken-2.ensures.value c.args.atoms.now) c.in_ok-taken-2.ensures.taken

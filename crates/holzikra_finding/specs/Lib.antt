@@ -1,0 +1,2 @@
+-- Which functions are around a place, and inside others.
+pub mod Finding

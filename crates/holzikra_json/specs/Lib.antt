@@ -1,0 +1,2 @@
+-- Members of objects, and lines.
+pub mod Lines

@@ -1,0 +1,3 @@
+pub mod CodeSteps
+pub mod Fine
+pub mod ScriptSteps

@@ -1,0 +1,2 @@
+-- Values of JSON for scripts.
+pub mod Objects

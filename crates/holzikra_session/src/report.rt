@@ -1,0 +1,151 @@
+//! The command `report`.
+
+use crate::complaint::complain;
+use crate::files::{bytes_of, input_bytes};
+use crate::refusal::{Said, Showing, answer_refused};
+use crate::status::{Status, Tally};
+use crate::verdict::{Compiled, Judge, Reason};
+use crate::writing::write_to;
+use holzikra_page::{append_end, append_refused, append_start};
+use holzikra_places::push_shown_text;
+use holzikra_scripts::append_page_script;
+use holzikra_walk::{Found, Walk};
+use holzikra_words::{Format, ReportOptions};
+use std::io;
+use std::io::ErrorKind;
+use std::rt::Runtime;
+
+/// A page as far as it is put together.
+#[derive(Drop)]
+struct Report {
+    page: Vec<u8>,
+    /// How many files are on it.
+    count: usize,
+    tally: Tally,
+    said: Said,
+}
+
+impl Report {
+    /// Says that something cannot be read. Want of memory ends the command.
+    fn fault<R: Runtime + AllocGlobal>(
+        &mut self,
+        rt: &R,
+        name: &str,
+        error: io::Error,
+    ) -> io::Result<()> {
+        if error.kind() == ErrorKind::OutOfMemory {
+            return Err(error);
+        }
+        self.tally.fail();
+        let why = format!(in rt.alloc(); "{error}")?;
+        complain(rt, name, why.as_str())
+    }
+
+    /// Puts a text that is refused on the page.
+    fn refused<R: Runtime + AllocGlobal>(
+        &mut self,
+        rt: &R,
+        name: &str,
+        text: &[u8],
+        reason: Reason,
+    ) -> io::Result<()> {
+        let alloc = rt.alloc();
+        let showing = Showing::all(Format::Human);
+        let lines = answer_refused(
+            alloc,
+            showing,
+            name,
+            text,
+            reason,
+            &mut self.tally,
+            &mut self.said,
+        )?;
+        let mut shown = String::new(alloc);
+        push_shown_text(&mut shown, name)?;
+        append_refused(&mut self.page, self.count, shown.as_str(), lines.as_bytes())?;
+        Ok(())
+    }
+
+    /// Puts a text on the page.
+    fn text<R: Runtime + AllocGlobal, J: Judge>(
+        &mut self,
+        rt: &R,
+        judge: &J,
+        name: &str,
+        text: &[u8],
+    ) -> io::Result<()> {
+        let compiled = judge.compile(rt.alloc(), text, &[])?;
+        match compiled {
+            Compiled::Script(stencil, _chosen) => {
+                self.tally.count_script();
+                append_page_script(rt.alloc(), &mut self.page, self.count, name, text, &stencil)?;
+            }
+            Compiled::Refused(reason) => self.refused(rt, name, text, reason)?,
+            Compiled::NoFunction(_) => unreachable!(),
+        }
+        self.count = self.count.saturating_add(1);
+        Ok(())
+    }
+
+    /// Puts on the page what was read.
+    fn read<R: Runtime + AllocGlobal, J: Judge>(
+        &mut self,
+        rt: &R,
+        judge: &J,
+        name: &str,
+        read: io::Result<Vec<u8>>,
+    ) -> io::Result<()> {
+        match read {
+            Err(error) => self.fault(rt, name, error),
+            Ok(text) => self.text(rt, judge, name, &text),
+        }
+    }
+
+    /// Puts on the page what the walk found.
+    fn found<R: Runtime + AllocGlobal, J: Judge>(
+        &mut self,
+        rt: &R,
+        judge: &J,
+        options: &ReportOptions,
+        found: Found,
+    ) -> io::Result<()> {
+        match found {
+            Found::Fault(name, error) => self.fault(rt, name.as_str(), error),
+            Found::Input => {
+                let read = input_bytes(rt);
+                self.read(rt, judge, options.files.stdin_name.as_str(), read)
+            }
+            Found::File(name) => {
+                let read = bytes_of(rt, name.as_str());
+                self.read(rt, judge, name.as_str(), read)
+            }
+        }
+    }
+}
+
+/// Writes a page about files. The error is want of memory, or that standard output or standard error takes no more.
+pub(crate) fn report_files<R: Runtime + AllocGlobal, J: Judge>(
+    rt: &R,
+    judge: &J,
+    options: &ReportOptions,
+) -> io::Result<Status> {
+    let mut walk = Walk::new(rt, &options.files)?;
+    let mut report = Report {
+        page: Vec::new(rt.alloc()),
+        count: 0,
+        tally: Tally::new(),
+        said: Said::new(rt.alloc()),
+    };
+    append_start(&mut report.page)?;
+    for _ in 0..u64::MAX {
+        let Some(found) = walk.next(rt, &options.files)? else {
+            break;
+        };
+        report.found(rt, judge, options, found)?;
+    }
+    append_end(&mut report.page)?;
+    if let Err(error) = write_to(rt, options.page.as_str(), &report.page) {
+        report.fault(rt, options.page.as_str(), error)?;
+    }
+    Ok(report.tally.status())
+}

@@ -1,0 +1,49 @@
+//! The words of `load`.
+
+use crate::files::{FileOptions, file_options, with_images};
+use crate::parts::{choice, named, value, with};
+use clap::{ArgMatches, Command};
+use std::alloc::{AllocError, Global};
+
+/// How the code of an image is listed.
+#[derive(Clone, Copy, Debug, PartialEq, Eq)]
+pub enum LoadFormat {
+    /// With notes.
+    Human,
+    /// As `stencilc load` lists it.
+    Plain,
+}
+
+/// What `load` is asked for.
+#[derive(Debug, Drop)]
+pub struct LoadOptions {
+    pub files: FileOptions,
+    pub format: LoadFormat,
+}
+
+static FORMATS: [&str; 2] = ["human", "plain"];
+
+/// The command `load`.
+pub(crate) fn command<'a>(alloc: Global) -> Result<Command<'a>, AllocError> {
+    let command = named(alloc, "load", "list the code of images");
+    let command = with_images(alloc, command)?;
+    let formats = FORMATS.as_slice();
+    let format = choice(alloc, "format", formats, "human", "how code is listed");
+    with(command, format)
+}
+
+fn format_of(word: &str) -> LoadFormat {
+    match word {
+        "plain" => LoadFormat::Plain,
+        _ => LoadFormat::Human,
+    }
+}
+
+/// What the words of `load` ask for.
+pub(crate) fn options(alloc: Global, found: &ArgMatches<'_>) -> Result<LoadOptions, AllocError> {
+    let files = file_options(alloc, found)?;
+    Ok(LoadOptions {
+        files,
+        format: format_of(value(found, "format", "human")),
+    })
+}

@@ -1,0 +1,33 @@
+//! The words of `report`.
+
+use crate::files::{FileOptions, file_options, with_files};
+use crate::parts::{named, value, with};
+use clap::{Arg, ArgMatches, Command};
+use std::alloc::{AllocError, Global};
+
+/// What `report` is asked for.
+#[derive(Debug, Drop)]
+pub struct ReportOptions {
+    pub files: FileOptions,
+    /// The file that the page is written to, or `-` for standard output.
+    pub page: String,
+}
+
+/// The command `report`.
+pub(crate) fn command<'a>(alloc: Global) -> Result<Command<'a>, AllocError> {
+    let command = named(alloc, "report", "write one page for a browser");
+    let command = with_files(alloc, command)?;
+    let page = Arg::new(alloc, "output").long("output").short('o');
+    let page = page.value_name("PAGE").required(true);
+    with(
+        command,
+        page.help("where the page is written; - is standard output"),
+    )
+}
+
+/// What the words of `report` ask for.
+pub(crate) fn options(alloc: Global, found: &ArgMatches<'_>) -> Result<ReportOptions, AllocError> {
+    let files = file_options(alloc, found)?;
+    let page = String::from_str(alloc, value(found, "output", "-"))?;
+    Ok(ReportOptions { files, page })
+}

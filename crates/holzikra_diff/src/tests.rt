@@ -21,33 +21,33 @@ fn part(alloc: Global, code: &[u8]) -> Result<FunctionStencil, AllocError> {
     })
 }
 
-fn script(alloc: Global, top: &[u8]) -> Result<MergedStencil, AllocError> {
-    Ok(MergedStencil {
-        texts: Vec::new(alloc),
-        top: part(alloc, top)?,
-        records: Vec::new(alloc),
-        entries: Vec::new(alloc),
-    })
-}
-
-/// Adds a function that is called by the letter with this unit.
-fn add(
+/// A script of this code with these functions: of each the unit that it is called by, and its code.
+fn script(
     alloc: Global,
-    merged: &mut MergedStencil,
-    unit: u16,
-    code: &[u8],
-) -> Result<(), AllocError> {
-    let atom = merged.records.len() as u32 % 256;
-    merged.texts.push(Text::of(alloc, &[unit])?)?;
-    merged.records.push(LazyRecord {
-        extent: NOWHERE,
-        kind: FuncKind::Declared,
-        name: Some(atom),
-        inner: Vec::new(alloc),
-        closed: Vec::new(alloc),
-    })?;
-    merged.entries.push(Entry::Compiled(part(alloc, code)?))?;
-    Ok(())
+    top: &[u8],
+    functions: &[(u16, &[u8])],
+) -> Result<MergedStencil, AllocError> {
+    let mut texts = Vec::new(alloc);
+    let mut records = Vec::new(alloc);
+    let mut entries = Vec::new(alloc);
+    for (unit, code) in functions {
+        let atom = texts.len() as u32 % 256;
+        texts.push(Text::of(alloc, &[*unit])?)?;
+        records.push(LazyRecord {
+            extent: NOWHERE,
+            kind: FuncKind::Declared,
+            name: Some(atom),
+            inner: Vec::new(alloc),
+            closed: Vec::new(alloc),
+        })?;
+        entries.push(Entry::Compiled(part(alloc, code)?))?;
+    }
+    Ok(MergedStencil {
+        texts,
+        top: part(alloc, top)?,
+        records,
+        entries,
+    })
 }
 
 fn text(alloc: Global, old: &MergedStencil, new: &MergedStencil) -> Result<Vec<u8>, AllocError> {
@@ -72,11 +72,15 @@ fn a_function_in_front_changes_no_other(rt: HostRuntime) -> Result<(), Fail> {
     let alloc = rt.alloc();
     let lambda = Op::Lambda.byte();
     let end = Op::RetRval.byte();
-    let mut old = script(alloc, &[lambda, 1, 0, 0, 0, end])?;
-    add(alloc, &mut old, 102, &[Op::One.byte(), end])?;
-    let mut new = script(alloc, &[lambda, 1, 0, 0, 0, lambda, 2, 0, 0, 0, end])?;
-    add(alloc, &mut new, 103, &[Op::Zero.byte(), end])?;
-    add(alloc, &mut new, 102, &[Op::One.byte(), Op::Neg.byte(), end])?;
+    let one = [Op::One.byte(), end];
+    let negated = [Op::One.byte(), Op::Neg.byte(), end];
+    let zero = [Op::Zero.byte(), end];
+    let old = script(alloc, &[lambda, 1, 0, 0, 0, end], &[(102, one.as_slice())])?;
+    let new = script(
+        alloc,
+        &[lambda, 1, 0, 0, 0, lambda, 2, 0, 0, 0, end],
+        &[(103, zero.as_slice()), (102, negated.as_slice())],
+    )?;
     let wanted =
         b"--- a.js\n+++ b.js\n@@ script\n+  Lambda 1\n   Lambda 2\n   RetRval\n@@ function 1 g  added\n+  Zero\n+  RetRval\n@@ function 2 f\n   One\n+  Neg\n   RetRval\nscript changed, 1 function changed, 1 added, 0 removed, 0 the same; code 16 bytes, was 8\n";
     assert!(rt; text(alloc, &old, &new)?.as_slice() == wanted.as_slice());

@@ -8,8 +8,13 @@ use stencil_data::{Entry, Extent, FuncKind, FunctionStencil, LazyRecord, MergedS
 
 const NOWHERE: Extent = Extent { start: 0, end: 0 };
 
-/// A script with so many arrow functions that are not compiled.
-fn script(alloc: Global, code: &[u8], arrows: usize) -> Result<MergedStencil, AllocError> {
+/// A script of this code with these try notes, and with so many arrow functions that are not compiled.
+fn script(
+    alloc: Global,
+    code: &[u8],
+    notes: Vec<TryNote>,
+    arrows: usize,
+) -> Result<MergedStencil, AllocError> {
     let mut records = Vec::new(alloc);
     let mut entries = Vec::new(alloc);
     for _ in 0..arrows {
@@ -31,7 +36,7 @@ fn script(alloc: Global, code: &[u8], arrows: usize) -> Result<MergedStencil, Al
             params: 0,
             scopes: Vec::new(alloc),
             code: Vec::from_slice(alloc, code)?,
-            notes: Vec::new(alloc),
+            notes,
             inner: Vec::new(alloc),
         },
         records,
@@ -57,12 +62,13 @@ fn targets_are_numbered_in_order(rt: HostRuntime) -> Result<(), Fail> {
     let goto = Op::Goto.byte();
     let target = Op::JumpTarget.byte();
     let code = [goto, 10, 0, 0, 0, 0, 0, 0, 0, target, target];
-    let mut merged = script(alloc, &code, 0)?;
-    merged.top.notes.push(TryNote {
+    let mut notes = Vec::new(alloc);
+    notes.push(TryNote {
         start: 0,
         end: 9,
         depth: 1,
     })?;
+    let merged = script(alloc, &code, notes, 0)?;
     let mut table = LineTable::new(alloc);
     let all = script_lines(alloc, &mut table, &merged, Numbers::Own)?;
     let wanted = b"L1: Goto L3\nL2: JumpTarget\nL3: JumpTarget\ncatch L1..L2 depth 1\n";
@@ -74,8 +80,8 @@ fn targets_are_numbered_in_order(rt: HostRuntime) -> Result<(), Fail> {
 #[test]
 fn equals_are_paired_in_order(rt: HostRuntime) -> Result<(), Fail> {
     let alloc = rt.alloc();
-    let old = script(alloc, &[], 1)?;
-    let new = script(alloc, &[], 2)?;
+    let old = script(alloc, &[], Vec::new(alloc), 1)?;
+    let new = script(alloc, &[], Vec::new(alloc), 2)?;
     let pairs = pairs_of(alloc, &old, &new)?;
     assert!(rt; pairs.new_of.as_slice() == [Some(0), Some(1)].as_slice());
     assert!(rt; pairs.old_of.as_slice() == [Some(0), Some(1), None].as_slice());

@@ -31,7 +31,7 @@ fn script(
     let mut records = Vec::new(alloc);
     let mut entries = Vec::new(alloc);
     for (unit, code) in functions {
-        let atom = texts.len() as u32 % 256;
+        let atom = (texts.len() % 256) as u32;
         texts.push(Text::of(alloc, &[*unit])?)?;
         records.push(LazyRecord {
             extent: NOWHERE,

@@ -14,6 +14,7 @@ use Rattle.script_grammar.specs.declared.tree.Args.{Args}
 use Rattle.script_grammar.specs.declared.tree.Operand.{Operand}
 use Rattle.script_grammar.specs.declared.tree.Prop.{Prop}
 use Rattle.script_grammar.specs.declared.tree.Func.{Func, out-Func}
+use Rattle.script_grammar.specs.declared.tree.NewExpression.{NewExpression, out-NewExpression}
 use Rattle.script_grammar.specs.declared.tree.TemplatePart.{TemplatePart}
 use Rattle.script_grammar.proofs.PartEquations.{func_of-fields}
 use Rattle.script_grammar.proofs.ExprEquations as equation
@@ -55,9 +56,9 @@ pub at_chain : {s : Site} {old new : List ℕ} {wanted : Use} (e : Expr) (head :
 at_chain {s} e head tails x ts is x_is ts_is y = expr_at e (λ b. model.Chain (expr_of (at_site s b) x) (tails_of (map (tail_of (at_site s b)) ts)))
     (λ b. ap (expr_of (at_site s b)) is ∙ (equation.expr_of-Chain (at_site s b) head tails ∙ ap₂ (λ (v : Expr) (l : List Tail). model.Chain (expr_of (at_site s b) v) (tails_of (map (tail_of (at_site s b)) l))) (sym x_is) (sym ts_is))) y
 
-pub at_new : {s : Site} {old new : List ℕ} {wanted : Use} (e : Expr) (at : ℕ) (callee : Box Expr Global) (args : Option Args) (x : Expr) → e ≡ in_expr.New at callee args → x ≡ callee.value → RowEmits s old new wanted (λ b. model.New at (expr_of (at_site s b) x) (maybe_args_of (option_map (args_of (at_site s b)) args))) → ExprEmits s old new wanted e
-at_new {s} e at callee args x is x_is y = expr_at e (λ b. model.New at (expr_of (at_site s b) x) (maybe_args_of (option_map (args_of (at_site s b)) args)))
-    (λ b. ap (expr_of (at_site s b)) is ∙ (equation.expr_of-New (at_site s b) at callee args ∙ ap (λ (v : Expr). model.New at (expr_of (at_site s b) v) (maybe_args_of (option_map (args_of (at_site s b)) args))) (sym x_is))) y
+pub at_new : {s : Site} {old new : List ℕ} {wanted : Use} (e : Expr) (boxed : Box NewExpression Global) (x : NewExpression) → e ≡ in_expr.New boxed → x ≡ boxed.value → RowEmits s old new wanted (λ b. model.New (out-NewExpression x).at (expr_of (at_site s b) (out-NewExpression x).callee) (maybe_args_of (option_map (args_of (at_site s b)) (out-NewExpression x).args))) → ExprEmits s old new wanted e
+at_new {s} e boxed x is x_is y = expr_at e (λ b. model.New (out-NewExpression x).at (expr_of (at_site s b) (out-NewExpression x).callee) (maybe_args_of (option_map (args_of (at_site s b)) (out-NewExpression x).args)))
+    (λ b. ap (expr_of (at_site s b)) is ∙ (equation.expr_of-New (at_site s b) boxed ∙ ap (λ (z : NewExpression). model.New (out-NewExpression z).at (expr_of (at_site s b) (out-NewExpression z).callee) (maybe_args_of (option_map (args_of (at_site s b)) (out-NewExpression z).args))) (sym x_is))) y
 
 pub at_unary : {s : Site} {old new : List ℕ} {wanted : Use} (e : Expr) (at sign : ℕ) (of : Box Expr Global) (is_word : Bool) (x : Expr) → e ≡ in_expr.Unary at sign of is_word → x ≡ of.value → ((at : ℕ) → RowEmits s old new wanted (λ b. model.Unary at sign (expr_of (at_site s b) x) is_word)) → ExprEmits s old new wanted e
 at_unary {s} e at sign of is_word x is x_is y = expr_at e (λ b. model.Unary at sign (expr_of (at_site s b) x) is_word)

@@ -1,5 +1,7 @@
 -- Rows of the code of expressions, put together from what was appended.
 use Rattle.std.proofs.Common.{◌≡◌, ℕ, ◌+◌, ◌<◌, ◌^◌, List, [], ◌∷◌, ◌++◌, Bool, Option, Some, None, map, option_map, length, refl, sym, ◌∙◌, ap, subst, append_assoc, if◌then◌else◌, true, false, bytes_eq, lit<}
+use Rattle.std.specs.declared.boxed.Box.{Box}
+use Rattle.std.specs.declared.alloc.Global.{Global}
 use Rattle.script_grammar.specs.Tree.{Stmts}
 use Rattle.script_grammar.specs.Tree as model
 use Rattle.script_grammar.specs.TreeLists as part
@@ -198,29 +200,29 @@ method_row how start key x y z = record { code = written_as (λ bs f. ((f, tt), 
 lambda_same : (scene : code.Scene) (i : Interpretation) (func : Func) (start : ℕ) → start ≡ (out-Func func).start → code.lambda_at scene start ≡ code.lambda_code scene (func_of i func)
 lambda_same scene i func start is = ap (code.lambda_at scene) is ∙ sym (ap (code.lambda_code scene) (func_of-fields i func))
 
-pub prop_method : {s : Site} {old new : List ℕ} (key : Key) (func : Func) (start : ℕ) → start ≡ (out-Func func).start → MethodEmits s old new Value start key → PropEmits s old new (in_prop.Method key func)
+pub prop_method : {s : Site} {old new : List ℕ} (key : Key) (func : Box Func Global) (start : ℕ) → start ≡ (out-Func func.value).start → MethodEmits s old new Value start key → PropEmits s old new (in_prop.Method key func)
 prop_method {s} key func start is x = record {
   code = written_as (λ b f. subst PropFits (equation.prop_of-Method (at_site s b) key func) f)
       (λ b f. defining_parts (scene_of s) (key_of (at_site s b) key) Value (code.lambda_at (scene_of s) start)
-      ∙ (ap (code.defining (key_of (at_site s b) key) (code.key_code (scene_of s) (key_of (at_site s b) key)) Value) (lambda_same (scene_of s) (at_site s b) func start is)
+      ∙ (ap (code.defining (key_of (at_site s b) key) (code.key_code (scene_of s) (key_of (at_site s b) key)) Value) (lambda_same (scene_of s) (at_site s b) func.value start is)
       ∙ sym (ap (code.prop_code (scene_of s)) (equation.prop_of-Method (at_site s b) key func))))
       x.code;
 }
 
-pub prop_get : {s : Site} {old new : List ℕ} (key : Key) (func : Func) (start : ℕ) → start ≡ (out-Func func).start → MethodEmits s old new Getter start key → PropEmits s old new (in_prop.Get key func)
+pub prop_get : {s : Site} {old new : List ℕ} (key : Key) (func : Box Func Global) (start : ℕ) → start ≡ (out-Func func.value).start → MethodEmits s old new Getter start key → PropEmits s old new (in_prop.Get key func)
 prop_get {s} key func start is x = record {
   code = written_as (λ b f. subst PropFits (equation.prop_of-Get (at_site s b) key func) f)
       (λ b f. defining_parts (scene_of s) (key_of (at_site s b) key) Getter (code.lambda_at (scene_of s) start)
-      ∙ (ap (code.defining (key_of (at_site s b) key) (code.key_code (scene_of s) (key_of (at_site s b) key)) Getter) (lambda_same (scene_of s) (at_site s b) func start is)
+      ∙ (ap (code.defining (key_of (at_site s b) key) (code.key_code (scene_of s) (key_of (at_site s b) key)) Getter) (lambda_same (scene_of s) (at_site s b) func.value start is)
       ∙ sym (ap (code.prop_code (scene_of s)) (equation.prop_of-Get (at_site s b) key func))))
       x.code;
 }
 
-pub prop_set : {s : Site} {old new : List ℕ} (key : Key) (func : Func) (start : ℕ) → start ≡ (out-Func func).start → MethodEmits s old new Setter start key → PropEmits s old new (in_prop.Set key func)
+pub prop_set : {s : Site} {old new : List ℕ} (key : Key) (func : Box Func Global) (start : ℕ) → start ≡ (out-Func func.value).start → MethodEmits s old new Setter start key → PropEmits s old new (in_prop.Set key func)
 prop_set {s} key func start is x = record {
   code = written_as (λ b f. subst PropFits (equation.prop_of-Set (at_site s b) key func) f)
       (λ b f. defining_parts (scene_of s) (key_of (at_site s b) key) Setter (code.lambda_at (scene_of s) start)
-      ∙ (ap (code.defining (key_of (at_site s b) key) (code.key_code (scene_of s) (key_of (at_site s b) key)) Setter) (lambda_same (scene_of s) (at_site s b) func start is)
+      ∙ (ap (code.defining (key_of (at_site s b) key) (code.key_code (scene_of s) (key_of (at_site s b) key)) Setter) (lambda_same (scene_of s) (at_site s b) func.value start is)
       ∙ sym (ap (code.prop_code (scene_of s)) (equation.prop_of-Set (at_site s b) key func))))
       x.code;
 }

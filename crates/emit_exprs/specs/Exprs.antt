@@ -3,7 +3,12 @@
 use Rattle.std.specs.Prelude.{ℕ, ◌+◌, Bool, true, false, nat_eq, nat_lt, bytes_eq, codes, if◌then◌else◌, List, [], ◌∷◌, ◌++◌, count_by}
 use Rattle.script_grammar.specs.declared.token.mark.TheConstants as mark
 use Rattle.script_grammar.specs.declared.token.word.TheConstants as word
-use Rattle.script_grammar.specs.Tree.{Expr, This, Name, Null, True, False, Number, Str, Template, Array, Object, Func, Paren, Chain, New, Unary, Update, Binary, Cond, Assign, Comma, Exprs, no_exprs, more_exprs, MaybeExpr, no_expr, some_expr, MaybeArgs, no_args, some_args, Parts, no_parts, more_parts, Items, no_items, more_items, Operands, no_operands, more_operands, Tail, Dot, Index, Call, Tails, no_tails, more_tails, Key, WordKey, StrKey, NumberKey, ComputedKey, Prop, Short, Pair, Method, Get, Set, Props, no_props, more_props, Function, function}
+use Rattle.script_grammar.specs.Tree.{Expr, This, Name, Null, True, False, Number, Str, Template, Array, Object, Func, Paren, Chain, New}
+use Rattle.script_grammar.specs.Tree.{Unary, Update, Binary, Cond, Assign, Comma, Exprs, no_exprs, more_exprs, MaybeExpr, no_expr}
+use Rattle.script_grammar.specs.Tree.{some_expr, MaybeArgs, no_args, some_args, Parts, no_parts, more_parts, Items, no_items, more_items}
+use Rattle.script_grammar.specs.Tree.{Operands, no_operands, more_operands, Tail, Dot, Index, Call, Tails, no_tails, more_tails, Key}
+use Rattle.script_grammar.specs.Tree.{WordKey, StrKey, NumberKey, ComputedKey, Prop, Short, Pair, Method, Get, Set, Props, no_props}
+use Rattle.script_grammar.specs.Tree.{more_props, Function, function}
 use Rattle.stencil_data.specs.declared.scopes.Place.{Place}
 use Rattle.stencil_data.specs.declared.scopes.Place.TheVariants as place
 use Rattle.stencil_data.specs.LinkView.{LinkView}
@@ -172,7 +177,8 @@ keeping n = if nat_eq n 0 then [] else one (counted op.Unpick (n + 1))
 abbrev pub updating : Scene → Bool → ℕ → Target → Code
 updating scene true sign target = loading scene target ++ whole (plain op.ToNumeric ∷ plain (update_op sign) ∷ []) ++ storing scene target
 updating scene false sign target =
-    loading scene target ++ whole (plain op.ToNumeric ∷ plain op.Dup ∷ []) ++ keeping (reach_size scene target) ++ just (update_op sign) ++ storing scene target ++ just op.Pop
+    loading scene target ++ whole (plain op.ToNumeric ∷ plain op.Dup ∷ []) ++ keeping (reach_size scene target) ++ just (update_op sign)
+    ++ storing scene target ++ just op.Pop
 
 -- `=` and assignments with an operator, on a place that was reached: before the value, and after it
 abbrev pub before_value : Scene → ℕ → Target → Code
@@ -295,14 +301,19 @@ abbrev mutual
   code_of scene wanted (New at callee args) =
       code_of scene Plainly callee ++ whole (plain op.Dup ∷ plain op.IsConstructing ∷ []) ++ maybe_args_code scene args
       ++ whole (counted op.Pick (maybe_args_size args + 1) ∷ counted op.New (maybe_args_size args) ∷ []) ++ used_value wanted
-  code_of scene wanted (Unary at sign operand is_word) = code_of scene (operand_use is_word sign) operand ++ prefix_code is_word sign (is_name operand) ++ used_value wanted
-  code_of scene wanted (Update at sign prefix operand) = code_of scene Reached operand ++ updating scene prefix sign (target_of operand) ++ used_value wanted
+  code_of scene wanted (Unary at sign operand is_word) = code_of scene (operand_use is_word sign) operand
+      ++ prefix_code is_word sign (is_name operand) ++ used_value wanted
+  code_of scene wanted (Update at sign prefix operand) = code_of scene Reached operand ++ updating scene prefix sign (target_of operand)
+      ++ used_value wanted
   code_of scene wanted (Binary first rest) =
       joined (list_joining rest) rest (code_of scene Plainly first ++ operands_code scene (list_joining rest) rest) ++ used_value wanted
   code_of scene wanted (Cond test then_value else_value) =
-      here aim.After (here aim.Otherwise (code_of scene Plainly test ++ (Waiting op.JumpIfFalse aim.Otherwise ∷ code_of scene Plainly then_value) ++ (Waiting op.Goto aim.After ∷ [])) ++ code_of scene Plainly else_value)
+      here aim.After (here aim.Otherwise (code_of scene Plainly test
+      ++ (Waiting op.JumpIfFalse aim.Otherwise ∷ code_of scene Plainly then_value) ++ (Waiting op.Goto aim.After ∷ []))
+      ++ code_of scene Plainly else_value)
       ++ used_value wanted
-  code_of scene wanted (Assign sign target value) = code_of scene Reached target ++ before_value scene sign (target_of target) ++ code_of scene Plainly value ++ behind_value scene sign (target_of target) ++ used_value wanted
+  code_of scene wanted (Assign sign target value) = code_of scene Reached target ++ before_value scene sign (target_of target)
+      ++ code_of scene Plainly value ++ behind_value scene sign (target_of target) ++ used_value wanted
   code_of scene wanted (Comma items) = comma_code scene items ++ used_value wanted
 
   -- arguments, one after the other

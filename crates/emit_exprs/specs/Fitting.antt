@@ -1,7 +1,12 @@
 -- Trees whose counts fit the operands of instructions: a call or a `new` has at most 65,535 arguments (more are an early
 -- error of this project), and an array has fewer than 2^32 items (a text has fewer bytes). This project's own choice.
 use Rattle.std.specs.Prelude.{◌^◌, ◌<◌}
-use Rattle.script_grammar.specs.Tree.{Expr, This, Name, Null, True, False, Number, Str, Template, Array, Object, Func, Paren, Chain, New, Unary, Update, Binary, Cond, Assign, Comma, Exprs, no_exprs, more_exprs, MaybeExpr, no_expr, some_expr, MaybeArgs, no_args, some_args, Parts, no_parts, more_parts, Items, no_items, more_items, Operands, no_operands, more_operands, Tail, Dot, Index, Call, Tails, no_tails, more_tails, Key, WordKey, StrKey, NumberKey, ComputedKey, Prop, Short, Pair, Method, Get, Set, Props, no_props, more_props}
+use Rattle.script_grammar.specs.Tree.{Expr, This, Name, Null, True, False, Number, Str, Template, Array, Object, Func, Paren, Chain, New}
+use Rattle.script_grammar.specs.Tree.{Unary, Update, Binary, Cond, Assign, Comma, Exprs, no_exprs, more_exprs, MaybeExpr, no_expr}
+use Rattle.script_grammar.specs.Tree.{some_expr, MaybeArgs, no_args, some_args, Parts, no_parts, more_parts, Items, no_items, more_items}
+use Rattle.script_grammar.specs.Tree.{Operands, no_operands, more_operands, Tail, Dot, Index, Call, Tails, no_tails, more_tails, Key}
+use Rattle.script_grammar.specs.Tree.{WordKey, StrKey, NumberKey, ComputedKey, Prop, Short, Pair, Method, Get, Set, Props, no_props}
+use Rattle.script_grammar.specs.Tree.{more_props}
 use Rattle.emit_exprs.specs.Exprs.{args_size, items_size}
 
 abbrev mutual

@@ -108,7 +108,8 @@ abbrev pub joining : Bool → ℕ → Joining
 joining true sign = FromLeft
 joining false sign =
     if nat_eq sign mark.POWER then FromRight else
-    (if nat_eq sign mark.AND then Shortcut short.And else (if nat_eq sign mark.OR then Shortcut short.Or else (if nat_eq sign mark.COALESCE then Shortcut short.Coalesce else FromLeft)))
+    (if nat_eq sign mark.AND then Shortcut short.And
+    else (if nat_eq sign mark.OR then Shortcut short.Or else (if nat_eq sign mark.COALESCE then Shortcut short.Coalesce else FromLeft)))
 
 -- the shortest form of a number
 abbrev pub number_form : ℕ → NumberForm

@@ -32,20 +32,27 @@ WaitsOf (Shortcut short) waits = AllAfter waits
 
 -- what stands before an operand was appended
 pub record Begins (how : Joining) (bytes : List ℕ) (waits : List Wait) (bytes_new : List ℕ) (waits_new : List Wait) : Type 0 where
-  pub appends : (texts : List (List ℕ)) (notes : List TryNote) → Appends texts (emitted bytes waits notes) (emitted bytes_new waits_new notes) (before_operand how)
+  pub appends : (texts : List (List ℕ)) (notes : List TryNote)
+      → Appends texts (emitted bytes waits notes) (emitted bytes_new waits_new notes) (before_operand how)
   pub keeps : WaitsOf how waits → WaitsOf how waits_new
 
 -- the jumps, which all wait for what follows, were sent to the end
 pub record Ends (s : Site) (bytes : List ℕ) (waits : List Wait) (new : List ℕ) : Type 0 where
-  pub under : AllAfter waits → (start : List ℕ) (code : Code) → ((notes : List TryNote) → Appends s.texts.now (emitted start [] notes) (emitted bytes waits notes) code) → EmitsAt s start new (here aim.After code)
+  pub under : AllAfter waits → (start : List ℕ) (code : Code)
+      → ((notes : List TryNote) → Appends s.texts.now (emitted start [] notes) (emitted bytes waits notes) code)
+      → EmitsAt s start new (here aim.After code)
 
 -- the code of the operands is the list's
 pub record Joins (s : Site) (how : Joining) (rest : List Operand) (bytes : List ℕ) (waits : List Wait) (new : List ℕ) : Type 0 where
-  pub under : (i : Interpretation) → WaitsOf how waits → (start : List ℕ) (code : Code) → ((notes : List TryNote) → Appends s.texts.now (emitted start [] notes) (emitted bytes waits notes) code) → EmitsAt s start new (joined how (operands_of (map (operand_of i) rest)) code)
+  pub under : (i : Interpretation) → WaitsOf how waits → (start : List ℕ) (code : Code)
+      → ((notes : List TryNote) → Appends s.texts.now (emitted start [] notes) (emitted bytes waits notes) code)
+      → EmitsAt s start new (joined how (operands_of (map (operand_of i) rest)) code)
 
 -- the operands after the first
-pub record OperandsEmit (s : Site) (how : Joining) (bytes : List ℕ) (waits : List Wait) (new : List ℕ) (waits_new : List Wait) (rest : List Operand) : Type 0 where
+pub record OperandsEmit (s : Site) (how : Joining) (bytes : List ℕ) (waits : List Wait) (new : List ℕ) (waits_new : List Wait)
+    (rest : List Operand) : Type 0 where
   pub written : Code
   pub appends : (notes : List TryNote) → Appends s.texts.now (emitted bytes waits notes) (emitted new waits_new notes) written
   pub keeps : WaitsOf how waits → WaitsOf how waits_new
-  pub is : (bodies : ℕ → Stmts) → OperandsFit (operands_of (map (operand_of (at_site s bodies)) rest)) → written ≡ operands_code (scene_of s) how (operands_of (map (operand_of (at_site s bodies)) rest))
+  pub is : (bodies : ℕ → Stmts) → OperandsFit (operands_of (map (operand_of (at_site s bodies)) rest))
+      → written ≡ operands_code (scene_of s) how (operands_of (map (operand_of (at_site s bodies)) rest))

@@ -21,7 +21,8 @@ use Rattle.emit_exprs.specs.declared.site.Site.{Site}
 use Rattle.emit_exprs.specs.declared.uses.Use.{Use}
 use Rattle.emit_exprs.specs.declared.properties.Defines.{Defines}
 use Rattle.emit_exprs.specs.Sites.{EmitsAt, scene_of}
-use Rattle.emit_exprs.specs.Exprs.{code_of, exprs_code, maybe_args_code, maybe_args_size, item_code, tails_code, tail_code, prop_code, lambda_at, used_value, expr_code}
+use Rattle.emit_exprs.specs.Exprs.{code_of, exprs_code, maybe_args_code, maybe_args_size, item_code, tails_code, tail_code, prop_code}
+use Rattle.emit_exprs.specs.Exprs.{lambda_at, used_value, expr_code}
 use Rattle.emit_exprs.specs.Properties.{opening, closing, closing_pair}
 use Rattle.emit_exprs.specs.Fitting.{ExprFits, ExprsFit, MaybeExprFits, MaybeArgsFit, TailsFit, TailFits, KeyFits, PropFits}
 use Rattle.emit_exprs.specs.Whole.{whole}
@@ -46,7 +47,8 @@ pub record ExprEmits (s : Site) (old new : List ℕ) (wanted : Use) (e : Expr) :
 
 -- arguments
 pub record ExprsEmit (s : Site) (old new : List ℕ) (es : List Expr) : Type 0 where
-  pub code : Written s old new (λ bodies. ExprsFit (exprs_of (map (expr_of (at_site s bodies)) es))) (λ bodies. exprs_code (scene_of s) (exprs_of (map (expr_of (at_site s bodies)) es)))
+  pub code : Written s old new (λ bodies. ExprsFit (exprs_of (map (expr_of (at_site s bodies)) es)))
+      (λ bodies. exprs_code (scene_of s) (exprs_of (map (expr_of (at_site s bodies)) es)))
 
 -- an instruction with this count, where it fits two bytes, and what uses the value
 pub record Calls (s : Site) (old new : List ℕ) (count : ℕ) (code : Code) : Type 0 where
@@ -54,21 +56,26 @@ pub record Calls (s : Site) (old new : List ℕ) (count : ℕ) (code : Code) : T
 
 -- the arguments of a `new`, where it has some, and the `new`
 abbrev pub new_code : Site → Use → MaybeArgs → Code
-new_code s wanted args = maybe_args_code (scene_of s) args ++ whole (counted op.Pick (maybe_args_size args + 1) ∷ counted op.New (maybe_args_size args) ∷ []) ++ used_value wanted
+new_code s wanted args = maybe_args_code (scene_of s) args
+    ++ whole (counted op.Pick (maybe_args_size args + 1) ∷ counted op.New (maybe_args_size args) ∷ []) ++ used_value wanted
 
 pub record ArgsEmit (s : Site) (old new : List ℕ) (wanted : Use) (args : Option Args) : Type 0 where
-  pub code : Written s old new (λ bodies. MaybeArgsFit (maybe_args_of (option_map (args_of (at_site s bodies)) args))) (λ bodies. new_code s wanted (maybe_args_of (option_map (args_of (at_site s bodies)) args)))
+  pub code : Written s old new (λ bodies. MaybeArgsFit (maybe_args_of (option_map (args_of (at_site s bodies)) args)))
+      (λ bodies. new_code s wanted (maybe_args_of (option_map (args_of (at_site s bodies)) args)))
 
 -- an item of an array
 pub record ItemEmits (s : Site) (old new : List ℕ) (item : Option Expr) : Type 0 where
-  pub code : Written s old new (λ bodies. MaybeExprFits (maybe_expr_of (option_map (expr_of (at_site s bodies)) item))) (λ bodies. item_code (scene_of s) (maybe_expr_of (option_map (expr_of (at_site s bodies)) item)))
+  pub code : Written s old new (λ bodies. MaybeExprFits (maybe_expr_of (option_map (expr_of (at_site s bodies)) item)))
+      (λ bodies. item_code (scene_of s) (maybe_expr_of (option_map (expr_of (at_site s bodies)) item)))
 
 pub record TailsEmit (s : Site) (old new : List ℕ) (wanted : Use) (tails : List Tail) : Type 0 where
-  pub code : Written s old new (λ bodies. TailsFit (tails_of (map (tail_of (at_site s bodies)) tails))) (λ bodies. tails_code (scene_of s) wanted (tails_of (map (tail_of (at_site s bodies)) tails)))
+  pub code : Written s old new (λ bodies. TailsFit (tails_of (map (tail_of (at_site s bodies)) tails)))
+      (λ bodies. tails_code (scene_of s) wanted (tails_of (map (tail_of (at_site s bodies)) tails)))
 
 -- a part of a chain
 pub record TailEmits (s : Site) (old new : List ℕ) (wanted : Use) (t : Tail) : Type 0 where
-  pub code : Written s old new (λ bodies. TailFits (tail_of (at_site s bodies) t)) (λ bodies. tail_code (scene_of s) wanted (tail_of (at_site s bodies) t))
+  pub code : Written s old new (λ bodies. TailFits (tail_of (at_site s bodies) t))
+      (λ bodies. tail_code (scene_of s) wanted (tail_of (at_site s bodies) t))
 
 pub record PropEmits (s : Site) (old new : List ℕ) (p : Prop) : Type 0 where
   pub code : Written s old new (λ bodies. PropFits (prop_of (at_site s bodies) p)) (λ bodies. prop_code (scene_of s) (prop_of (at_site s bodies) p))
@@ -86,11 +93,13 @@ pub record ClosesPair (s : Site) (old new : List ℕ) (key : Key) : Type 0 where
 
 -- a property whose value is a function
 pub record MethodEmits (s : Site) (old new : List ℕ) (how : Defines) (start : ℕ) (key : Key) : Type 0 where
-  pub code : Written s old new (λ bodies. KeyFits (key_of (at_site s bodies) key)) (λ bodies. opening (scene_of s) (key_of (at_site s bodies) key) ++ lambda_at (scene_of s) start ++ closing how (key_of (at_site s bodies) key))
+  pub code : Written s old new (λ bodies. KeyFits (key_of (at_site s bodies) key))
+      (λ bodies. opening (scene_of s) (key_of (at_site s bodies) key) ++ lambda_at (scene_of s) start ++ closing how (key_of (at_site s bodies) key))
 
 -- The code of an expression was appended under a chain, beside functions of these extents, whatever the bodies of the
 -- functions that were passed over, where its counts fit.
 abbrev pub ExprCode : List LinkView → List Extent → List (List ℕ) → List ℕ → List ℕ → Expr → Type 0
 ExprCode chain inner texts old new e =
     (bodies : ℕ → Stmts) → ExprFits (expr_of (record { texts = texts; bodies = bodies }) e)
-    → Emits texts old new (expr_code (record { chain = chain; starts = map (λ (x : Extent). x.start) inner }) (expr_of (record { texts = texts; bodies = bodies }) e))
+    → Emits texts old new (expr_code (record { chain = chain; starts = map (λ (x : Extent). x.start) inner })
+    (expr_of (record { texts = texts; bodies = bodies }) e))

@@ -43,7 +43,8 @@ pub fn construct(
     count: usize,
     wanted: Use,
 ) -> Result<(), AllocError>
-    ensures { OnOk result (Calls site.now out.old out.new count (whole (command.counted Op.Pick (count + 1) ∷ command.counted Op.New count ∷ []) ++ code.used_value wanted)) }
+    ensures { OnOk result (Calls site.now out.old out.new count
+        (whole (command.counted Op.Pick (count + 1) ∷ command.counted Op.New count ∷ []) ++ code.used_value wanted)) }
 {
     let args = count_within(count, MOST_ARGS);
     counted(out, Op::Pick, args + 1)?;

@@ -30,7 +30,8 @@ pub struct Emit {
 /// After an error `out` holds a front of it and is only dropped.
 pub fn read(out: &mut Emit, atom: u32, place: &Place) -> Result<(), AllocError>
     requires { PlaceFits place.now }
-    ensures code { OnOk result (Emits out.old.texts.items out.old.code out.new.code (whole (code.read (slice_index_or out.old.texts.items atom []) place.now))) }
+    ensures code { OnOk result (Emits out.old.texts.items out.old.code out.new.code
+        (whole (code.read (slice_index_or out.old.texts.items atom []) place.now))) }
     ensures texts { out.new.texts ≡ out.old.texts }
     ensures inner { out.new.inner ≡ out.old.inner }
 {
@@ -42,7 +43,8 @@ pub fn read(out: &mut Emit, atom: u32, place: &Place) -> Result<(), AllocError>
 ///
 /// After an error `out` holds a front of it and is only dropped.
 pub fn base(out: &mut Emit, atom: u32, place: &Place) -> Result<(), AllocError>
-    ensures code { OnOk result (Emits out.old.texts.items out.old.code out.new.code (whole (code.base (slice_index_or out.old.texts.items atom []) place.now))) }
+    ensures code { OnOk result (Emits out.old.texts.items out.old.code out.new.code
+        (whole (code.base (slice_index_or out.old.texts.items atom []) place.now))) }
     ensures texts { out.new.texts ≡ out.old.texts }
     ensures inner { out.new.inner ≡ out.old.inner }
 {
@@ -55,7 +57,8 @@ pub fn base(out: &mut Emit, atom: u32, place: &Place) -> Result<(), AllocError>
 /// After an error `out` holds a front of it and is only dropped.
 pub fn write(out: &mut Emit, atom: u32, place: &Place) -> Result<(), AllocError>
     requires { PlaceFits place.now }
-    ensures code { OnOk result (Emits out.old.texts.items out.old.code out.new.code (whole (code.write (slice_index_or out.old.texts.items atom []) place.now))) }
+    ensures code { OnOk result (Emits out.old.texts.items out.old.code out.new.code
+        (whole (code.write (slice_index_or out.old.texts.items atom []) place.now))) }
     ensures texts { out.new.texts ≡ out.old.texts }
     ensures inner { out.new.inner ≡ out.old.inner }
 {
@@ -68,7 +71,8 @@ pub fn write(out: &mut Emit, atom: u32, place: &Place) -> Result<(), AllocError>
 /// After an error `out` holds a front of it and is only dropped.
 pub fn init(out: &mut Emit, atom: u32, place: &Place) -> Result<(), AllocError>
     requires { PlaceFits place.now }
-    ensures code { OnOk result (Emits out.old.texts.items out.old.code out.new.code (whole (code.init (slice_index_or out.old.texts.items atom []) place.now))) }
+    ensures code { OnOk result (Emits out.old.texts.items out.old.code out.new.code
+        (whole (code.init (slice_index_or out.old.texts.items atom []) place.now))) }
     ensures texts { out.new.texts ≡ out.old.texts }
     ensures inner { out.new.inner ≡ out.old.inner }
 {

@@ -5,7 +5,8 @@ ghost use Rattle.script_grammar.specs.TreeLists.{exprs_of, items_of, parts_of, p
 ghost use Rattle.script_grammar.specs.TreeOf.{expr_of, part_of, prop_of};
 ghost use Rattle.emit_exprs.specs.Sites.{text_in};
 ghost use Rattle.emit_exprs.specs.Shortcuts.{OperandsEmit};
-ghost use Rattle.emit_exprs.specs.TreeCode.{at_site, RowEmits, ExprEmits, ExprsEmit, ArgsEmit, ItemEmits, TailEmits, TailsEmit, PropEmits, MethodEmits, KeyEmits};
+ghost use Rattle.emit_exprs.specs.TreeCode.{at_site, RowEmits, ExprEmits, ExprsEmit, ArgsEmit, ItemEmits, TailEmits, TailsEmit, PropEmits};
+ghost use Rattle.emit_exprs.specs.TreeCode.{MethodEmits, KeyEmits};
 
 use crate::counts::{array_item, call, construct, new_array};
 use crate::literals::{lambda, number};
@@ -23,7 +24,7 @@ use crate::values::{
     short_prop, text_value, this_value,
 };
 use bytecode_buf::{Aim, CodeBuf, Op, Wait, jump_to, target};
-use script_grammar::tree::{Args, Expr, Key, Operand, Prop, Tail, TemplatePart};
+use script_grammar::tree::{Args, Expr, Key, NewExpression, Operand, Prop, Tail, TemplatePart};
 use std::alloc::AllocError;
 
 /// Appends the code of an expression that is used so.
@@ -65,14 +66,11 @@ pub fn emit_expr(out: &mut CodeBuf, site: &Site, tree: &Expr, wanted: Use) -> Re
             emit_tails(out, site, tails, wanted)?;
             Ok(())
         }
-        Expr::New {
-            at: _,
-            callee,
-            args,
-        } => {
-            emit_expr(out, site, callee, Use::Plainly)?;
+        Expr::New(boxed) => {
+            let new: &NewExpression = boxed;
+            emit_expr(out, site, &new.callee, Use::Plainly)?;
             before_new(out)?;
-            emit_args(out, site, args, wanted)?;
+            emit_args(out, site, &new.args, wanted)?;
             Ok(())
         }
         Expr::Unary {
@@ -131,7 +129,8 @@ fn emit_template(
     parts: &[TemplatePart],
     wanted: Use,
 ) -> Result<(), AllocError>
-    ensures { OnOk result ((at : ℕ) → RowEmits site.now out.old out.new wanted (λ bodies. model.Template at (text_in site.now first) (parts_of (map (part_of (at_site site.now bodies)) parts.now)))) }
+    ensures { OnOk result ((at : ℕ) → RowEmits site.now out.old out.new wanted
+        (λ bodies. model.Template at (text_in site.now first) (parts_of (map (part_of (at_site site.now bodies)) parts.now)))) }
 {
     named(out, Op::String, first)?;
     for part in parts {
@@ -149,7 +148,8 @@ fn emit_array(
     items: &[Option<Expr>],
     wanted: Use,
 ) -> Result<(), AllocError>
-    ensures { OnOk result ((at : ℕ) (comma : Bool) → RowEmits site.now out.old out.new wanted (λ bodies. model.Array at (items_of (map (option_map (expr_of (at_site site.now bodies))) items.now)) comma)) }
+    ensures { OnOk result ((at : ℕ) (comma : Bool) → RowEmits site.now out.old out.new wanted
+        (λ bodies. model.Array at (items_of (map (option_map (expr_of (at_site site.now bodies))) items.now)) comma)) }
 {
     new_array(out, site, items.len())?;
     for (index, item) in items.iter().enumerate() {
@@ -178,7 +178,8 @@ fn emit_object(
     props: &[Prop],
     wanted: Use,
 ) -> Result<(), AllocError>
-    ensures { OnOk result ((at : ℕ) (comma : Bool) → RowEmits site.now out.old out.new wanted (λ bodies. model.Object at (props_of (map (prop_of (at_site site.now bodies)) props.now)) comma)) }
+    ensures { OnOk result ((at : ℕ) (comma : Bool) → RowEmits site.now out.old out.new wanted
+        (λ bodies. model.Object at (props_of (map (prop_of (at_site site.now bodies)) props.now)) comma)) }
 {
     plain(out, Op::NewInit)?;
     for prop in props {
@@ -309,7 +310,8 @@ fn emit_unary(
     operand: &Expr,
     wanted: Use,
 ) -> Result<(), AllocError>
-    ensures { OnOk result ((at : ℕ) → RowEmits site.now out.old out.new wanted (λ bodies. model.Unary at sign (expr_of (at_site site.now bodies) operand.now) is_word)) }
+    ensures { OnOk result ((at : ℕ) → RowEmits site.now out.old out.new wanted
+        (λ bodies. model.Unary at sign (expr_of (at_site site.now bodies) operand.now) is_word)) }
 {
     emit_expr(out, site, operand, operand_use(is_word, sign))?;
     prefix_operator(out, is_word, sign, is_name(target_of(operand)))?;
@@ -326,7 +328,8 @@ fn emit_update(
     operand: &Expr,
     wanted: Use,
 ) -> Result<(), AllocError>
-    ensures { OnOk result ((at : ℕ) → RowEmits site.now out.old out.new wanted (λ bodies. model.Update at sign prefix (expr_of (at_site site.now bodies) operand.now))) }
+    ensures { OnOk result ((at : ℕ) → RowEmits site.now out.old out.new wanted
+        (λ bodies. model.Update at sign prefix (expr_of (at_site site.now bodies) operand.now))) }
 {
     emit_expr(out, site, operand, Use::Reached)?;
     updating(out, site, prefix, sign, target_of(operand))?;
@@ -355,7 +358,8 @@ fn emit_operands(
 
 #[cycle(exprs)]
 fn emit_comma(out: &mut CodeBuf, site: &Site, items: &[Expr], wanted: Use) -> Result<(), AllocError>
-    ensures { OnOk result (RowEmits site.now out.old out.new wanted (λ bodies. model.Comma (exprs_of (map (expr_of (at_site site.now bodies)) items.now)))) }
+    ensures { OnOk result (RowEmits site.now out.old out.new wanted
+        (λ bodies. model.Comma (exprs_of (map (expr_of (at_site site.now bodies)) items.now)))) }
 {
     for (index, item) in items.iter().enumerate() {
         emit_expr(out, site, item, Use::Plainly)?;

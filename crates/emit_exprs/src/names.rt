@@ -44,7 +44,8 @@ pub fn access_of_kind(kind: BindKind) -> Access
 #[tactic(auto, using(crate::proofs::Singles::emits_nothing))]
 fn check_frame(out: &mut CodeBuf, access: Access, slot: u32) -> Result<(), AllocError>
     requires { slot < 2 ^ 24 }
-    ensures { OnOk result ((texts : List (List ℕ)) → Emits texts out.old out.new (whole (code.checked access (command.counted Op.CheckLexical slot)))) }
+    ensures { OnOk result ((texts : List (List ℕ)) → Emits texts out.old out.new
+        (whole (code.checked access (command.counted Op.CheckLexical slot)))) }
 {
     match access {
         Access::Free => Ok(()),
@@ -59,7 +60,8 @@ fn check_frame(out: &mut CodeBuf, access: Access, slot: u32) -> Result<(), Alloc
 fn check_env(out: &mut CodeBuf, access: Access, hops: u32, slot: u32) -> Result<(), AllocError>
     requires hops { hops < 2 ^ 16 }
     requires slot { slot < 2 ^ 24 }
-    ensures { OnOk result ((texts : List (List ℕ)) → Emits texts out.old out.new (whole (code.checked access (command.aliased Op.CheckAliasedLexical hops slot)))) }
+    ensures { OnOk result ((texts : List (List ℕ)) → Emits texts out.old out.new
+        (whole (code.checked access (command.aliased Op.CheckAliasedLexical hops slot)))) }
 {
     match access {
         Access::Free => Ok(()),
@@ -119,7 +121,8 @@ pub fn base_at(out: &mut CodeBuf, atom: u32, place: &Place) -> Result<(), AllocE
 // A write of a `let` in the frame: the check, and the set.
 fn write_checked_frame(out: &mut CodeBuf, slot: u32) -> Result<(), AllocError>
     requires { slot < 2 ^ 24 }
-    ensures { OnOk result ((texts : List (List ℕ)) → Emits texts out.old out.new (whole (code.after_check (code.read_frame slot Access.Checked) (command.counted Op.SetLocal slot)))) }
+    ensures { OnOk result ((texts : List (List ℕ)) → Emits texts out.old out.new
+        (whole (code.after_check (code.read_frame slot Access.Checked) (command.counted Op.SetLocal slot)))) }
 {
     read_frame(out, slot, Access::Checked)?;
     plain(out, Op::Pop)?;
@@ -130,7 +133,8 @@ fn write_checked_frame(out: &mut CodeBuf, slot: u32) -> Result<(), AllocError>
 // A write of a `const` in the frame: the check, and a throw.
 fn write_constant_frame(out: &mut CodeBuf, atom: u32, slot: u32) -> Result<(), AllocError>
     requires { slot < 2 ^ 24 }
-    ensures { OnOk result ((texts : List (List ℕ)) → Emits texts out.old out.new (whole (code.after_check (code.read_frame slot Access.Constant) (command.named Op.ThrowSetConst (slice_index_or texts atom []))))) }
+    ensures { OnOk result ((texts : List (List ℕ)) → Emits texts out.old out.new
+        (whole (code.after_check (code.read_frame slot Access.Constant) (command.named Op.ThrowSetConst (slice_index_or texts atom []))))) }
 {
     read_frame(out, slot, Access::Constant)?;
     plain(out, Op::Pop)?;
@@ -141,7 +145,8 @@ fn write_constant_frame(out: &mut CodeBuf, atom: u32, slot: u32) -> Result<(), A
 fn write_checked_env(out: &mut CodeBuf, hops: u32, slot: u32) -> Result<(), AllocError>
     requires hops { hops < 2 ^ 16 }
     requires slot { slot < 2 ^ 24 }
-    ensures { OnOk result ((texts : List (List ℕ)) → Emits texts out.old out.new (whole (code.after_check (code.read_env hops slot Access.Checked) (command.aliased Op.SetAliasedVar hops slot)))) }
+    ensures { OnOk result ((texts : List (List ℕ)) → Emits texts out.old out.new
+        (whole (code.after_check (code.read_env hops slot Access.Checked) (command.aliased Op.SetAliasedVar hops slot)))) }
 {
     read_env(out, hops, slot, Access::Checked)?;
     plain(out, Op::Pop)?;
@@ -152,7 +157,8 @@ fn write_checked_env(out: &mut CodeBuf, hops: u32, slot: u32) -> Result<(), Allo
 fn write_constant_env(out: &mut CodeBuf, atom: u32, hops: u32, slot: u32) -> Result<(), AllocError>
     requires hops { hops < 2 ^ 16 }
     requires slot { slot < 2 ^ 24 }
-    ensures { OnOk result ((texts : List (List ℕ)) → Emits texts out.old out.new (whole (code.after_check (code.read_env hops slot Access.Constant) (command.named Op.ThrowSetConst (slice_index_or texts atom []))))) }
+    ensures { OnOk result ((texts : List (List ℕ)) → Emits texts out.old out.new
+        (whole (code.after_check (code.read_env hops slot Access.Constant) (command.named Op.ThrowSetConst (slice_index_or texts atom []))))) }
 {
     read_env(out, hops, slot, Access::Constant)?;
     plain(out, Op::Pop)?;
@@ -162,7 +168,8 @@ fn write_constant_env(out: &mut CodeBuf, atom: u32, hops: u32, slot: u32) -> Res
 
 fn write_frame(out: &mut CodeBuf, atom: u32, slot: u32, access: Access) -> Result<(), AllocError>
     requires { slot < 2 ^ 24 }
-    ensures { OnOk result ((texts : List (List ℕ)) → Emits texts out.old out.new (whole (code.write_frame (slice_index_or texts atom []) slot access))) }
+    ensures { OnOk result ((texts : List (List ℕ)) → Emits texts out.old out.new
+        (whole (code.write_frame (slice_index_or texts atom []) slot access))) }
 {
     match access {
         Access::Free => Ok(counted(out, Op::SetLocal, slot)?),
@@ -181,7 +188,8 @@ fn write_env(
 ) -> Result<(), AllocError>
     requires hops { hops < 2 ^ 16 }
     requires slot { slot < 2 ^ 24 }
-    ensures { OnOk result ((texts : List (List ℕ)) → Emits texts out.old out.new (whole (code.write_env (slice_index_or texts atom []) hops slot access))) }
+    ensures { OnOk result ((texts : List (List ℕ)) → Emits texts out.old out.new
+        (whole (code.write_env (slice_index_or texts atom []) hops slot access))) }
 {
     match access {
         Access::Free => Ok(aliased(out, Op::SetAliasedVar, hops, slot)?),

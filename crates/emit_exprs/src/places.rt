@@ -64,11 +64,7 @@ pub fn target_of(tree: &Expr) -> Target
             comma: _,
         } => Target::Nothing,
         Expr::Func { at: _, func: _ } => Target::Nothing,
-        Expr::New {
-            at: _,
-            callee: _,
-            args: _,
-        } => Target::Nothing,
+        Expr::New(_) => Target::Nothing,
         Expr::Unary {
             at: _,
             op: _,

@@ -59,7 +59,8 @@ pub fn behind_operand(
 
 // The operators of a list of `**`.
 fn powers(out: &mut CodeBuf, rest: &[Operand]) -> Result<(), AllocError>
-    ensures { OnOk result ((texts : List (List ℕ)) (i : Interpretation) → Emits texts out.old out.new (code.powers (operands_of (map (operand_of i) rest.now)))) }
+    ensures { OnOk result ((texts : List (List ℕ)) (i : Interpretation)
+        → Emits texts out.old out.new (code.powers (operands_of (map (operand_of i) rest.now)))) }
 {
     for _operand in rest {
         plain(out, Op::Pow)?;

@@ -27,7 +27,8 @@ pub enum Target {
 }
 
 fn load_prop(out: &mut CodeBuf, atom: u32) -> Result<(), AllocError>
-    ensures { OnOk result ((texts : List (List ℕ)) → Emits texts out.old out.new (whole (command.plain Op.Dup ∷ command.named Op.GetProp (slice_index_or texts atom []) ∷ []))) }
+    ensures { OnOk result ((texts : List (List ℕ)) → Emits texts out.old out.new
+        (whole (command.plain Op.Dup ∷ command.named Op.GetProp (slice_index_or texts atom []) ∷ []))) }
 {
     plain(out, Op::Dup)?;
     named(out, Op::GetProp, atom)?;
@@ -35,7 +36,8 @@ fn load_prop(out: &mut CodeBuf, atom: u32) -> Result<(), AllocError>
 }
 
 fn load_elem(out: &mut CodeBuf) -> Result<(), AllocError>
-    ensures { OnOk result ((texts : List (List ℕ)) → Emits texts out.old out.new (whole (command.plain Op.ToPropertyKey ∷ command.plain Op.Dup2 ∷ command.plain Op.GetElem ∷ []))) }
+    ensures { OnOk result ((texts : List (List ℕ)) → Emits texts out.old out.new
+        (whole (command.plain Op.ToPropertyKey ∷ command.plain Op.Dup2 ∷ command.plain Op.GetElem ∷ []))) }
 {
     plain(out, Op::ToPropertyKey)?;
     plain(out, Op::Dup2)?;

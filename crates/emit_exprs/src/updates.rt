@@ -72,7 +72,8 @@ fn keeping(out: &mut CodeBuf, size: u32) -> Result<(), AllocError>
 }
 
 fn numeric_updated(out: &mut CodeBuf, sign: u8) -> Result<(), AllocError>
-    ensures { OnOk result ((texts : List (List ℕ)) → Emits texts out.old out.new (whole (command.plain Op.ToNumeric ∷ command.plain (operators.update_op sign) ∷ []))) }
+    ensures { OnOk result ((texts : List (List ℕ)) → Emits texts out.old out.new
+        (whole (command.plain Op.ToNumeric ∷ command.plain (operators.update_op sign) ∷ []))) }
 {
     plain(out, Op::ToNumeric)?;
     plain(out, update_op(sign))?;
@@ -156,7 +157,8 @@ pub fn before_value(
 // The operator of an assignment, where it has one.
 #[tactic(auto, using(crate::proofs::Singles::emits_nothing))]
 fn operating(out: &mut CodeBuf, sign: u8) -> Result<(), AllocError>
-    ensures { OnOk result ((texts : List (List ℕ)) → Emits texts out.old out.new (if nat_eq sign mark.ASSIGN then [] else just (operators.assign_op sign))) }
+    ensures { OnOk result ((texts : List (List ℕ)) → Emits texts out.old out.new
+        (if nat_eq sign mark.ASSIGN then [] else just (operators.assign_op sign))) }
 {
     if sign == mark::ASSIGN {
         Ok(())

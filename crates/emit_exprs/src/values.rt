@@ -103,7 +103,8 @@ pub fn name_value(out: &mut CodeBuf, site: &Site, atom: u32, wanted: Use) -> Res
 
 /// A name that is a property and its value.
 pub fn short_prop(out: &mut CodeBuf, site: &Site, atom: u32) -> Result<(), AllocError>
-    ensures { OnOk result (EmitsAt site.now out.old out.new (code.reading (scene_of site.now) (text_in site.now atom) ++ one (command.named Op.InitProp (text_in site.now atom)))) }
+    ensures { OnOk result (EmitsAt site.now out.old out.new
+        (code.reading (scene_of site.now) (text_in site.now atom) ++ one (command.named Op.InitProp (text_in site.now atom)))) }
 {
     reading(out, site, atom)?;
     named(out, Op::InitProp, atom)?;
@@ -141,7 +142,8 @@ fn text_behind(out: &mut CodeBuf, site: &Site, atom: u32) -> Result<(), AllocErr
 
 /// What stands after the value of a template's substitution; the atom is that of the text after it.
 pub fn after_part(out: &mut CodeBuf, site: &Site, atom: u32) -> Result<(), AllocError>
-    ensures { OnOk result (EmitsAt site.now out.old out.new (whole (command.plain Op.ToString ∷ command.plain Op.Add ∷ []) ++ code.text_behind (text_in site.now atom))) }
+    ensures { OnOk result (EmitsAt site.now out.old out.new
+        (whole (command.plain Op.ToString ∷ command.plain Op.Add ∷ []) ++ code.text_behind (text_in site.now atom))) }
 {
     plain(out, Op::ToString)?;
     plain(out, Op::Add)?;
@@ -151,7 +153,8 @@ pub fn after_part(out: &mut CodeBuf, site: &Site, atom: u32) -> Result<(), Alloc
 
 /// What stands after what `new` is done with.
 pub fn before_new(out: &mut CodeBuf) -> Result<(), AllocError>
-    ensures { OnOk result ((texts : List (List ℕ)) → Emits texts out.old out.new (whole (command.plain Op.Dup ∷ command.plain Op.IsConstructing ∷ []))) }
+    ensures { OnOk result ((texts : List (List ℕ)) → Emits texts out.old out.new
+        (whole (command.plain Op.Dup ∷ command.plain Op.IsConstructing ∷ []))) }
 {
     plain(out, Op::Dup)?;
     plain(out, Op::IsConstructing)?;

@@ -58,10 +58,13 @@ is_body_var scope.FunctionBodyVar = true
 abbrev pub entered_code : List NamedScope → List ℕ → List Text → ℕ → List LinkView → Code
 entered_code scopes starts params number base =
     push_env op.PushVarEnv (scope_at scopes number) number
-    ++ copies_code (record { chain = chain_link (scope_at scopes number) ∷ base; starts = starts }) base (environments_of (chain_link (scope_at scopes number))) params (scope_at scopes number).bindings
+    ++ copies_code (record { chain = chain_link (scope_at scopes number) ∷ base; starts = starts }) base
+    (environments_of (chain_link (scope_at scopes number))) params (scope_at scopes number).bindings
 
 pub record VarsEntered (s : StmtContext) (old new : List ℕ) (number : ℕ) (ps : List Param) : Type 0 where
-  pub made : Written s.exprs old new (λ bodies. Unit {0}) (λ bodies. entered_code (position_of s).scopes (position_of s).starts (param_names (params_under s.exprs.texts.now bodies ps)) number s.exprs.chain.now)
+  pub made : Written s.exprs old new (λ bodies. Unit {0})
+      (λ bodies. entered_code (position_of s).scopes (position_of s).starts
+      (param_names (params_under s.exprs.texts.now bodies ps)) number s.exprs.chain.now)
 
 -- ---- bodies
 
@@ -92,7 +95,8 @@ pub record BracedWritten (p : Position) (old new : Emitted) (number : ℕ) (ps :
   pub appends : Appends p.texts old new written
   pub is : (bodies : ℕ → Stmts)
       → BodyStands p.scopes number (has_initializer (params_under p.texts bodies ps)) (BracedBody (stmts_under p.texts bodies items))
-      → written ≡ body_code p.scopes p.starts (has_initializer (params_under p.texts bodies ps)) (param_names (params_under p.texts bodies ps)) (BracedBody (stmts_under p.texts bodies items)) number p.chain
+      → written ≡ body_code p.scopes p.starts (has_initializer (params_under p.texts bodies ps))
+      (param_names (params_under p.texts bodies ps)) (BracedBody (stmts_under p.texts bodies items)) number p.chain
 
 -- the same of any body that was read
 pub record BodyWritten (p : Position) (old new : Emitted) (number : ℕ) (ps : List Param) (b : FuncBody) : Type 0 where
@@ -100,4 +104,5 @@ pub record BodyWritten (p : Position) (old new : Emitted) (number : ℕ) (ps : L
   pub appends : Appends p.texts old new written
   pub is : (bodies : ℕ → Stmts) (body : Body) → body_of (under p.texts bodies) b ≡ Some body
       → BodyStands p.scopes number (has_initializer (params_under p.texts bodies ps)) body
-      → written ≡ body_code p.scopes p.starts (has_initializer (params_under p.texts bodies ps)) (param_names (params_under p.texts bodies ps)) body number p.chain
+      → written ≡ body_code p.scopes p.starts (has_initializer (params_under p.texts bodies ps))
+      (param_names (params_under p.texts bodies ps)) body number p.chain

@@ -23,10 +23,13 @@ pub record Passes (chain : List LinkView) (hops : ℕ) (outer : List LinkView) :
 
 -- one name, where it is that of a parameter
 abbrev pub copy_code : Scene → List LinkView → ℕ → List Text → Text → Code
-copy_code scene outer hops params name = if has_text params name then whole (read name (resolve_beyond hops outer name)) ++ writing scene name ++ just op.Pop else []
+copy_code scene outer hops params name = if has_text params name then whole (read name (resolve_beyond hops outer name))
+    ++ writing scene name ++ just op.Pop else []
 
 pub record CopyEmits (s : Site) (hops : ℕ) (outer : List LinkView) (old new : List ℕ) (ps : List Param) (atom : ℕ) : Type 0 where
-  pub made : Written s old new (λ bodies. Unit {0}) (λ bodies. copy_code (scene_of s) outer hops (param_names (params_in s bodies ps)) (text_in s atom))
+  pub made : Written s old new (λ bodies. Unit {0})
+      (λ bodies. copy_code (scene_of s) outer hops (param_names (params_in s bodies ps)) (text_in s atom))
 
 pub record CopiesEmit (s : Site) (hops : ℕ) (outer : List LinkView) (old new : List ℕ) (ps : List Param) (bindings : List Binding) : Type 0 where
-  pub made : Written s old new (λ bodies. Unit {0}) (λ bodies. copies_code (scene_of s) outer hops (param_names (params_in s bodies ps)) (named_bindings s.texts.now bindings))
+  pub made : Written s old new (λ bodies. Unit {0})
+      (λ bodies. copies_code (scene_of s) outer hops (param_names (params_in s bodies ps)) (named_bindings s.texts.now bindings))

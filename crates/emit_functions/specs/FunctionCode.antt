@@ -59,7 +59,8 @@ abbrev pub scopes_in : FuncKind → Option Text → Function → ℕ
 scopes_in kind name (function _ _ _ _ params _ _ body) = scope_count (callee_names kind name) + 1 + body_count (has_initializer params) body
 
 -- this is the name of the function, these are its scopes and the functions that stand directly in it, and its counts fit
-pub record Belong (texts : List (List ℕ)) (kind : FuncKind) (name : Option ℕ) (scopes : List ScopeView) (inner : List Extent) (f : Function) : Type 0 where
+pub record Belong (texts : List (List ℕ)) (kind : FuncKind) (name : Option ℕ) (scopes : List ScopeView) (inner : List Extent)
+    (f : Function) : Type 0 where
   pub name_within : NameWithin (length texts) name
   pub scopes_are : ScopesStandFor texts scopes (function_scopes kind (option_map (text_at texts) name) f)
   pub inner_are : inner ≡ extents_of (inner_function kind (option_map (text_at texts) name) f)
@@ -67,7 +68,8 @@ pub record Belong (texts : List (List ℕ)) (kind : FuncKind) (name : Option ℕ
   pub numbered : scopes_in kind (option_map (text_at texts) name) f < 2 ^ 64
 
 -- these bytes and try notes are the function's under this chain
-pub record HasFunctionCode (texts : List (List ℕ)) (kind : FuncKind) (name : Option Text) (chain : List LinkView) (f : Function) (bytes : List ℕ) (ns : List TryNote) : Type 0 where
+pub record HasFunctionCode (texts : List (List ℕ)) (kind : FuncKind) (name : Option Text) (chain : List LinkView) (f : Function)
+    (bytes : List ℕ) (ns : List TryNote) : Type 0 where
   pub code : ShowsCommands texts bytes (settled (function_code kind name f chain))
   pub notes_are : ns ≡ notes (function_code kind name f chain)
 

@@ -33,7 +33,8 @@ abbrev pub params_in : Site → (ℕ → Stmts) → List Param → Params
 params_in s bodies ps = params_under s.texts.now bodies ps
 
 pub record ParamEmits (s : Site) (old new : List ℕ) (p : Param) : Type 0 where
-  pub made : Written s old new (λ bodies. MaybeExprFits (value_in s bodies p)) (λ bodies. default_code (scene_of s) (named_in s p.name) (value_in s bodies p) ++ rest_code (scene_of s) (named_in s p.name) p.rest)
+  pub made : Written s old new (λ bodies. MaybeExprFits (value_in s bodies p))
+      (λ bodies. default_code (scene_of s) (named_in s p.name) (value_in s bodies p) ++ rest_code (scene_of s) (named_in s p.name) p.rest)
 
 pub record ParamsEmit (s : Site) (old new : List ℕ) (ps : List Param) : Type 0 where
   pub made : Written s old new (λ bodies. ParamsFit (params_in s bodies ps)) (λ bodies. params_code (scene_of s) (params_in s bodies ps))

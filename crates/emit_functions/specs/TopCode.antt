@@ -48,4 +48,5 @@ abbrev pub top_code : Setting → Stmts → ℕ → List Frame → Code
 top_code the items number frames = in_scope the (top_lexical_names items) (λ scene. top_functions scene items) (stmts_code the items) number frames
 
 pub record TopWritten (p : Position) (old new : Emitted) (number next : ℕ) (ss : List Stmt) : Type 0 where
-  pub code : Written p old new number next (λ w. TopFits p.room (kept_values p.frames) (stmts_in p w ss)) (λ w. top_count (stmts_in p w ss)) (λ w n. top_code (setting p w) (stmts_in p w ss) n p.frames)
+  pub code : Written p old new number next (λ w. TopFits p.room (kept_values p.frames) (stmts_in p w ss))
+      (λ w. top_count (stmts_in p w ss)) (λ w n. top_code (setting p w) (stmts_in p w ss) n p.frames)

@@ -30,7 +30,12 @@ fn has_vars(site: &StmtContext, number: usize) -> bool
 
 // The chain inside the scope of a body's var names, as if it had none of them.
 fn chain_passing(site: &StmtContext, number: usize) -> Result<Chain, AllocError>
-    ensures chain { IfOk result (λ chain. chain ≡ record { kind = ScopeKind.FunctionBodyVar; env = around.has_env (scope_in site.now number); names = [] } ∷ site.now.exprs.chain.now) }
+    ensures chain { IfOk result (λ chain. chain ≡ record {
+      kind = ScopeKind.FunctionBodyVar;
+      env = around.has_env
+          (scope_in site.now number);
+      names = [];
+    } ∷ site.now.exprs.chain.now) }
     ensures slots { IfOk result (λ chain. LinksFit chain) }
 {
     let link = Link {
@@ -73,7 +78,8 @@ fn braced_body(
     items: &[Stmt],
 ) -> Result<(), AllocError>
     requires links { length site.now.exprs.chain.now ≤ 60002 }
-    ensures { OnOk result (BracedWritten (position_of site.now) (state out.old waits.old.items) (state out.new waits.new.items) out.old.next params.now items.now) }
+    ensures { OnOk result (BracedWritten (position_of site.now) (state out.old waits.old.items)
+        (state out.new waits.new.items) out.old.next params.now items.now) }
 {
     if has_vars(site, out.next) {
         let chain = enter_vars(out, site, params)?;
@@ -98,7 +104,8 @@ pub fn emit_body(
     body: &FuncBody,
 ) -> Result<(), AllocError>
     requires links { length site.now.exprs.chain.now ≤ 60002 }
-    ensures { OnOk result (BodyWritten (position_of site.now) (state out.old waits.old.items) (state out.new waits.new.items) out.old.next params.now body.now) }
+    ensures { OnOk result (BodyWritten (position_of site.now) (state out.old waits.old.items)
+        (state out.new waits.new.items) out.old.next params.now body.now) }
 {
     match body {
         FuncBody::Braced(items) => Ok(braced_body(out, waits, site, params, items)?),

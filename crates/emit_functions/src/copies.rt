@@ -40,7 +40,8 @@ fn copy(
     atom: u32,
 ) -> Result<(), AllocError>
     requires { outside.now.texts.now ≡ inside.now.texts.now }
-    ensures { OnOk result ((hops : ℕ) (outer : List LinkView) → Passes outside.now.chain.now hops outer → CopyEmits inside.now hops outer out.old out.new params.now atom) }
+    ensures { OnOk result ((hops : ℕ) (outer : List LinkView) → Passes outside.now.chain.now hops outer
+        → CopyEmits inside.now hops outer out.old out.new params.now atom) }
 {
     if is_param(params, inside.texts, atom) {
         reading(out, outside, atom)?;
@@ -61,7 +62,8 @@ pub fn copies(
 ) -> Result<(), AllocError>
     requires links { length passing.now ≤ 65000 }
     requires slots { LinksFit passing.now }
-    ensures { OnOk result ((hops : ℕ) (outer : List LinkView) → Passes passing.now hops outer → CopiesEmit inside.now hops outer out.old out.new params.now bindings.now) }
+    ensures { OnOk result ((hops : ℕ) (outer : List LinkView) → Passes passing.now hops outer
+        → CopiesEmit inside.now hops outer out.old out.new params.now bindings.now) }
 {
     let outside = Site {
         alloc: inside.alloc,

@@ -33,7 +33,8 @@ fn given(out: &mut CodeBuf, site: &Site, op: Op, atom: u32) -> Result<(), AllocE
 // `arguments` or `this`, where the binding is one of these.
 #[tactic(auto, using(emit_exprs::proofs::Singles::emits_nothing))]
 fn special(out: &mut CodeBuf, site: &Site, binding: Binding) -> Result<(), AllocError>
-    ensures { OnOk result (EmitsAt site.now out.old out.new (code.special_code (scene_of site.now) (named_binding site.now.texts.now binding) binding.kind)) }
+    ensures { OnOk result (EmitsAt site.now out.old out.new
+        (code.special_code (scene_of site.now) (named_binding site.now.texts.now binding) binding.kind)) }
 {
     match binding.kind {
         BindKind::Arguments => Ok(given(out, site, Op::Arguments, binding.atom)?),
@@ -44,7 +45,8 @@ fn special(out: &mut CodeBuf, site: &Site, binding: Binding) -> Result<(), Alloc
 
 /// `arguments` and `this`, where they are among the bindings of the function's own scope.
 pub fn specials(out: &mut CodeBuf, site: &Site, bindings: &[Binding]) -> Result<(), AllocError>
-    ensures { OnOk result (EmitsAt site.now out.old out.new (code.specials_code (scene_of site.now) (named_bindings site.now.texts.now bindings.now))) }
+    ensures { OnOk result (EmitsAt site.now out.old out.new
+        (code.specials_code (scene_of site.now) (named_bindings site.now.texts.now bindings.now))) }
 {
     for binding in bindings {
         special(out, site, *binding)?;
@@ -54,7 +56,8 @@ pub fn specials(out: &mut CodeBuf, site: &Site, bindings: &[Binding]) -> Result<
 
 // Whether a parameter is undefined.
 fn is_undefined(out: &mut CodeBuf, site: &Site, atom: u32) -> Result<(), AllocError>
-    ensures { OnOk result (EmitsAt site.now out.old out.new (expr.reading (scene_of site.now) (text_in site.now atom) ++ whole (command.plain Op.Undefined ∷ command.plain Op.StrictEq ∷ []))) }
+    ensures { OnOk result (EmitsAt site.now out.old out.new
+        (expr.reading (scene_of site.now) (text_in site.now atom) ++ whole (command.plain Op.Undefined ∷ command.plain Op.StrictEq ∷ []))) }
 {
     reading(out, site, atom)?;
     plain(out, Op::Undefined)?;

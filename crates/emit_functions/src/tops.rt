@@ -48,7 +48,10 @@ fn declared_function(stmt: &Stmt) -> Option<&Func>
     ensures { (i : Interpretation) (scene : Scene) → code.top_function scene (stmt_of i stmt.now) ≡ assigned_by scene i (option_copied result) }
 {
     match stmt {
-        Stmt::Func(func) => Some(func),
+        Stmt::Func(boxed) => {
+            let func: &Func = boxed;
+            Some(func)
+        }
         _ => None,
     }
 }
@@ -80,7 +83,8 @@ pub fn top_scope(
     site: &StmtContext,
     items: &[Stmt],
 ) -> Result<(), AllocError>
-    ensures { OnOk result (TopWritten (position_of site.now) (state out.old waits.old.items) (state out.new waits.new.items) out.old.next out.new.next items.now) }
+    ensures { OnOk result (TopWritten (position_of site.now) (state out.old waits.old.items)
+        (state out.new waits.new.items) out.old.next out.new.next items.now) }
 {
     if may_enter(site, top_declares(items)) {
         let scope = enter_next(out, site)?;

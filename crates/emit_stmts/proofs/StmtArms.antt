@@ -8,10 +8,15 @@ use Rattle.script_grammar.specs.declared.tree.Bind.{Bind}
 use Rattle.script_grammar.specs.declared.tree.Clause.{Clause}
 use Rattle.script_grammar.specs.declared.tree.Each.{Each}
 use Rattle.script_grammar.specs.declared.tree.Expr.{Expr}
+use Rattle.script_grammar.specs.declared.tree.ForInStatement.{ForInStatement, out-ForInStatement}
+use Rattle.script_grammar.specs.declared.tree.ForStatement.{ForStatement}
 use Rattle.script_grammar.specs.declared.tree.Func.{Func}
 use Rattle.script_grammar.specs.declared.tree.Ident.{Ident}
+use Rattle.script_grammar.specs.declared.tree.IfStatement.{IfStatement}
 use Rattle.script_grammar.specs.declared.tree.Init.{Init}
 use Rattle.script_grammar.specs.declared.tree.Stmt.{Stmt}
+use Rattle.script_grammar.specs.declared.tree.SwitchStatement.{SwitchStatement, out-SwitchStatement}
+use Rattle.script_grammar.specs.declared.tree.TryStatement.{TryStatement, out-TryStatement}
 use Rattle.script_grammar.specs.declared.tree.Stmt.TheVariants as in_stmt
 use Rattle.script_grammar.specs.Interpretation.{named, maybe_named}
 use Rattle.script_grammar.specs.Tree as model
@@ -30,8 +35,8 @@ at_block {p} s items xs is e1 x = stmt_at s (λ w. model.Block (stmts_in p w xs)
 pub at_empty : {p : Position} {now : Emitted} {k : ℕ} (s : Stmt) → s ≡ in_stmt.Empty → StmtWritten p now now k k s
 at_empty {p} {now} {k} s is = stmt_at s (λ w. model.Empty) (λ w. ap (stmt_of (within p w)) is ∙ equation.stmt_of-Empty (within p w)) (row_of (λ w. model.Empty) (λ w f. tt) (λ w. refl) (λ w i stands. refl) (written_none p now k))
 
-pub at_func : {p : Position} {now : Emitted} {k : ℕ} (s : Stmt) (func : Func) → s ≡ in_stmt.Func func → StmtWritten p now now k k s
-at_func {p} {now} {k} s func is = stmt_at s (λ w. model.Declared (func_of (within p w) func)) (λ w. ap (stmt_of (within p w)) is ∙ equation.stmt_of-Func (within p w) func) (row_of (λ w. model.Declared (func_of (within p w) func)) (λ w f. tt) (λ w. refl) (λ w i stands. refl) (written_none p now k))
+pub at_func : {p : Position} {now : Emitted} {k : ℕ} (s : Stmt) (func : Box Func Global) → s ≡ in_stmt.Func func → StmtWritten p now now k k s
+at_func {p} {now} {k} s func is = stmt_at s (λ w. model.Declared (func_of (within p w) func.value)) (λ w. ap (stmt_of (within p w)) is ∙ equation.stmt_of-Func (within p w) func) (row_of (λ w. model.Declared (func_of (within p w) func.value)) (λ w f. tt) (λ w. refl) (λ w i stands. refl) (written_none p now k))
 
 pub at_debugger : {p : Position} {a b : Emitted} {k l : ℕ} (s : Stmt) (semi : Bool) → s ≡ in_stmt.Debugger semi → RowWritten p a b k l (λ w. model.Debugger semi) → StmtWritten p a b k l s
 at_debugger {p} s semi is x = stmt_at s (λ w. model.Debugger semi) (λ w. ap (stmt_of (within p w)) is ∙ equation.stmt_of-Debugger (within p w) semi) x
@@ -42,23 +47,25 @@ at_binds {p} s decl binds semi xs is e1 x = stmt_at s (λ w. model.Binding decl 
 pub at_value : {p : Position} {a b : Emitted} {k l : ℕ} (s : Stmt) (value : Expr) (semi : Bool) → s ≡ in_stmt.Value value semi → RowWritten p a b k l (λ w. model.Value (expr_of (within p w) value) semi) → StmtWritten p a b k l s
 at_value {p} s value semi is x = stmt_at s (λ w. model.Value (expr_of (within p w) value) semi) (λ w. ap (stmt_of (within p w)) is ∙ equation.stmt_of-Value (within p w) value semi) x
 
-pub at_then : {p : Position} {a b : Emitted} {k l : ℕ} (s : Stmt) (test : Expr) (body : Box Stmt Global) (other : Option (Box Stmt Global)) (first : Stmt) → s ≡ in_stmt.If test body other → first ≡ body.value → other ≡ None → RowWritten p a b k l (λ w. model.If (expr_of (within p w) test) (stmt_of (within p w) first) model.no_stmt) → StmtWritten p a b k l s
-at_then {p} s test body other first is e1 e2 x = stmt_at s (λ w. model.If (expr_of (within p w) test) (stmt_of (within p w) first) model.no_stmt) (λ w. ap (stmt_of (within p w)) is ∙ (equation.stmt_of-If (within p w) test body other ∙ ap₂ (λ (f : Stmt) (o : Option (Box Stmt Global)). model.If (expr_of (within p w) test) (stmt_of (within p w) f) (maybe_stmt_of (option_map (λ boxed. stmt_of (within p w) boxed.value) o))) (sym e1) e2)) x
+pub at_then : {p : Position} {a b : Emitted} {k l : ℕ} (s : Stmt) (boxed : Box IfStatement Global) (x : IfStatement) → s ≡ in_stmt.If boxed → x ≡ boxed.value → x.no ≡ None → RowWritten p a b k l (λ w. model.If (expr_of (within p w) x.test) (stmt_of (within p w) x.yes) model.no_stmt) → StmtWritten p a b k l s
+at_then {p} s boxed x is e1 e2 y = stmt_at s (λ w. model.If (expr_of (within p w) x.test) (stmt_of (within p w) x.yes) model.no_stmt) (λ w. ap (stmt_of (within p w)) is ∙ (equation.stmt_of-If (within p w) boxed ∙ (ap (λ (z : IfStatement). model.If (expr_of (within p w) z.test) (stmt_of (within p w) z.yes) (maybe_stmt_of (option_map (λ boxed. stmt_of (within p w) boxed.value) z.no))) (sym e1)
+    ∙ ap (λ (o : Option (Box Stmt Global)). model.If (expr_of (within p w) x.test) (stmt_of (within p w) x.yes) (maybe_stmt_of (option_map (λ boxed. stmt_of (within p w) boxed.value) o))) e2))) y
 
-pub at_choice : {p : Position} {a b : Emitted} {k l : ℕ} (s : Stmt) (test : Expr) (body : Box Stmt Global) (other : Option (Box Stmt Global)) (boxed : Box Stmt Global) (first : Stmt) (second : Stmt) → s ≡ in_stmt.If test body other → first ≡ body.value → other ≡ Some boxed → second ≡ boxed.value → RowWritten p a b k l (λ w. model.If (expr_of (within p w) test) (stmt_of (within p w) first) (model.some_stmt (stmt_of (within p w) second))) → StmtWritten p a b k l s
-at_choice {p} s test body other boxed first second is e1 e2 e3 x = stmt_at s (λ w. model.If (expr_of (within p w) test) (stmt_of (within p w) first) (model.some_stmt (stmt_of (within p w) second))) (λ w. ap (stmt_of (within p w)) is ∙ (equation.stmt_of-If (within p w) test body other ∙ (ap₂ (λ (f : Stmt) (o : Option (Box Stmt Global)). model.If (expr_of (within p w) test) (stmt_of (within p w) f) (maybe_stmt_of (option_map (λ boxed. stmt_of (within p w) boxed.value) o))) (sym e1) e2 ∙ ap (λ (o : Stmt). model.If (expr_of (within p w) test) (stmt_of (within p w) first) (model.some_stmt (stmt_of (within p w) o))) (sym e3)))) x
+pub at_choice : {p : Position} {a b : Emitted} {k l : ℕ} (s : Stmt) (boxed : Box IfStatement Global) (x : IfStatement) (other : Box Stmt Global) (second : Stmt) → s ≡ in_stmt.If boxed → x ≡ boxed.value → x.no ≡ Some other → second ≡ other.value → RowWritten p a b k l (λ w. model.If (expr_of (within p w) x.test) (stmt_of (within p w) x.yes) (model.some_stmt (stmt_of (within p w) second))) → StmtWritten p a b k l s
+at_choice {p} s boxed x other second is e1 e2 e3 y = stmt_at s (λ w. model.If (expr_of (within p w) x.test) (stmt_of (within p w) x.yes) (model.some_stmt (stmt_of (within p w) second))) (λ w. ap (stmt_of (within p w)) is ∙ (equation.stmt_of-If (within p w) boxed ∙ (ap (λ (z : IfStatement). model.If (expr_of (within p w) z.test) (stmt_of (within p w) z.yes) (maybe_stmt_of (option_map (λ boxed. stmt_of (within p w) boxed.value) z.no))) (sym e1)
+    ∙ (ap (λ (o : Option (Box Stmt Global)). model.If (expr_of (within p w) x.test) (stmt_of (within p w) x.yes) (maybe_stmt_of (option_map (λ boxed. stmt_of (within p w) boxed.value) o))) e2 ∙ ap (λ (o : Stmt). model.If (expr_of (within p w) x.test) (stmt_of (within p w) x.yes) (model.some_stmt (stmt_of (within p w) o))) (sym e3))))) y
 
-pub at_do : {p : Position} {a b : Emitted} {k l : ℕ} (s : Stmt) (body : Box Stmt Global) (test : Expr) (semi : Bool) (inner : Stmt) → s ≡ in_stmt.Do body test semi → inner ≡ body.value → RowWritten p a b k l (λ w. model.Do (stmt_of (within p w) inner) (expr_of (within p w) test) semi) → StmtWritten p a b k l s
-at_do {p} s body test semi inner is e1 x = stmt_at s (λ w. model.Do (stmt_of (within p w) inner) (expr_of (within p w) test) semi) (λ w. ap (stmt_of (within p w)) is ∙ (equation.stmt_of-Do (within p w) body test semi ∙ ap (λ (o : Stmt). model.Do (stmt_of (within p w) o) (expr_of (within p w) test) semi) (sym e1))) x
+pub at_do : {p : Position} {a b : Emitted} {k l : ℕ} (s : Stmt) (body : Box Stmt Global) (test : Expr) (semi : Bool) (inner : Stmt) → s ≡ in_stmt.Do semi body test → inner ≡ body.value → RowWritten p a b k l (λ w. model.Do (stmt_of (within p w) inner) (expr_of (within p w) test) semi) → StmtWritten p a b k l s
+at_do {p} s body test semi inner is e1 x = stmt_at s (λ w. model.Do (stmt_of (within p w) inner) (expr_of (within p w) test) semi) (λ w. ap (stmt_of (within p w)) is ∙ (equation.stmt_of-Do (within p w) semi body test ∙ ap (λ (o : Stmt). model.Do (stmt_of (within p w) o) (expr_of (within p w) test) semi) (sym e1))) x
 
 pub at_while : {p : Position} {a b : Emitted} {k l : ℕ} (s : Stmt) (test : Expr) (body : Box Stmt Global) (inner : Stmt) → s ≡ in_stmt.While test body → inner ≡ body.value → RowWritten p a b k l (λ w. model.While (expr_of (within p w) test) (stmt_of (within p w) inner)) → StmtWritten p a b k l s
 at_while {p} s test body inner is e1 x = stmt_at s (λ w. model.While (expr_of (within p w) test) (stmt_of (within p w) inner)) (λ w. ap (stmt_of (within p w)) is ∙ (equation.stmt_of-While (within p w) test body ∙ ap (λ (o : Stmt). model.While (expr_of (within p w) test) (stmt_of (within p w) o)) (sym e1))) x
 
-pub at_for : {p : Position} {a b : Emitted} {k l : ℕ} (s : Stmt) (init : Init) (test : Option Expr) (step : Option Expr) (body : Box Stmt Global) (inner : Stmt) → s ≡ in_stmt.For init test step body → inner ≡ body.value → RowWritten p a b k l (λ w. model.For (init_of (within p w) init) (maybe_in p w test) (maybe_in p w step) (stmt_of (within p w) inner)) → StmtWritten p a b k l s
-at_for {p} s init test step body inner is e1 x = stmt_at s (λ w. model.For (init_of (within p w) init) (maybe_in p w test) (maybe_in p w step) (stmt_of (within p w) inner)) (λ w. ap (stmt_of (within p w)) is ∙ (equation.stmt_of-For (within p w) init test step body ∙ ap (λ (o : Stmt). model.For (init_of (within p w) init) (maybe_in p w test) (maybe_in p w step) (stmt_of (within p w) o)) (sym e1))) x
+pub at_for : {p : Position} {a b : Emitted} {k l : ℕ} (s : Stmt) (boxed : Box ForStatement Global) (x : ForStatement) → s ≡ in_stmt.For boxed → x ≡ boxed.value → RowWritten p a b k l (λ w. model.For (init_of (within p w) x.init) (maybe_in p w x.test) (maybe_in p w x.update) (stmt_of (within p w) x.body)) → StmtWritten p a b k l s
+at_for {p} s boxed x is e1 y = stmt_at s (λ w. model.For (init_of (within p w) x.init) (maybe_in p w x.test) (maybe_in p w x.update) (stmt_of (within p w) x.body)) (λ w. ap (stmt_of (within p w)) is ∙ (equation.stmt_of-For (within p w) boxed ∙ ap (λ (z : ForStatement). model.For (init_of (within p w) z.init) (maybe_in p w z.test) (maybe_in p w z.update) (stmt_of (within p w) z.body)) (sym e1))) y
 
-pub at_for_in : {p : Position} {a b : Emitted} {k l : ℕ} (s : Stmt) (each : Each) (over : Expr) (body : Box Stmt Global) (inner : Stmt) → s ≡ in_stmt.ForIn each over body → inner ≡ body.value → RowWritten p a b k l (λ w. model.ForIn (each_of (within p w) each) (expr_of (within p w) over) (stmt_of (within p w) inner)) → StmtWritten p a b k l s
-at_for_in {p} s each over body inner is e1 x = stmt_at s (λ w. model.ForIn (each_of (within p w) each) (expr_of (within p w) over) (stmt_of (within p w) inner)) (λ w. ap (stmt_of (within p w)) is ∙ (equation.stmt_of-ForIn (within p w) each over body ∙ ap (λ (o : Stmt). model.ForIn (each_of (within p w) each) (expr_of (within p w) over) (stmt_of (within p w) o)) (sym e1))) x
+pub at_for_in : {p : Position} {a b : Emitted} {k l : ℕ} (s : Stmt) (boxed : Box ForInStatement Global) (x : ForInStatement) → s ≡ in_stmt.ForIn boxed → x ≡ boxed.value → RowWritten p a b k l (λ w. model.ForIn (each_of (within p w) (out-ForInStatement x).each) (expr_of (within p w) (out-ForInStatement x).over) (stmt_of (within p w) (out-ForInStatement x).body)) → StmtWritten p a b k l s
+at_for_in {p} s boxed x is e1 y = stmt_at s (λ w. model.ForIn (each_of (within p w) (out-ForInStatement x).each) (expr_of (within p w) (out-ForInStatement x).over) (stmt_of (within p w) (out-ForInStatement x).body)) (λ w. ap (stmt_of (within p w)) is ∙ (equation.stmt_of-ForIn (within p w) boxed ∙ ap (λ (z : ForInStatement). model.ForIn (each_of (within p w) (out-ForInStatement z).each) (expr_of (within p w) (out-ForInStatement z).over) (stmt_of (within p w) (out-ForInStatement z).body)) (sym e1))) y
 
 pub at_continue : {p : Position} {a b : Emitted} {k l : ℕ} (s : Stmt) (at : ℕ) (label : Option Ident) (semi : Bool) → s ≡ in_stmt.Continue at label semi → RowWritten p a b k l (λ w. model.Continue at (maybe_named (within p w) label) semi) → StmtWritten p a b k l s
 at_continue {p} s at label semi is x = stmt_at s (λ w. model.Continue at (maybe_named (within p w) label) semi) (λ w. ap (stmt_of (within p w)) is ∙ equation.stmt_of-Continue (within p w) at label semi) x
@@ -66,17 +73,19 @@ at_continue {p} s at label semi is x = stmt_at s (λ w. model.Continue at (maybe
 pub at_break : {p : Position} {a b : Emitted} {k l : ℕ} (s : Stmt) (at : ℕ) (label : Option Ident) (semi : Bool) → s ≡ in_stmt.Break at label semi → RowWritten p a b k l (λ w. model.Break at (maybe_named (within p w) label) semi) → StmtWritten p a b k l s
 at_break {p} s at label semi is x = stmt_at s (λ w. model.Break at (maybe_named (within p w) label) semi) (λ w. ap (stmt_of (within p w)) is ∙ equation.stmt_of-Break (within p w) at label semi) x
 
-pub at_return : {p : Position} {a b : Emitted} {k l : ℕ} (s : Stmt) (value : Option Expr) (semi : Bool) → s ≡ in_stmt.Return value semi → RowWritten p a b k l (λ w. model.Return (maybe_in p w value) semi) → StmtWritten p a b k l s
-at_return {p} s value semi is x = stmt_at s (λ w. model.Return (maybe_in p w value) semi) (λ w. ap (stmt_of (within p w)) is ∙ equation.stmt_of-Return (within p w) value semi) x
+pub at_return : {p : Position} {a b : Emitted} {k l : ℕ} (s : Stmt) (value : Option Expr) (semi : Bool) → s ≡ in_stmt.Return semi value → RowWritten p a b k l (λ w. model.Return (maybe_in p w value) semi) → StmtWritten p a b k l s
+at_return {p} s value semi is x = stmt_at s (λ w. model.Return (maybe_in p w value) semi) (λ w. ap (stmt_of (within p w)) is ∙ equation.stmt_of-Return (within p w) semi value) x
 
 pub at_throw : {p : Position} {a b : Emitted} {k l : ℕ} (s : Stmt) (value : Expr) (semi : Bool) → s ≡ in_stmt.Throw value semi → RowWritten p a b k l (λ w. model.Throw (expr_of (within p w) value) semi) → StmtWritten p a b k l s
 at_throw {p} s value semi is x = stmt_at s (λ w. model.Throw (expr_of (within p w) value) semi) (λ w. ap (stmt_of (within p w)) is ∙ equation.stmt_of-Throw (within p w) value semi) x
 
-pub at_switch : {p : Position} {a b : Emitted} {k l : ℕ} (s : Stmt) (of : Expr) (clauses : Vec Clause Global) (xs : List Clause) → s ≡ in_stmt.Switch of clauses → xs ≡ clauses.items → RowWritten p a b k l (λ w. model.Switch (expr_of (within p w) of) (clauses_in p w xs)) → StmtWritten p a b k l s
-at_switch {p} s of clauses xs is e1 x = stmt_at s (λ w. model.Switch (expr_of (within p w) of) (clauses_in p w xs)) (λ w. ap (stmt_of (within p w)) is ∙ (equation.stmt_of-Switch (within p w) of clauses ∙ ap (λ (l : List Clause). model.Switch (expr_of (within p w) of) (clauses_in p w l)) (sym e1))) x
+pub at_switch : {p : Position} {a b : Emitted} {k l : ℕ} (s : Stmt) (boxed : Box SwitchStatement Global) (x : SwitchStatement) (xs : List Clause) → s ≡ in_stmt.Switch boxed → x ≡ boxed.value → xs ≡ (out-SwitchStatement x).clauses.items → RowWritten p a b k l (λ w. model.Switch (expr_of (within p w) (out-SwitchStatement x).of) (clauses_in p w xs)) → StmtWritten p a b k l s
+at_switch {p} s boxed x xs is e1 e2 y = stmt_at s (λ w. model.Switch (expr_of (within p w) (out-SwitchStatement x).of) (clauses_in p w xs)) (λ w. ap (stmt_of (within p w)) is ∙ (equation.stmt_of-Switch (within p w) boxed ∙ (ap (λ (z : SwitchStatement). model.Switch (expr_of (within p w) (out-SwitchStatement z).of) (clauses_in p w (out-SwitchStatement z).clauses.items)) (sym e1)
+    ∙ ap (λ (l : List Clause). model.Switch (expr_of (within p w) (out-SwitchStatement x).of) (clauses_in p w l)) (sym e2)))) y
 
 pub at_label : {p : Position} {a b : Emitted} {k l : ℕ} (s : Stmt) (name : Ident) (body : Box Stmt Global) (inner : Stmt) → s ≡ in_stmt.Label name body → inner ≡ body.value → RowWritten p a b k l (λ w. model.Label (named (within p w) name) (stmt_of (within p w) inner)) → StmtWritten p a b k l s
 at_label {p} s name body inner is e1 x = stmt_at s (λ w. model.Label (named (within p w) name) (stmt_of (within p w) inner)) (λ w. ap (stmt_of (within p w)) is ∙ (equation.stmt_of-Label (within p w) name body ∙ ap (λ (o : Stmt). model.Label (named (within p w) name) (stmt_of (within p w) o)) (sym e1))) x
 
-pub at_try : {p : Position} {a b : Emitted} {k l : ℕ} (s : Stmt) (body : Vec Stmt Global) (param : Option Ident) (handler : Vec Stmt Global) (xs : List Stmt) (ys : List Stmt) → s ≡ in_stmt.Try body param handler → xs ≡ body.items → ys ≡ handler.items → RowWritten p a b k l (λ w. model.Try (stmts_in p w xs) (maybe_named (within p w) param) (stmts_in p w ys)) → StmtWritten p a b k l s
-at_try {p} s body param handler xs ys is e1 e2 x = stmt_at s (λ w. model.Try (stmts_in p w xs) (maybe_named (within p w) param) (stmts_in p w ys)) (λ w. ap (stmt_of (within p w)) is ∙ (equation.stmt_of-Try (within p w) body param handler ∙ ap₂ (λ (l : List Stmt) (m : List Stmt). model.Try (stmts_in p w l) (maybe_named (within p w) param) (stmts_in p w m)) (sym e1) (sym e2))) x
+pub at_try : {p : Position} {a b : Emitted} {k l : ℕ} (s : Stmt) (boxed : Box TryStatement Global) (x : TryStatement) (xs ys : List Stmt) → s ≡ in_stmt.Try boxed → x ≡ boxed.value → xs ≡ (out-TryStatement x).body.items → ys ≡ (out-TryStatement x).handler.items → RowWritten p a b k l (λ w. model.Try (stmts_in p w xs) (maybe_named (within p w) (out-TryStatement x).param) (stmts_in p w ys)) → StmtWritten p a b k l s
+at_try {p} s boxed x xs ys is e0 e1 e2 y = stmt_at s (λ w. model.Try (stmts_in p w xs) (maybe_named (within p w) (out-TryStatement x).param) (stmts_in p w ys)) (λ w. ap (stmt_of (within p w)) is ∙ (equation.stmt_of-Try (within p w) boxed ∙ (ap (λ (z : TryStatement). model.Try (stmts_in p w (out-TryStatement z).body.items) (maybe_named (within p w) (out-TryStatement z).param) (stmts_in p w (out-TryStatement z).handler.items)) (sym e0)
+    ∙ ap₂ (λ (l : List Stmt) (m : List Stmt). model.Try (stmts_in p w l) (maybe_named (within p w) (out-TryStatement x).param) (stmts_in p w m)) (sym e1) (sym e2)))) y

@@ -1,7 +1,8 @@
 -- What stands around a statement in its function, and the code that leaves it. Where a break or continue goes is
 -- ECMA-262's, 12th edition, clauses 14.8 and 14.9 with 8.2 (ContainsUndefinedBreakTarget, ContainsUndefinedContinueTarget);
 -- the instructions are this project's own choice.
-use Rattle.std.specs.Prelude.{ℕ, ◌+◌, Bool, true, false, bytes_eq, nat_lt, if◌then◌else◌, List, [], ◌∷◌, ◌++◌, length, slice_index_or, Option, Some, None}
+use Rattle.std.specs.Prelude.{ℕ, ◌+◌, Bool, true, false, bytes_eq, nat_lt, if◌then◌else◌, List, [], ◌∷◌, ◌++◌, length, slice_index_or}
+use Rattle.std.specs.Prelude.{Option, Some, None}
 use Rattle.stencil_data.specs.declared.scopes.ScopeKind.TheVariants as scope
 use Rattle.stencil_data.specs.LinkView.{LinkView}
 use Rattle.stencil_data.specs.Named.{NamedScope}

@@ -2,7 +2,8 @@
 -- a function does first is ECMA-262's, 12th edition, clause 10.2.11 (FunctionDeclarationInstantiation); the instructions
 -- are this project's own choice.
 use Rattle.std.specs.Prelude.{ℕ, ◌+◌, Bool, true, false, if◌then◌else◌, List, [], ◌∷◌, ◌++◌, map, Option, None}
-use Rattle.script_grammar.specs.Tree.{Named, MaybeExpr, no_expr, some_expr, Function, function, Params, no_params, more_params, Body, BracedBody, ShortBody, Stmt, Stmts, no_stmts, more_stmts, Declared}
+use Rattle.script_grammar.specs.Tree.{Named, MaybeExpr, no_expr, some_expr, Function, function, Params, no_params, more_params, Body}
+use Rattle.script_grammar.specs.Tree.{BracedBody, ShortBody, Stmt, Stmts, no_stmts, more_stmts, Declared}
 use Rattle.stencil_data.specs.declared.chains.LinkName.{LinkName}
 use Rattle.stencil_data.specs.declared.functions.Extent.{Extent}
 use Rattle.stencil_data.specs.declared.functions.FuncKind.{FuncKind}
@@ -41,7 +42,8 @@ specials_code scene (b ∷ bs) = special_code scene b b.kind ++ specials_code sc
 abbrev pub default_code : Scene → Named → MaybeExpr → Code
 default_code scene name no_expr = []
 default_code scene name (some_expr e) =
-    here aim.After (reading scene name.text ++ whole (plain op.Undefined ∷ plain op.StrictEq ∷ []) ++ (Waiting op.JumpIfFalse aim.After ∷ []) ++ expr_code scene e ++ writing scene name.text ++ just op.Pop)
+    here aim.After (reading scene name.text ++ whole (plain op.Undefined ∷ plain op.StrictEq ∷ [])
+    ++ (Waiting op.JumpIfFalse aim.After ∷ []) ++ expr_code scene e ++ writing scene name.text ++ just op.Pop)
 
 abbrev pub rest_code : Scene → Named → Bool → Code
 rest_code scene name false = []
@@ -86,17 +88,20 @@ abbrev pub body_vars_code : List NamedScope → List ℕ → List Declaration �
 body_vars_code scopes starts [] params number base = []
 body_vars_code scopes starts (d ∷ ds) params number base =
     push_env op.PushVarEnv (scope_at scopes number) number
-    ++ copies_code (record { chain = chain_link (scope_at scopes number) ∷ base; starts = starts }) base (environments_of (chain_link (scope_at scopes number))) params (scope_at scopes number).bindings
+    ++ copies_code (record { chain = chain_link (scope_at scopes number) ∷ base; starts = starts }) base
+    (environments_of (chain_link (scope_at scopes number))) params (scope_at scopes number).bindings
 
 abbrev pub body_setting : List NamedScope → List ℕ → List LinkView → Setting
 body_setting scopes starts base = record { base = base; scopes = scopes; starts = starts; is_script = false }
 
 -- the body, whose first scope would have this number, under the scopes of the parameters
 abbrev pub body_code : List NamedScope → List ℕ → Bool → List Text → Body → ℕ → List LinkView → Code
-body_code scopes starts initialized params (ShortBody value) number base = expr_code (record { chain = base; starts = starts }) value ++ just op.Return
+body_code scopes starts initialized params (ShortBody value) number base = expr_code (record { chain = base; starts = starts }) value
+    ++ just op.Return
 body_code scopes starts initialized params (BracedBody items) number base =
     body_vars_code scopes starts (body_var_names initialized items) params number base
-    ++ in_scope (body_setting scopes starts (body_base scopes (body_var_names initialized items) number base)) (top_lexical_names items) (λ scene. top_functions scene items)
+    ++ in_scope (body_setting scopes starts (body_base scopes (body_var_names initialized items) number base)) (top_lexical_names items)
+    (λ scene. top_functions scene items)
     (stmts_code (body_setting scopes starts (body_base scopes (body_var_names initialized items) number base)) items)
     (number + scope_count (body_var_names initialized items)) []
     ++ just op.RetRval
@@ -164,7 +169,8 @@ function_code kind name f outer = code_in (function_scopes kind name f) (starts_
 -- a function of this kind and name under a chain
 abbrev pub function_script : FuncKind → Option Text → Function → List LinkView → Compiled
 function_script kind name f outer =
-    compiled (extent_of f) kind name (count_of (params_of f)) (function_scopes kind name f) (inner_function kind name f) outer (function_code kind name f outer)
+    compiled (extent_of f) kind name (count_of (params_of f)) (function_scopes kind name f) (inner_function kind name f) outer
+    (function_code kind name f outer)
 
 -- ---- scripts
 
@@ -177,8 +183,10 @@ abbrev pub script_setting : Stmts → Setting
 script_setting items = record { base = global_link ∷ []; scopes = script_scopes items; starts = starts_of (inner_script items); is_script = true }
 
 abbrev pub script_code : Stmts → Code
-script_code items = one (counted op.GlobalOrEvalDeclInstantiation (function_count items)) ++ stmts_code (script_setting items) items 1 [] ++ just op.RetRval
+script_code items = one (counted op.GlobalOrEvalDeclInstantiation (function_count items)) ++ stmts_code (script_setting items) items 1 []
+    ++ just op.RetRval
 
 -- the script itself, whose text ends here
 abbrev pub top_script : Stmts → ℕ → Compiled
-top_script items end = compiled (record { start = 0; end = end }) func.Declared None 0 (script_scopes items) (inner_script items) [] (script_code items)
+top_script items end = compiled (record { start = 0; end = end }) func.Declared None 0 (script_scopes items) (inner_script items) []
+    (script_code items)

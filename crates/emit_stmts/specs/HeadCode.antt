@@ -28,16 +28,20 @@ freshen_head scopes None = []
 freshen_head scopes (Some number) = if has_env (scope_at scopes number) then just op.FreshenLexicalEnv else []
 
 -- the test of a loop
-pub record Tested (s : StmtContext) (bytes : List ℕ) (waits : List Wait) (bytes_new : List ℕ) (waits_new : List Wait) (level : ℕ) (test : Option Expr) : Type 0 where
+pub record Tested (s : StmtContext) (bytes : List ℕ) (waits : List Wait) (bytes_new : List ℕ) (waits_new : List Wait) (level : ℕ)
+    (test : Option Expr) : Type 0 where
   pub made : (notes : List TryNote) (number : ℕ)
-      → Written (position_of s) (emitted bytes waits notes) (emitted bytes_new waits_new notes) number number (λ w. MaybeExprFits (maybe_expr_of (option_map (expr_of (within (position_of s) w)) test))) (λ w. 0) (λ w i. test_code (scene (position_of s)) level (maybe_expr_of (option_map (expr_of (within (position_of s) w)) test)))
+      → Written (position_of s) (emitted bytes waits notes) (emitted bytes_new waits_new notes) number number
+      (λ w. MaybeExprFits (maybe_expr_of (option_map (expr_of (within (position_of s) w)) test))) (λ w. 0)
+      (λ w i. test_code (scene (position_of s)) level (maybe_expr_of (option_map (expr_of (within (position_of s) w)) test)))
 
 -- that of a for-in
 abbrev pub keys_code : ℕ → Code
 keys_code level = whole (plain op.LoopHead ∷ plain op.MoreIter ∷ plain op.IsNoIter ∷ []) ++ (Waiting op.JumpIfTrue (aim.Break level) ∷ [])
 
 pub record KeysTested (bytes : List ℕ) (waits : List Wait) (bytes_new : List ℕ) (waits_new : List Wait) (level : ℕ) : Type 0 where
-  pub made : (p : Position) (notes : List TryNote) (number : ℕ) → Written p (emitted bytes waits notes) (emitted bytes_new waits_new notes) number number (λ w. Unit {0}) (λ w. 0) (λ w i. keys_code level)
+  pub made : (p : Position) (notes : List TryNote) (number : ℕ)
+      → Written p (emitted bytes waits notes) (emitted bytes_new waits_new notes) number number (λ w. Unit {0}) (λ w. 0) (λ w i. keys_code level)
 
 -- Tests of clauses were appended, whose jumps wait for the clauses; where these counts fit, this code.
 pub record Choosing (p : Position) (old new : Emitted) (fits : World → Type 0) (code : World → Code) : Type 0 where
@@ -46,10 +50,17 @@ pub record Choosing (p : Position) (old new : Emitted) (fits : World → Type 0)
   pub is : (w : World) → fits w → written ≡ code w
 
 -- the test of the clause at a place, and those of all clauses
-pub record CaseWritten (s : StmtContext) (bytes : List ℕ) (waits : List Wait) (bytes_new : List ℕ) (waits_new : List Wait) (place : ℕ) (test : Option Expr) : Type 0 where
+pub record CaseWritten (s : StmtContext) (bytes : List ℕ) (waits : List Wait) (bytes_new : List ℕ) (waits_new : List Wait) (place : ℕ)
+    (test : Option Expr) : Type 0 where
   pub made : (notes : List TryNote)
-      → Choosing (position_of s) (emitted bytes waits notes) (emitted bytes_new waits_new notes) (λ w. MaybeExprFits (maybe_expr_of (option_map (expr_of (within (position_of s) w)) test))) (λ w. case_code (scene (position_of s)) place (maybe_expr_of (option_map (expr_of (within (position_of s) w)) test)))
+      → Choosing (position_of s) (emitted bytes waits notes) (emitted bytes_new waits_new notes)
+      (λ w. MaybeExprFits (maybe_expr_of (option_map (expr_of (within (position_of s) w)) test)))
+      (λ w. case_code (scene (position_of s)) place (maybe_expr_of (option_map (expr_of (within (position_of s) w)) test)))
 
-pub record CasesWritten (s : StmtContext) (bytes : List ℕ) (waits : List Wait) (bytes_new : List ℕ) (waits_new : List Wait) (clauses : List Clause) : Type 0 where
+pub record CasesWritten (s : StmtContext) (bytes : List ℕ) (waits : List Wait) (bytes_new : List ℕ) (waits_new : List Wait)
+    (clauses : List Clause) : Type 0 where
   pub made : (notes : List TryNote)
-      → Choosing (position_of s) (emitted bytes waits notes) (emitted bytes_new waits_new notes) (λ w. ClausesFit (position_of s).room (kept_values (position_of s).frames) (clauses_of (map (clause_of (within (position_of s) w)) clauses))) (λ w. cases_code (scene (position_of s)) 0 (clauses_of (map (clause_of (within (position_of s) w)) clauses)))
+      → Choosing (position_of s) (emitted bytes waits notes) (emitted bytes_new waits_new notes)
+      (λ w. ClausesFit (position_of s).room (kept_values (position_of s).frames)
+      (clauses_of (map (clause_of (within (position_of s) w)) clauses))) (λ w. cases_code (scene (position_of s)) 0
+      (clauses_of (map (clause_of (within (position_of s) w)) clauses)))

@@ -27,8 +27,10 @@ pub record Exits (s : StmtContext) (old new : List ℕ) (frames : List Frame) : 
   pub made : EmitsAt s.exprs old new (exits (position_of s).scopes (frames_in s.exprs.texts.now frames))
 
 -- a jump to this goal, out of these frames
-pub record Leaves (s : StmtContext) (bytes : List ℕ) (waits : List Wait) (bytes_new : List ℕ) (waits_new : List Wait) (goal : Goal) (frames : List Frame) : Type 0 where
-  pub appends : (notes : List TryNote) → Appends s.exprs.texts.now (emitted bytes waits notes) (emitted bytes_new waits_new notes) (leaving (position_of s).scopes (goal_in s.exprs.texts.now goal) (frames_in s.exprs.texts.now frames))
+pub record Leaves (s : StmtContext) (bytes : List ℕ) (waits : List Wait) (bytes_new : List ℕ) (waits_new : List Wait) (goal : Goal)
+    (frames : List Frame) : Type 0 where
+  pub appends : (notes : List TryNote) → Appends s.exprs.texts.now (emitted bytes waits notes) (emitted bytes_new waits_new notes)
+      (leaving (position_of s).scopes (goal_in s.exprs.texts.now goal) (frames_in s.exprs.texts.now frames))
 
 -- there is an instruction
 abbrev pub has_code : Code → Bool

@@ -28,13 +28,15 @@ use Rattle.emit_stmts.specs.Stmts.{Setting, stmts_code}
 
 -- the number of the functions declared at the top, the statements, the end
 abbrev pub whole_code : Setting → Stmts → ℕ → List Frame → Code
-whole_code the items number frames = one (counted op.GlobalOrEvalDeclInstantiation (function_count items)) ++ stmts_code the items number frames ++ just op.RetRval
+whole_code the items number frames = one (counted op.GlobalOrEvalDeclInstantiation (function_count items))
+    ++ stmts_code the items number frames ++ just op.RetRval
 
 abbrev pub WholeFits : ℕ → ℕ → Stmts → Type 0
 WholeFits room kept items = (function_count items < 2 ^ 32) × StmtsFit room kept items
 
 pub record ScriptWritten (p : Position) (old new : Emitted) (number next : ℕ) (ss : List Stmt) : Type 0 where
-  pub code : Written p old new number next (λ w. WholeFits p.room (kept_values p.frames) (stmts_in p w ss)) (λ w. count_stmts (stmts_in p w ss)) (λ w n. whole_code (setting p w) (stmts_in p w ss) n p.frames)
+  pub code : Written p old new number next (λ w. WholeFits p.room (kept_values p.frames) (stmts_in p w ss))
+      (λ w. count_stmts (stmts_in p w ss)) (λ w n. whole_code (setting p w) (stmts_in p w ss) n p.frames)
 
 -- ---- the stencil
 
@@ -56,9 +58,11 @@ pub record HasScriptCode (texts : List (List ℕ)) (items : Stmts) (bytes : List
 
 -- the code in the making is that of a script with these scopes and functions
 abbrev pub Drafted : List (List ℕ) → List ScopeView → List Extent → List Stmt → List ℕ → List TryNote → Type 0
-Drafted texts scopes inner ss bytes ns = (bodies : ℕ → Stmts) → Belong texts scopes inner (script_in texts bodies ss) → HasScriptCode texts (script_in texts bodies ss) bytes ns
+Drafted texts scopes inner ss bytes ns = (bodies : ℕ → Stmts) → Belong texts scopes inner (script_in texts bodies ss)
+    → HasScriptCode texts (script_in texts bodies ss) bytes ns
 
 -- the stencil stands for the script's own, whose text ends here
 abbrev pub IsTop : List (List ℕ) → List ScopeView → List Extent → List Stmt → ℕ → FunctionView → Type 0
 IsTop texts scopes inner ss end top =
-    (bodies : ℕ → Stmts) → Belong texts scopes inner (script_in texts bodies ss) → FunctionStandsFor ShowsCommands texts top (top_script (script_in texts bodies ss) end).part
+    (bodies : ℕ → Stmts) → Belong texts scopes inner (script_in texts bodies ss)
+    → FunctionStandsFor ShowsCommands texts top (top_script (script_in texts bodies ss) end).part

@@ -16,7 +16,8 @@ use Rattle.emit_stmts.specs.Stmts.{stmt_code, stmts_code}
 
 -- Some code was appended, whose first scope has this number; no jump in it waits for a clause of a switch around. Where
 -- these counts fit, and the numbers of its scopes, the next number is after n scopes, and the code is this one.
-pub record Written (p : Position) (old new : Emitted) (number next : ℕ) (fits : World → Type 0) (count : World → ℕ) (code : World → ℕ → Code) : Type 0 where
+pub record Written (p : Position) (old new : Emitted) (number next : ℕ) (fits : World → Type 0) (count : World → ℕ)
+    (code : World → ℕ → Code) : Type 0 where
   pub written : Code
   pub appends : Appends p.texts old new written
   pub apart : Apart written
@@ -25,10 +26,13 @@ pub record Written (p : Position) (old new : Emitted) (number next : ℕ) (fits 
 
 -- the statement of the model
 pub record RowWritten (p : Position) (old new : Emitted) (number next : ℕ) (m : World → model.Stmt) : Type 0 where
-  pub code : Written p old new number next (λ w. StmtFits p.room (kept_values p.frames) (m w)) (λ w. count_stmt (m w)) (λ w n. stmt_code (setting p w) (m w) n p.frames)
+  pub code : Written p old new number next (λ w. StmtFits p.room (kept_values p.frames) (m w)) (λ w. count_stmt (m w))
+      (λ w n. stmt_code (setting p w) (m w) n p.frames)
 
 pub record StmtWritten (p : Position) (old new : Emitted) (number next : ℕ) (s : Stmt) : Type 0 where
   pub row : RowWritten p old new number next (λ w. stmt_of (within p w) s)
 
 pub record StmtsWritten (p : Position) (old new : Emitted) (number next : ℕ) (ss : List Stmt) : Type 0 where
-  pub code : Written p old new number next (λ w. StmtsFit p.room (kept_values p.frames) (stmts_of (map (stmt_of (within p w)) ss))) (λ w. count_stmts (stmts_of (map (stmt_of (within p w)) ss))) (λ w n. stmts_code (setting p w) (stmts_of (map (stmt_of (within p w)) ss)) n p.frames)
+  pub code : Written p old new number next (λ w. StmtsFit p.room (kept_values p.frames) (stmts_of (map (stmt_of (within p w)) ss)))
+      (λ w. count_stmts (stmts_of (map (stmt_of (within p w)) ss)))
+      (λ w n. stmts_code (setting p w) (stmts_of (map (stmt_of (within p w)) ss)) n p.frames)

@@ -1,7 +1,10 @@
 -- When the counts of a statement fit: those of its expressions; the scopes that are entered one in another, of which
 -- there may be n; and the values that stay on the stack around a try. All scripts fit. This project's own choice.
 use Rattle.std.specs.Prelude.{ℕ, ◌+◌, ◌-◌, ◌<◌, ◌^◌, List, [], ◌∷◌}
-use Rattle.script_grammar.specs.Tree.{Binds, no_binds, more_binds, Init, NoInit, ValueInit, BindsInit, Each, TargetEach, BindEach, Clauses, no_clauses, more_clauses, Stmt, Stmts, no_stmts, more_stmts, MaybeStmt, no_stmt, some_stmt, Block, Empty, Debugger, Binding, Value, If, Do, While, For, ForIn, Continue, Break, Return, Throw, Switch, Label, Try, Declared}
+use Rattle.script_grammar.specs.Tree.{Binds, no_binds, more_binds, Init, NoInit, ValueInit, BindsInit, Each, TargetEach, BindEach, Clauses}
+use Rattle.script_grammar.specs.Tree.{no_clauses, more_clauses, Stmt, Stmts, no_stmts, more_stmts, MaybeStmt, no_stmt, some_stmt, Block}
+use Rattle.script_grammar.specs.Tree.{Empty, Debugger, Binding, Value, If, Do, While, For, ForIn, Continue, Break, Return, Throw, Switch}
+use Rattle.script_grammar.specs.Tree.{Label, Try, Declared}
 use Rattle.scope_analysis.specs.DeclaredNames.{Declaration, lexical_names, clauses_lexical_names, init_lexical_names, each_lexical_names}
 use Rattle.scope_analysis.specs.Scopes.{catch_names}
 use Rattle.emit_exprs.specs.Fitting.{ExprFits, MaybeExprFits}
@@ -41,14 +44,16 @@ abbrev mutual
   StmtFits room kept (Do body test semi) = StmtFits room kept body × ExprFits test
   StmtFits room kept (While test body) = ExprFits test × StmtFits room kept body
   StmtFits room kept (For init test update body) =
-      HasRoom (init_lexical_names init) room × InitFits init × MaybeExprFits test × MaybeExprFits update × StmtFits (room_in (init_lexical_names init) room) kept body
+      HasRoom (init_lexical_names init) room × InitFits init × MaybeExprFits test × MaybeExprFits update
+      × StmtFits (room_in (init_lexical_names init) room) kept body
   StmtFits room kept (ForIn each over body) =
       HasRoom (each_lexical_names each) room × EachFits each × ExprFits over × StmtFits (room_in (each_lexical_names each) room) (2 + kept) body
   StmtFits room kept (Continue at label semi) = Unit {0}
   StmtFits room kept (Break at label semi) = Unit {0}
   StmtFits room kept (Return value semi) = MaybeExprFits value
   StmtFits room kept (Throw value semi) = ExprFits value
-  StmtFits room kept (Switch of clauses) = ExprFits of × HasRoom (clauses_lexical_names clauses) room × ClausesFit (room_in (clauses_lexical_names clauses) room) kept clauses
+  StmtFits room kept (Switch of clauses) = ExprFits of × HasRoom (clauses_lexical_names clauses) room
+      × ClausesFit (room_in (clauses_lexical_names clauses) room) kept clauses
   StmtFits room kept (Label name body) = StmtFits room kept body
   StmtFits room kept (Try body param handler) =
       (kept < 2 ^ 32) × HasRoom (lexical_names body) room × StmtsFit (room_in (lexical_names body) room) kept body

@@ -3,7 +3,10 @@
 use Rattle.std.specs.Prelude.{ℕ, ◌+◌, Bool, true, false, if◌then◌else◌, List, [], ◌∷◌, ◌++◌, map, length, Option, Some, None, option_map}
 use Rattle.script_grammar.specs.declared.token.Decl.{Decl}
 use Rattle.script_grammar.specs.declared.token.Decl.TheVariants as decl
-use Rattle.script_grammar.specs.Tree.{Named, Expr, MaybeExpr, no_expr, some_expr, Function, Binds, no_binds, more_binds, Init, NoInit, ValueInit, BindsInit, Each, TargetEach, BindEach, Clauses, no_clauses, more_clauses, Stmt, Stmts, no_stmts, more_stmts, no_stmt, some_stmt, Block, Empty, Debugger, Binding, Value, If, Do, While, For, ForIn, Continue, Break, Return, Throw, Switch, Label, Try, Declared}
+use Rattle.script_grammar.specs.Tree.{Named, Expr, MaybeExpr, no_expr, some_expr, Function, Binds, no_binds, more_binds, Init, NoInit}
+use Rattle.script_grammar.specs.Tree.{ValueInit, BindsInit, Each, TargetEach, BindEach, Clauses, no_clauses, more_clauses, Stmt, Stmts}
+use Rattle.script_grammar.specs.Tree.{no_stmts, more_stmts, no_stmt, some_stmt, Block, Empty, Debugger, Binding, Value, If, Do, While, For}
+use Rattle.script_grammar.specs.Tree.{ForIn, Continue, Break, Return, Throw, Switch, Label, Try, Declared}
 use Rattle.stencil_data.specs.declared.chains.LinkName.{LinkName}
 use Rattle.stencil_data.specs.declared.scopes.BindKind.{BindKind}
 use Rattle.stencil_data.specs.declared.scopes.BindKind.TheVariants as bind
@@ -12,7 +15,8 @@ use Rattle.stencil_data.specs.declared.scopes.Slot.TheVariants as slot
 use Rattle.stencil_data.specs.LinkView.{LinkView}
 use Rattle.stencil_data.specs.Named.{NamedScope}
 use Rattle.stencil_data.specs.Resolve.{resolve}
-use Rattle.scope_analysis.specs.DeclaredNames.{Declaration, function_name, lexical_names, clauses_lexical_names, init_lexical_names, each_lexical_names}
+use Rattle.scope_analysis.specs.DeclaredNames.{Declaration, function_name, lexical_names, clauses_lexical_names, init_lexical_names}
+use Rattle.scope_analysis.specs.DeclaredNames.{each_lexical_names}
 use Rattle.scope_analysis.specs.Scopes.{scope_count, catch_names, count_stmt, count_stmts}
 use Rattle.bytecode_buf.specs.declared.opcode.Op.{Op}
 use Rattle.bytecode_buf.specs.declared.opcode.Op.TheVariants as op
@@ -24,7 +28,8 @@ use Rattle.emit_exprs.specs.Names.{base, init}
 use Rattle.emit_exprs.specs.declared.uses.Use.TheVariants.{Reached}
 use Rattle.emit_exprs.specs.Exprs.{Scene, writing, basing, lambda_code, expr_code, code_of, target_of, Target, ToName, ToProp, ToElem, NoTarget}
 use Rattle.emit_exprs.specs.Whole.{whole, just}
-use Rattle.emit_stmts.specs.Frames.{Frame, Loop, KeysLoop, Switching, Labelled, Entered, scope_at, has_env, chain_of, kept_values, leave_scope, exits, Out, Again, leaving}
+use Rattle.emit_stmts.specs.Frames.{Frame, Loop, KeysLoop, Switching, Labelled, Entered, scope_at, has_env, chain_of, kept_values}
+use Rattle.emit_stmts.specs.Frames.{leave_scope, exits, Out, Again, leaving}
 
 -- what is the same in a whole body: the scopes around it, its function's scopes, where the functions directly in the
 -- function start, and whether it is a script's
@@ -92,7 +97,8 @@ clause_functions scene (more_clauses test items rest) = block_functions scene it
 abbrev pub in_scope : Setting → List Declaration → (Scene → Code) → (ℕ → List Frame → Code) → ℕ → List Frame → Code
 in_scope the [] functions content number frames = functions (scene_at the frames) ++ content number frames
 in_scope the (d ∷ ds) functions content number frames =
-    enter_scope the number ++ functions (scene_at the (Entered number ∷ frames)) ++ content (number + 1) (Entered number ∷ frames) ++ leave_scope the.scopes number
+    enter_scope the number ++ functions (scene_at the (Entered number ∷ frames)) ++ content (number + 1) (Entered number ∷ frames)
+    ++ leave_scope the.scopes number
 
 abbrev pub no_functions : Scene → Code
 no_functions scene = []
@@ -171,7 +177,8 @@ store_each scene (BindEach kind name) = store_bound scene kind name.text
 
 abbrev pub while_code : ℕ → Code → Code → Code
 while_code level test body =
-    here (aim.Break level) (turning op.Goto (here (aim.Continue level) (just op.LoopHead ++ test ++ (Waiting op.JumpIfFalse (aim.Break level) ∷ []) ++ body)))
+    here (aim.Break level) (turning op.Goto (here (aim.Continue level)
+    (just op.LoopHead ++ test ++ (Waiting op.JumpIfFalse (aim.Break level) ∷ []) ++ body)))
 
 abbrev pub do_code : ℕ → Code → Code → Code
 do_code level body test = here (aim.Break level) (turning op.JumpIfTrue (here (aim.Continue level) (just op.LoopHead ++ body) ++ test))
@@ -185,7 +192,8 @@ for_in_code level fresh store body =
     here (aim.Break level)
     (turning op.Goto
     (here (aim.Continue level)
-    (whole (plain op.LoopHead ∷ plain op.MoreIter ∷ plain op.IsNoIter ∷ []) ++ (Waiting op.JumpIfTrue (aim.Break level) ∷ []) ++ fresh ++ just op.Dup ++ store ++ just op.Pop ++ body)
+    (whole (plain op.LoopHead ∷ plain op.MoreIter ∷ plain op.IsNoIter ∷ []) ++ (Waiting op.JumpIfTrue (aim.Break level) ∷ []) ++ fresh
+    ++ just op.Dup ++ store ++ just op.Pop ++ body)
     ++ just op.Pop))
     ++ just op.EndIter
 
@@ -253,7 +261,8 @@ label_text label = option_map (λ (name : Named). name.text) label
 
 abbrev mutual
   pub stmt_code : Setting → Stmt → ℕ → List Frame → Code
-  stmt_code the (Block items) number frames = in_scope the (lexical_names items) (λ scene. block_functions scene items) (stmts_code the items) number frames
+  stmt_code the (Block items) number frames = in_scope the (lexical_names items) (λ scene. block_functions scene items)
+      (stmts_code the items) number frames
   stmt_code the Empty number frames = []
   stmt_code the (Debugger semi) number frames = just op.Debugger
   stmt_code the (Binding kind binds semi) number frames = binds_code (scene_at the frames) kind binds
@@ -261,8 +270,10 @@ abbrev mutual
   stmt_code the (If test then_stmt no_stmt) number frames = then_code (value_at the frames test) (stmt_code the then_stmt number frames)
   stmt_code the (If test then_stmt (some_stmt else_stmt)) number frames =
       choice_code (value_at the frames test) (stmt_code the then_stmt number frames) (stmt_code the else_stmt (number + count_stmt then_stmt) frames)
-  stmt_code the (Do body test semi) number frames = do_code (length frames) (stmt_code the body number (Loop ∷ frames)) (value_at the (Loop ∷ frames) test)
-  stmt_code the (While test body) number frames = while_code (length frames) (value_at the (Loop ∷ frames) test) (stmt_code the body number (Loop ∷ frames))
+  stmt_code the (Do body test semi) number frames = do_code (length frames) (stmt_code the body number (Loop ∷ frames))
+      (value_at the (Loop ∷ frames) test)
+  stmt_code the (While test body) number frames = while_code (length frames) (value_at the (Loop ∷ frames) test)
+      (stmt_code the body number (Loop ∷ frames))
   stmt_code the (For init test update body) number frames =
       in_scope the (init_lexical_names init) no_functions
       (λ inside around.
@@ -274,7 +285,8 @@ abbrev mutual
       in_scope the (each_lexical_names each) no_functions
       (λ inside around.
       value_at the around over ++ just op.Iter
-      ++ for_in_code (length around) (freshen the (each_lexical_names each) number) (store_each (scene_at the (KeysLoop ∷ around)) each) (stmt_code the body inside (KeysLoop ∷ around)))
+      ++ for_in_code (length around) (freshen the (each_lexical_names each) number) (store_each (scene_at the (KeysLoop ∷ around)) each)
+      (stmt_code the body inside (KeysLoop ∷ around)))
       number frames
   stmt_code the (Continue at label semi) number frames = leaving the.scopes (Again (label_text label)) frames
   stmt_code the (Break at label semi) number frames = leaving the.scopes (Out (label_text label)) frames

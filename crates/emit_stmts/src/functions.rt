@@ -58,7 +58,10 @@ fn declared_function(stmt: &Stmt) -> Option<&Func>
     ensures { (i : Interpretation) (scene : Scene) → code.declared_in scene (stmt_of i stmt.now) ≡ declared_by scene i (option_copied result) }
 {
     match stmt {
-        Stmt::Func(func) => Some(func),
+        Stmt::Func(boxed) => {
+            let func: &Func = boxed;
+            Some(func)
+        }
         _ => None,
     }
 }

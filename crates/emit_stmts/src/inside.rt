@@ -33,7 +33,8 @@ pub fn may_enter(site: &StmtContext, declares: bool) -> bool
 
 /// Pushes the environment of the next scope, whose names are initialized already.
 pub fn push_next(out: &mut Draft, site: &StmtContext) -> Result<InnerScope, AllocError>
-    ensures code { OnOk result (EmitsAt site.now.exprs out.old.code out.new.code (code.push_env Op.PushLexicalEnv (scope_in site.now out.old.next) out.old.next)) }
+    ensures code { OnOk result (EmitsAt site.now.exprs out.old.code out.new.code
+        (code.push_env Op.PushLexicalEnv (scope_in site.now out.old.next) out.old.next)) }
     ensures notes { OnOk result (out.new.notes.items ≡ out.old.notes.items) }
     ensures next { OnOk result (out.old.next + 1 < 2 ^ 64 → out.new.next ≡ out.old.next + 1) }
     ensures number { IfOk result (λ scope. scope.number ≡ out.old.next) }
@@ -55,7 +56,8 @@ pub fn push_next(out: &mut Draft, site: &StmtContext) -> Result<InnerScope, Allo
 
 /// Enters the next scope.
 pub fn enter_next(out: &mut Draft, site: &StmtContext) -> Result<InnerScope, AllocError>
-    ensures code { OnOk result ((w : World) → EmitsAt site.now.exprs out.old.code out.new.code (code.enter_scope (setting (position_of site.now) w) out.old.next)) }
+    ensures code { OnOk result ((w : World) → EmitsAt site.now.exprs out.old.code out.new.code
+        (code.enter_scope (setting (position_of site.now) w) out.old.next)) }
     ensures notes { OnOk result (out.new.notes.items ≡ out.old.notes.items) }
     ensures next { OnOk result (out.old.next + 1 < 2 ^ 64 → out.new.next ≡ out.old.next + 1) }
     ensures number { IfOk result (λ scope. scope.number ≡ out.old.next) }

@@ -26,7 +26,8 @@ pub enum Goal {
 // What leaves one frame.
 #[tactic(auto, using(emit_exprs::proofs::Singles::emits_nothing))]
 fn exit(out: &mut CodeBuf, site: &StmtContext, frame: Frame) -> Result<(), AllocError>
-    ensures { OnOk result (EmitsAt site.now.exprs out.old out.new (model.exit (position_of site.now).scopes (frame_in site.now.exprs.texts.now frame))) }
+    ensures { OnOk result (EmitsAt site.now.exprs out.old out.new
+        (model.exit (position_of site.now).scopes (frame_in site.now.exprs.texts.now frame))) }
 {
     match frame {
         Frame::Loop => Ok(()),

@@ -49,7 +49,8 @@ fn have_exit(site: &StmtContext, frames: &[Frame]) -> bool
 
 // Returns the value on top of the stack, out of all frames.
 fn returning(out: &mut CodeBuf, site: &StmtContext) -> Result<(), AllocError>
-    ensures { OnOk result (EmitsAt site.now.exprs out.old out.new (code.return_code [] (around.exits (position_of site.now).scopes (position_of site.now).frames))) }
+    ensures { OnOk result (EmitsAt site.now.exprs out.old out.new
+        (code.return_code [] (around.exits (position_of site.now).scopes (position_of site.now).frames))) }
 {
     if have_exit(site, site.frames) {
         plain(out, Op::SetRval)?;
@@ -67,7 +68,9 @@ pub fn return_stmt(
     site: &StmtContext,
     value: &Option<Expr>,
 ) -> Result<(), AllocError>
-    ensures { OnOk result ((waits : List ModelWait) (semi : Bool) → RowWritten (position_of site.now) (state out.old waits) (state out.new waits) out.old.next out.new.next (λ w. model.Return (maybe_expr_of (option_map (expr_of (within (position_of site.now) w)) value.now)) semi)) }
+    ensures { OnOk result ((waits : List ModelWait) (semi : Bool)
+        → RowWritten (position_of site.now) (state out.old waits) (state out.new waits) out.old.next out.new.next
+        (λ w. model.Return (maybe_expr_of (option_map (expr_of (within (position_of site.now) w)) value.now)) semi)) }
 {
     value_or_undefined(&mut out.code, &site.exprs, value)?;
     returning(&mut out.code, site)?;

@@ -36,7 +36,8 @@ fn functions_in(stmt: &Stmt) -> u32
 
 // How many functions are declared at the top of a script, in 32 bits.
 fn function_count(items: &[Stmt]) -> u32
-    ensures { (i : Interpretation) → defined.function_count (stmts_of (map (stmt_of i) items.now)) < 2 ^ 32 → result ≡ defined.function_count (stmts_of (map (stmt_of i) items.now)) }
+    ensures { (i : Interpretation) → defined.function_count (stmts_of (map (stmt_of i) items.now)) < 2 ^ 32
+        → result ≡ defined.function_count (stmts_of (map (stmt_of i) items.now)) }
 {
     let mut count: u32 = 0;
     for item in items {
@@ -52,7 +53,8 @@ pub fn emit_script(
     site: &StmtContext,
     items: &[Stmt],
 ) -> Result<(), AllocError>
-    ensures { OnOk result (ScriptWritten (position_of site.now) (state out.old waits.old.items) (state out.new waits.new.items) out.old.next out.new.next items.now) }
+    ensures { OnOk result (ScriptWritten (position_of site.now) (state out.old waits.old.items)
+        (state out.new waits.new.items) out.old.next out.new.next items.now) }
 {
     let count = function_count(items);
     counted(&mut out.code, Op::GlobalOrEvalDeclInstantiation, count)?;

@@ -16,7 +16,8 @@ use std::alloc::AllocError;
 
 /// A `debugger` statement.
 pub fn debugger_stmt(out: &mut Draft, site: &StmtContext) -> Result<(), AllocError>
-    ensures { OnOk result ((waits : List ModelWait) (semi : Bool) → RowWritten (position_of site.now) (state out.old waits) (state out.new waits) out.old.next out.new.next (λ w. model.Debugger semi)) }
+    ensures { OnOk result ((waits : List ModelWait) (semi : Bool)
+        → RowWritten (position_of site.now) (state out.old waits) (state out.new waits) out.old.next out.new.next (λ w. model.Debugger semi)) }
 {
     plain(&mut out.code, Op::Debugger)?;
     Ok(())
@@ -29,7 +30,8 @@ pub fn break_stmt(
     site: &StmtContext,
     label: Option<Ident>,
 ) -> Result<(), AllocError>
-    ensures { OnOk result ((at : ℕ) (semi : Bool) → RowWritten (position_of site.now) (state out.old waits.old.items) (state out.new waits.new.items) out.old.next out.new.next (λ w. model.Break at (maybe_named (within (position_of site.now) w) label) semi)) }
+    ensures { OnOk result ((at : ℕ) (semi : Bool) → RowWritten (position_of site.now) (state out.old waits.old.items)
+        (state out.new waits.new.items) out.old.next out.new.next (λ w. model.Break at (maybe_named (within (position_of site.now) w) label) semi)) }
 {
     leaving(&mut out.code, waits, site, Goal::Out(label), site.frames)?;
     Ok(())
@@ -42,7 +44,9 @@ pub fn continue_stmt(
     site: &StmtContext,
     label: Option<Ident>,
 ) -> Result<(), AllocError>
-    ensures { OnOk result ((at : ℕ) (semi : Bool) → RowWritten (position_of site.now) (state out.old waits.old.items) (state out.new waits.new.items) out.old.next out.new.next (λ w. model.Continue at (maybe_named (within (position_of site.now) w) label) semi)) }
+    ensures { OnOk result ((at : ℕ) (semi : Bool) → RowWritten (position_of site.now) (state out.old waits.old.items)
+        (state out.new waits.new.items) out.old.next out.new.next
+        (λ w. model.Continue at (maybe_named (within (position_of site.now) w) label) semi)) }
 {
     leaving(&mut out.code, waits, site, Goal::Again(label), site.frames)?;
     Ok(())

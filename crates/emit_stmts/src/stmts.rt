@@ -6,7 +6,8 @@ ghost use Rattle.script_grammar.specs.TreeLists.{maybe_expr_of};
 ghost use Rattle.script_grammar.specs.TreeOf.{expr_of, each_of, init_of, stmt_of};
 ghost use Rattle.emit_stmts.specs.Positions.{position_of, within, state};
 ghost use Rattle.emit_stmts.specs.StmtCode.{RowWritten, StmtWritten, StmtsWritten};
-ghost use Rattle.emit_stmts.specs.PartCode.{BlockWritten, ClausesWritten, FirstWritten, ForWritten, ForInWritten, GuardedWritten, HandlerWritten, clauses_in};
+ghost use Rattle.emit_stmts.specs.PartCode.{BlockWritten, ClausesWritten, FirstWritten, ForWritten, ForInWritten, GuardedWritten};
+ghost use Rattle.emit_stmts.specs.PartCode.{HandlerWritten, clauses_in};
 
 use crate::bindings::{init, update};
 use crate::declares::{block_declares, clauses_declare, each_declares, init_declares};
@@ -26,7 +27,10 @@ use crate::valued::{binding_stmt, throw_stmt, value_stmt};
 use bytecode_buf::{Aim, Op, Wait, jump_to, target, turn};
 use emit_exprs::steps::plain;
 use emit_exprs::{Use, emit_expr};
-use script_grammar::tree::{Clause, Each, Expr, Ident, Init, Stmt};
+use script_grammar::tree::{
+    Clause, Each, Expr, ForInStatement, ForStatement, Ident, IfStatement, Init, Stmt,
+    SwitchStatement, TryStatement,
+};
 use std::alloc::AllocError;
 
 /// Appends the code of a statement.
@@ -37,7 +41,8 @@ pub fn emit_stmt(
     site: &StmtContext,
     tree: &Stmt,
 ) -> Result<(), AllocError>
-    ensures { OnOk result (StmtWritten (position_of site.now) (state out.old waits.old.items) (state out.new waits.new.items) out.old.next out.new.next tree.now) }
+    ensures { OnOk result (StmtWritten (position_of site.now) (state out.old waits.old.items)
+        (state out.new waits.new.items) out.old.next out.new.next tree.now) }
 {
     match tree {
         Stmt::Block(items) => Ok(emit_block(out, waits, site, items)?),
@@ -49,30 +54,49 @@ pub fn emit_stmt(
             semi: _,
         } => Ok(binding_stmt(out, site, *decl, binds)?),
         Stmt::Value { value, semi: _ } => Ok(value_stmt(out, site, value)?),
-        Stmt::If { test, yes, no } => match no {
-            None => Ok(emit_then(out, waits, site, yes, test)?),
-            Some(second) => {
-                let last: &Stmt = second;
-                let mut ends = Vec::new(site.exprs.alloc);
-                emit_first(out, &mut ends, site, yes, test)?;
-                emit_stmt(out, &mut ends, site, last)?;
-                target(&mut out.code, &ends, Aim::After, waits)?;
-                Ok(())
+        Stmt::If(boxed) => {
+            let statement: &IfStatement = boxed;
+            match &statement.no {
+                None => Ok(emit_then(out, waits, site, &statement.yes, &statement.test)?),
+                Some(second) => {
+                    let last: &Stmt = second;
+                    let mut ends = Vec::new(site.exprs.alloc);
+                    emit_first(out, &mut ends, site, &statement.yes, &statement.test)?;
+                    emit_stmt(out, &mut ends, site, last)?;
+                    target(&mut out.code, &ends, Aim::After, waits)?;
+                    Ok(())
+                }
             }
-        },
+        }
         Stmt::Do {
+            semi: _,
             body,
             test,
-            semi: _,
         } => Ok(emit_do(out, waits, site, body, test)?),
         Stmt::While { test, body } => Ok(emit_while(out, waits, site, body, test)?),
-        Stmt::For {
-            init,
-            test,
-            update,
-            body,
-        } => Ok(emit_for(out, waits, site, body, init, test, update)?),
-        Stmt::ForIn { each, over, body } => Ok(emit_for_in(out, waits, site, body, each, over)?),
+        Stmt::For(boxed) => {
+            let statement: &ForStatement = boxed;
+            Ok(emit_for(
+                out,
+                waits,
+                site,
+                &statement.body,
+                &statement.init,
+                &statement.test,
+                &statement.update,
+            )?)
+        }
+        Stmt::ForIn(boxed) => {
+            let statement: &ForInStatement = boxed;
+            Ok(emit_for_in(
+                out,
+                waits,
+                site,
+                &statement.body,
+                &statement.each,
+                &statement.over,
+            )?)
+        }
         Stmt::Continue {
             at: _,
             label,
@@ -83,19 +107,19 @@ pub fn emit_stmt(
             label,
             semi: _,
         } => Ok(break_stmt(out, waits, site, *label)?),
-        Stmt::Return { value, semi: _ } => Ok(return_stmt(out, site, value)?),
+        Stmt::Return { semi: _, value } => Ok(return_stmt(out, site, value)?),
         Stmt::Throw { value, semi: _ } => Ok(throw_stmt(out, site, value)?),
-        Stmt::Switch { of, clauses } => Ok(emit_switch(out, waits, site, clauses, of)?),
+        Stmt::Switch(boxed) => {
+            let statement: &SwitchStatement = boxed;
+            Ok(emit_switch(out, waits, site, &statement.clauses, &statement.of)?)
+        }
         Stmt::Label { name, body } => Ok(emit_label(out, waits, site, body, *name)?),
-        Stmt::Try {
-            body,
-            param,
-            handler,
-        } => {
+        Stmt::Try(boxed) => {
+            let statement: &TryStatement = boxed;
             let mut ends = Vec::new(site.exprs.alloc);
-            emit_guarded(out, &mut ends, site, body)?;
+            emit_guarded(out, &mut ends, site, &statement.body)?;
             plain(&mut out.code, Op::JumpTarget)?;
-            emit_handler(out, &mut ends, site, handler, *param)?;
+            emit_handler(out, &mut ends, site, &statement.handler, statement.param)?;
             target(&mut out.code, &ends, Aim::After, waits)?;
             Ok(())
         }
@@ -111,7 +135,8 @@ pub fn emit_stmts(
     site: &StmtContext,
     items: &[Stmt],
 ) -> Result<(), AllocError>
-    ensures { OnOk result (StmtsWritten (position_of site.now) (state out.old waits.old.items) (state out.new waits.new.items) out.old.next out.new.next items.now) }
+    ensures { OnOk result (StmtsWritten (position_of site.now) (state out.old waits.old.items)
+        (state out.new waits.new.items) out.old.next out.new.next items.now) }
 {
     for item in items {
         emit_stmt(out, waits, site, item)?;
@@ -127,7 +152,8 @@ fn emit_block(
     site: &StmtContext,
     items: &[Stmt],
 ) -> Result<(), AllocError>
-    ensures { OnOk result (BlockWritten (position_of site.now) (state out.old waits.old.items) (state out.new waits.new.items) out.old.next out.new.next items.now) }
+    ensures { OnOk result (BlockWritten (position_of site.now) (state out.old waits.old.items)
+        (state out.new waits.new.items) out.old.next out.new.next items.now) }
 {
     if may_enter(site, block_declares(items)) {
         let scope = enter_next(out, site)?;
@@ -152,7 +178,9 @@ fn emit_then(
     body: &Stmt,
     test: &Expr,
 ) -> Result<(), AllocError>
-    ensures { OnOk result (RowWritten (position_of site.now) (state out.old waits.old.items) (state out.new waits.new.items) out.old.next out.new.next (λ w. model.If (expr_of (within (position_of site.now) w) test.now) (stmt_of (within (position_of site.now) w) body.now) model.no_stmt)) }
+    ensures { OnOk result (RowWritten (position_of site.now) (state out.old waits.old.items)
+        (state out.new waits.new.items) out.old.next out.new.next
+        (λ w. model.If (expr_of (within (position_of site.now) w) test.now) (stmt_of (within (position_of site.now) w) body.now) model.no_stmt)) }
 {
     let mut inner = Vec::new(site.exprs.alloc);
     emit_expr(&mut out.code, &site.exprs, test, Use::Plainly)?;
@@ -171,7 +199,8 @@ fn emit_first(
     body: &Stmt,
     test: &Expr,
 ) -> Result<(), AllocError>
-    ensures { OnOk result (FirstWritten (position_of site.now) (state out.old waits.old.items) (state out.new waits.new.items) out.old.next out.new.next test.now body.now) }
+    ensures { OnOk result (FirstWritten (position_of site.now) (state out.old waits.old.items)
+        (state out.new waits.new.items) out.old.next out.new.next test.now body.now) }
 {
     let mut inner = Vec::new(site.exprs.alloc);
     emit_expr(&mut out.code, &site.exprs, test, Use::Plainly)?;
@@ -190,7 +219,9 @@ fn emit_do(
     body: &Stmt,
     test: &Expr,
 ) -> Result<(), AllocError>
-    ensures { OnOk result ((semi : Bool) → RowWritten (position_of site.now) (state out.old waits.old.items) (state out.new waits.new.items) out.old.next out.new.next (λ w. model.Do (stmt_of (within (position_of site.now) w) body.now) (expr_of (within (position_of site.now) w) test.now) semi)) }
+    ensures { OnOk result ((semi : Bool) → RowWritten (position_of site.now) (state out.old waits.old.items)
+        (state out.new waits.new.items) out.old.next out.new.next
+        (λ w. model.Do (stmt_of (within (position_of site.now) w) body.now) (expr_of (within (position_of site.now) w) test.now) semi)) }
 {
     let frames = frames_inside(site.exprs.alloc, Frame::Loop, site.frames)?;
     let inside = framed_site(site, &frames);
@@ -215,7 +246,9 @@ fn emit_while(
     body: &Stmt,
     test: &Expr,
 ) -> Result<(), AllocError>
-    ensures { OnOk result (RowWritten (position_of site.now) (state out.old waits.old.items) (state out.new waits.new.items) out.old.next out.new.next (λ w. model.While (expr_of (within (position_of site.now) w) test.now) (stmt_of (within (position_of site.now) w) body.now))) }
+    ensures { OnOk result (RowWritten (position_of site.now) (state out.old waits.old.items)
+        (state out.new waits.new.items) out.old.next out.new.next
+        (λ w. model.While (expr_of (within (position_of site.now) w) test.now) (stmt_of (within (position_of site.now) w) body.now))) }
 {
     let frames = frames_inside(site.exprs.alloc, Frame::Loop, site.frames)?;
     let inside = framed_site(site, &frames);
@@ -249,7 +282,8 @@ fn emit_turns(
     test: &Option<Expr>,
     step: &Option<Expr>,
 ) -> Result<(), AllocError>
-    ensures { OnOk result (ForWritten (position_of site.now) (state out.old waits.old.items) (state out.new waits.new.items) out.old.next out.new.next head test.now step.now body.now) }
+    ensures { OnOk result (ForWritten (position_of site.now) (state out.old waits.old.items)
+        (state out.new waits.new.items) out.old.next out.new.next head test.now step.now body.now) }
 {
     let frames = frames_inside(site.exprs.alloc, Frame::Loop, site.frames)?;
     let inside = framed_site(site, &frames);
@@ -278,7 +312,11 @@ fn emit_for(
     test: &Option<Expr>,
     step: &Option<Expr>,
 ) -> Result<(), AllocError>
-    ensures { OnOk result (RowWritten (position_of site.now) (state out.old waits.old.items) (state out.new waits.new.items) out.old.next out.new.next (λ w. model.For (init_of (within (position_of site.now) w) first.now) (maybe_expr_of (option_map (expr_of (within (position_of site.now) w)) test.now)) (maybe_expr_of (option_map (expr_of (within (position_of site.now) w)) step.now)) (stmt_of (within (position_of site.now) w) body.now))) }
+    ensures { OnOk result (RowWritten (position_of site.now) (state out.old waits.old.items)
+        (state out.new waits.new.items) out.old.next out.new.next
+        (λ w. model.For (init_of (within (position_of site.now) w) first.now)
+        (maybe_expr_of (option_map (expr_of (within (position_of site.now) w)) test.now))
+        (maybe_expr_of (option_map (expr_of (within (position_of site.now) w)) step.now)) (stmt_of (within (position_of site.now) w) body.now))) }
 {
     if may_enter(site, init_declares(first)) {
         let scope = enter_next(out, site)?;
@@ -307,7 +345,8 @@ fn emit_keys(
     each: &Each,
     over: &Expr,
 ) -> Result<(), AllocError>
-    ensures { OnOk result (ForInWritten (position_of site.now) (state out.old waits.old.items) (state out.new waits.new.items) out.old.next out.new.next head each.now over.now body.now) }
+    ensures { OnOk result (ForInWritten (position_of site.now) (state out.old waits.old.items)
+        (state out.new waits.new.items) out.old.next out.new.next head each.now over.now body.now) }
 {
     let frames = frames_inside(site.exprs.alloc, Frame::KeysLoop, site.frames)?;
     let inside = framed_site(site, &frames);
@@ -340,7 +379,10 @@ fn emit_for_in(
     each: &Each,
     over: &Expr,
 ) -> Result<(), AllocError>
-    ensures { OnOk result (RowWritten (position_of site.now) (state out.old waits.old.items) (state out.new waits.new.items) out.old.next out.new.next (λ w. model.ForIn (each_of (within (position_of site.now) w) each.now) (expr_of (within (position_of site.now) w) over.now) (stmt_of (within (position_of site.now) w) body.now))) }
+    ensures { OnOk result (RowWritten (position_of site.now) (state out.old waits.old.items)
+        (state out.new waits.new.items) out.old.next out.new.next
+        (λ w. model.ForIn (each_of (within (position_of site.now) w) each.now) (expr_of (within (position_of site.now) w) over.now)
+        (stmt_of (within (position_of site.now) w) body.now))) }
 {
     if may_enter(site, each_declares(each)) {
         let scope = enter_next(out, site)?;
@@ -361,7 +403,8 @@ fn emit_clauses(
     site: &StmtContext,
     clauses: &[Clause],
 ) -> Result<(), AllocError>
-    ensures { OnOk result (ClausesWritten (position_of site.now) (state out.old waits.old.items) (state out.new waits.new.items) out.old.next out.new.next clauses.now) }
+    ensures { OnOk result (ClausesWritten (position_of site.now) (state out.old waits.old.items)
+        (state out.new waits.new.items) out.old.next out.new.next clauses.now) }
 {
     let frames = frames_inside(site.exprs.alloc, Frame::Switching, site.frames)?;
     let inside = framed_site(site, &frames);
@@ -403,7 +446,9 @@ fn emit_switch(
     clauses: &[Clause],
     of: &Expr,
 ) -> Result<(), AllocError>
-    ensures { OnOk result (RowWritten (position_of site.now) (state out.old waits.old.items) (state out.new waits.new.items) out.old.next out.new.next (λ w. model.Switch (expr_of (within (position_of site.now) w) of.now) (clauses_in (position_of site.now) w clauses.now))) }
+    ensures { OnOk result (RowWritten (position_of site.now) (state out.old waits.old.items)
+        (state out.new waits.new.items) out.old.next out.new.next
+        (λ w. model.Switch (expr_of (within (position_of site.now) w) of.now) (clauses_in (position_of site.now) w clauses.now))) }
 {
     emit_expr(&mut out.code, &site.exprs, of, Use::Plainly)?;
     if may_enter(site, clauses_declare(clauses)) {
@@ -428,7 +473,9 @@ fn emit_label(
     body: &Stmt,
     name: Ident,
 ) -> Result<(), AllocError>
-    ensures { OnOk result (RowWritten (position_of site.now) (state out.old waits.old.items) (state out.new waits.new.items) out.old.next out.new.next (λ w. model.Label (named (within (position_of site.now) w) name) (stmt_of (within (position_of site.now) w) body.now))) }
+    ensures { OnOk result (RowWritten (position_of site.now) (state out.old waits.old.items)
+        (state out.new waits.new.items) out.old.next out.new.next
+        (λ w. model.Label (named (within (position_of site.now) w) name) (stmt_of (within (position_of site.now) w) body.now))) }
 {
     let frames = frames_inside(site.exprs.alloc, Frame::Labelled(name.atom), site.frames)?;
     let inside = framed_site(site, &frames);
@@ -446,7 +493,8 @@ fn emit_guarded(
     site: &StmtContext,
     items: &[Stmt],
 ) -> Result<(), AllocError>
-    ensures { OnOk result (GuardedWritten (position_of site.now) (state out.old waits.old.items) (state out.new waits.new.items) out.old.next out.new.next items.now) }
+    ensures { OnOk result (GuardedWritten (position_of site.now) (state out.old waits.old.items)
+        (state out.new waits.new.items) out.old.next out.new.next items.now) }
 {
     let number = open_try(out, site.frames)?;
     emit_block(out, waits, site, items)?;
@@ -464,7 +512,8 @@ fn emit_handler(
     items: &[Stmt],
     param: Option<Ident>,
 ) -> Result<(), AllocError>
-    ensures { OnOk result (HandlerWritten (position_of site.now) (state out.old waits.old.items) (state out.new waits.new.items) out.old.next out.new.next param items.now) }
+    ensures { OnOk result (HandlerWritten (position_of site.now) (state out.old waits.old.items)
+        (state out.new waits.new.items) out.old.next out.new.next param items.now) }
 {
     match param {
         Some(name) => Ok(emit_catch(out, waits, site, items, name)?),
@@ -485,7 +534,8 @@ fn emit_catch(
     items: &[Stmt],
     name: Ident,
 ) -> Result<(), AllocError>
-    ensures { OnOk result (HandlerWritten (position_of site.now) (state out.old waits.old.items) (state out.new waits.new.items) out.old.next out.new.next (Some name) items.now) }
+    ensures { OnOk result (HandlerWritten (position_of site.now) (state out.old waits.old.items)
+        (state out.new waits.new.items) out.old.next out.new.next (Some name) items.now) }
 {
     if may_enter(site, true) {
         let scope = push_next(out, site)?;

@@ -21,7 +21,8 @@ use stencil_data::Place;
 // What stands below the value on top of the stack when the name is written.
 #[tactic(auto, using(emit_exprs::proofs::Singles::emits_nothing))]
 fn base_below(out: &mut CodeBuf, atom: u32, place: &Place) -> Result<(), AllocError>
-    ensures { OnOk result ((texts : List (List ℕ)) → Emits texts out.old out.new (whole (code.swapped (base (slice_index_or texts atom []) place.now)))) }
+    ensures { OnOk result ((texts : List (List ℕ)) → Emits texts out.old out.new
+        (whole (code.swapped (base (slice_index_or texts atom []) place.now)))) }
 {
     match *place {
         Place::Global => {

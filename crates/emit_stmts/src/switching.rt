@@ -84,7 +84,8 @@ fn land_test(out: &mut CodeBuf, tests: &[Wait], landed: usize, place: usize) -> 
     requires { AllRoom (length out.old) (drop landed tests.now) }
     ensures long { length out.new ≡ length out.old }
     ensures small { length out.old < 2 ^ 64 }
-    ensures landed { (to : ℕ) → place < to → InOrder place to (drop landed tests.now) → TestLanded place to out.old (drop landed tests.now) out.new (drop result tests.now) }
+    ensures landed { (to : ℕ) → place < to → InOrder place to (drop landed tests.now)
+        → TestLanded place to out.old (drop landed tests.now) out.new (drop result tests.now) }
 {
     let end = out.len();
     match tests.get(landed) {
@@ -108,7 +109,8 @@ pub fn clause_target(
     place: usize,
 ) -> Result<(), AllocError>
     requires { AllRoom (length out.old) (waiting jumps.old) }
-    ensures { OnOk result ((to : ℕ) → place < to → InOrder place to (drop jumps.old.landed jumps.old.tests.items) → ClauseLanded place to out.old jumps.old out.new jumps.new) }
+    ensures { OnOk result ((to : ℕ) → place < to → InOrder place to (drop jumps.old.landed jumps.old.tests.items)
+        → ClauseLanded place to out.old jumps.old out.new jumps.new) }
 {
     jumps.landed = land_test(out, &jumps.tests, jumps.landed, place);
     let mut held = Vec::new(alloc);

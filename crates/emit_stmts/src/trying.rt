@@ -47,7 +47,9 @@ fn kept_values(frames: &[Frame]) -> u32
 pub fn open_try(out: &mut Draft, frames: &[Frame]) -> Result<usize, AllocError>
     ensures code { OnOk result (out.new.code ≡ out.old.code ++ laid (numbered Op.Try 0)) }
     ensures number { IfOk result (λ number. number ≡ length out.old.notes.items) }
-    ensures notes { OnOk result ((texts : List (List ℕ)) → out.new.notes.items ≡ out.old.notes.items ++ record { start = length out.new.code; end = length out.new.code; depth = around.kept_values (frames_in texts frames.now) % 2 ^ 32 } ∷ []) }
+    ensures notes { OnOk result ((texts : List (List ℕ))
+        → out.new.notes.items ≡ out.old.notes.items
+        ++ record { start = length out.new.code; end = length out.new.code; depth = around.kept_values (frames_in texts frames.now) % 2 ^ 32 } ∷ []) }
     ensures next { OnOk result (out.new.next ≡ out.old.next) }
 {
     let number = out.notes.len();
@@ -89,7 +91,8 @@ pub fn dropped(out: &mut CodeBuf) -> Result<(), AllocError>
 
 /// What is thrown, into the parameter with this atom.
 pub fn caught(out: &mut CodeBuf, site: &Site, atom: u32) -> Result<(), AllocError>
-    ensures { OnOk result (EmitsAt site.now out.old out.new (just Op.Exception ++ code.initializing (scene_of site.now) (text_in site.now atom) ++ just Op.Pop)) }
+    ensures { OnOk result (EmitsAt site.now out.old out.new
+        (just Op.Exception ++ code.initializing (scene_of site.now) (text_in site.now atom) ++ just Op.Pop)) }
 {
     plain(out, Op::Exception)?;
     initializing(out, site, atom)?;

@@ -32,7 +32,9 @@ fn result(out: &mut CodeBuf, is_script: bool) -> Result<(), AllocError>
 
 /// An expression statement.
 pub fn value_stmt(out: &mut Draft, site: &StmtContext, value: &Expr) -> Result<(), AllocError>
-    ensures { OnOk result ((waits : List ModelWait) (semi : Bool) → RowWritten (position_of site.now) (state out.old waits) (state out.new waits) out.old.next out.new.next (λ w. model.Value (expr_of (within (position_of site.now) w) value.now) semi)) }
+    ensures { OnOk result ((waits : List ModelWait) (semi : Bool)
+        → RowWritten (position_of site.now) (state out.old waits) (state out.new waits) out.old.next out.new.next
+        (λ w. model.Value (expr_of (within (position_of site.now) w) value.now) semi)) }
 {
     emit_expr(&mut out.code, &site.exprs, value, Use::Plainly)?;
     result(&mut out.code, site.is_script)?;
@@ -41,7 +43,9 @@ pub fn value_stmt(out: &mut Draft, site: &StmtContext, value: &Expr) -> Result<(
 
 /// A `throw`.
 pub fn throw_stmt(out: &mut Draft, site: &StmtContext, value: &Expr) -> Result<(), AllocError>
-    ensures { OnOk result ((waits : List ModelWait) (semi : Bool) → RowWritten (position_of site.now) (state out.old waits) (state out.new waits) out.old.next out.new.next (λ w. model.Throw (expr_of (within (position_of site.now) w) value.now) semi)) }
+    ensures { OnOk result ((waits : List ModelWait) (semi : Bool)
+        → RowWritten (position_of site.now) (state out.old waits) (state out.new waits) out.old.next out.new.next
+        (λ w. model.Throw (expr_of (within (position_of site.now) w) value.now) semi)) }
 {
     emit_expr(&mut out.code, &site.exprs, value, Use::Plainly)?;
     plain(&mut out.code, Op::Throw)?;
@@ -55,7 +59,9 @@ pub fn binding_stmt(
     decl: Decl,
     binds: &[Bind],
 ) -> Result<(), AllocError>
-    ensures { OnOk result ((waits : List ModelWait) (semi : Bool) → RowWritten (position_of site.now) (state out.old waits) (state out.new waits) out.old.next out.new.next (λ w. model.Binding decl (binds_of (map (bind_of (within (position_of site.now) w)) binds.now)) semi)) }
+    ensures { OnOk result ((waits : List ModelWait) (semi : Bool)
+        → RowWritten (position_of site.now) (state out.old waits) (state out.new waits) out.old.next out.new.next
+        (λ w. model.Binding decl (binds_of (map (bind_of (within (position_of site.now) w)) binds.now)) semi)) }
 {
     bind_names(&mut out.code, &site.exprs, decl, binds)?;
     Ok(())

@@ -8,7 +8,7 @@ use Rattle.script_grammar.specs.Tree.{Function, function, Body, BracedBody, Shor
 use Rattle.script_grammar.specs.Tree as model
 use Rattle.script_grammar.specs.TreeLists as part
 use Rattle.script_grammar.specs.declared.tree.Each.TheFolds.{fold_out-FuncBody}
-use Rattle.script_grammar.specs.TreeOf.{each_step, expr_step, body_of, body_step, init_step, key_step, prop_step, stmt_step, tail_step, args_step, bind_step, clause_step, func_of, func_step, operand_step, param_step, part_step}
+use Rattle.script_grammar.specs.TreeOf.{each_step, expr_step, body_of, body_step, init_step, key_step, prop_step, stmt_step, tail_step, args_step, bind_step, clause_step, func_of, func_step, operand_step, param_step, part_step, for_in_step, for_step, if_step, new_step, switch_step, try_step}
 use Rattle.script_grammar.proofs.PartEquations.{func_of-fields}
 use Rattle.scope_analysis.specs.FunctionTree.{HasBody}
 use Rattle.scope_analysis.specs.Kept.{under}
@@ -39,9 +39,9 @@ data Read (b : FuncBody) : Type 0 where
 is_read : (b : FuncBody) → Read b
 is_read b = by (out-FuncBody b) refl where
   by : (l : _) → out-FuncBody b ≡ l → Read b
-  by (layer.Braced items) e = read (λ i n. let f = rw e at (fold_out-FuncBody model.Each model.Expr (Option model.Body) model.Init model.Key model.Prop model.Stmt model.Tail part.Args part.Bind part.Clause model.Function part.Operand part.Param part.Part (each_step i) (expr_step i) (body_step i) (init_step i) (key_step i) (prop_step i) (stmt_step i) (tail_step i) (args_step i) (bind_step i) (clause_step i) (func_step i) (operand_step i) (param_step i) (part_step i) b) in cc)
-  by (layer.FuncBody::Short value) e = read (λ i n. let f = rw e at (fold_out-FuncBody model.Each model.Expr (Option model.Body) model.Init model.Key model.Prop model.Stmt model.Tail part.Args part.Bind part.Clause model.Function part.Operand part.Param part.Part (each_step i) (expr_step i) (body_step i) (init_step i) (key_step i) (prop_step i) (stmt_step i) (tail_step i) (args_step i) (bind_step i) (clause_step i) (func_step i) (operand_step i) (param_step i) (part_step i) b) in cc)
-  by layer.Passed e = passed (λ i. rw e at (fold_out-FuncBody model.Each model.Expr (Option model.Body) model.Init model.Key model.Prop model.Stmt model.Tail part.Args part.Bind part.Clause model.Function part.Operand part.Param part.Part (each_step i) (expr_step i) (body_step i) (init_step i) (key_step i) (prop_step i) (stmt_step i) (tail_step i) (args_step i) (bind_step i) (clause_step i) (func_step i) (operand_step i) (param_step i) (part_step i) b))
+  by (layer.Braced items) e = read (λ i n. let f = rw e at (fold_out-FuncBody model.Each model.Expr (Option model.Body) model.Init model.Key model.Prop model.Stmt model.Tail part.Args part.Bind part.Clause model.Stmt model.Stmt model.Function model.Stmt model.Expr part.Operand part.Param model.Stmt part.Part model.Stmt (each_step i) (expr_step i) (body_step i) (init_step i) (key_step i) (prop_step i) (stmt_step i) (tail_step i) (args_step i) (bind_step i) (clause_step i) (for_in_step i) (for_step i) (func_step i) (if_step i) (new_step i) (operand_step i) (param_step i) (switch_step i) (part_step i) (try_step i) b) in cc)
+  by (layer.FuncBody::Short value) e = read (λ i n. let f = rw e at (fold_out-FuncBody model.Each model.Expr (Option model.Body) model.Init model.Key model.Prop model.Stmt model.Tail part.Args part.Bind part.Clause model.Stmt model.Stmt model.Function model.Stmt model.Expr part.Operand part.Param model.Stmt part.Part model.Stmt (each_step i) (expr_step i) (body_step i) (init_step i) (key_step i) (prop_step i) (stmt_step i) (tail_step i) (args_step i) (bind_step i) (clause_step i) (for_in_step i) (for_step i) (func_step i) (if_step i) (new_step i) (operand_step i) (param_step i) (switch_step i) (part_step i) (try_step i) b) in cc)
+  by layer.Passed e = passed (λ i. rw e at (fold_out-FuncBody model.Each model.Expr (Option model.Body) model.Init model.Key model.Prop model.Stmt model.Tail part.Args part.Bind part.Clause model.Stmt model.Stmt model.Function model.Stmt model.Expr part.Operand part.Param model.Stmt part.Part model.Stmt (each_step i) (expr_step i) (body_step i) (init_step i) (key_step i) (prop_step i) (stmt_step i) (tail_step i) (args_step i) (bind_step i) (clause_step i) (for_in_step i) (for_step i) (func_step i) (if_step i) (new_step i) (operand_step i) (param_step i) (switch_step i) (part_step i) (try_step i) b))
 
 -- a tree cannot have both of these bodies
 not_given : (texts : List (List ℕ)) (x : Function) → body_in (fill_inside (body_at (under texts none)) x) ≡ BracedBody no_stmts → body_in (fill_inside (body_at (under texts one)) x) ≡ BracedBody (more_stmts Empty no_stmts) → ⊥

@@ -8,7 +8,11 @@ use Rattle.script_grammar.specs.declared.token.FuncForm.TheVariants as form
 use Rattle.stencil_data.specs.declared.functions.FuncKind.{FuncKind}
 use Rattle.stencil_data.specs.declared.functions.FuncKind.TheVariants as kind
 use Rattle.script_grammar.specs.Tree as tree
-use Rattle.script_grammar.specs.Tree.{Named, Expr, Exprs, no_exprs, more_exprs, MaybeExpr, no_expr, some_expr, MaybeArgs, no_args, some_args, Parts, no_parts, more_parts, Items, no_items, more_items, Operands, no_operands, more_operands, Tail, Tails, no_tails, more_tails, Key, Prop, Props, no_props, more_props, Function, function, Params, no_params, more_params, Body, Binds, no_binds, more_binds, Init, Each, Clauses, no_clauses, more_clauses, Stmt, Stmts, no_stmts, more_stmts, MaybeStmt, no_stmt, some_stmt}
+use Rattle.script_grammar.specs.Tree.{Named, Expr, Exprs, no_exprs, more_exprs, MaybeExpr, no_expr, some_expr, MaybeArgs, no_args}
+use Rattle.script_grammar.specs.Tree.{some_args, Parts, no_parts, more_parts, Items, no_items, more_items, Operands, no_operands}
+use Rattle.script_grammar.specs.Tree.{more_operands, Tail, Tails, no_tails, more_tails, Key, Prop, Props, no_props, more_props, Function}
+use Rattle.script_grammar.specs.Tree.{function, Params, no_params, more_params, Body, Binds, no_binds, more_binds, Init, Each, Clauses}
+use Rattle.script_grammar.specs.Tree.{no_clauses, more_clauses, Stmt, Stmts, no_stmts, more_stmts, MaybeStmt, no_stmt, some_stmt}
 
 -- functions, each with its extent, its kind, its name, whether its body stands in braces, whether its parameters are
 -- simple, and the functions directly in it
@@ -118,7 +122,8 @@ abbrev mutual
 
   pub in_function : (declared : Bool) → Function → Inner → Inner
   in_function declared (function form start end name ps comma bare body) r =
-      more_inner start end (kind_of declared form) (option_map text_of_name name) (is_braced body) (is_simple ps) (in_params ps (in_body body no_inner)) r
+      more_inner start end (kind_of declared form) (option_map text_of_name name) (is_braced body) (is_simple ps)
+      (in_params ps (in_body body no_inner)) r
 
   pub in_params : Params → Inner → Inner
   in_params no_params r = r

@@ -71,7 +71,8 @@ abbrev pub kept_param : Interpretation → NodeParam Expr → part.Param
 kept_param i n = record { name = named i n.name; value = option_map (expr_of i) n.value; rest = n.rest }
 
 abbrev pub kept_func : Interpretation → NodeFunc Expr (Vec Stmt Global) → model.Function
-kept_func i n = model.function n.form n.start n.end (maybe_named i n.name) (params_of (map (kept_param i) n.params.items)) n.comma n.bare (unwrap_or (kept_body i n.body) (model.BracedBody (i.bodies n.start)))
+kept_func i n = model.function n.form n.start n.end (maybe_named i n.name) (params_of (map (kept_param i) n.params.items)) n.comma n.bare
+    (unwrap_or (kept_body i n.body) (model.BracedBody (i.bodies n.start)))
 
 abbrev pub kept_bind : Interpretation → NodeBind Expr → part.Bind
 kept_bind i n = record { name = named i n.name; value = option_map (expr_of i) n.value }

@@ -2,10 +2,12 @@
 
 ghost use Rattle.std.specs.Prelude.{◌≡◌, List, Option, IfOk};
 ghost use Rattle.script_grammar.specs.Interpretation.{Interpretation, text_of, named, maybe_named};
-ghost use Rattle.script_grammar.specs.Shows.{ShowAll, ShowMaybe, ShowArgs, ShowOperand, ShowPart, ShowTail, ShowKey, ShowFunc, ShowBind, ShowInit, ShowEach, ShowClause};
+ghost use Rattle.script_grammar.specs.Shows.{ShowAll, ShowMaybe, ShowArgs, ShowOperand, ShowPart, ShowTail, ShowKey, ShowFunc, ShowBind};
+ghost use Rattle.script_grammar.specs.Shows.{ShowInit, ShowEach, ShowClause};
 ghost use Rattle.script_grammar.specs.Tree as model;
 ghost use Rattle.script_grammar.specs.TreeLists as part;
-ghost use Rattle.script_grammar.specs.TreeLists.{exprs_of, maybe_expr_of, items_of, maybe_args_of, operands_of, parts_of, tails_of, props_of, binds_of, clauses_of, stmts_of, maybe_stmt_of};
+ghost use Rattle.script_grammar.specs.TreeLists.{exprs_of, maybe_expr_of, items_of, maybe_args_of, operands_of, parts_of, tails_of};
+ghost use Rattle.script_grammar.specs.TreeLists.{props_of, binds_of, clauses_of, stmts_of, maybe_stmt_of};
 ghost use Rattle.script_grammar.specs.TreeOf.{expr_of, stmt_of, prop_of, func_of};
 ghost use Rattle.parse_handlers.specs.Kept.{IsExpr, IsStmt, IsProp, IsBody, kept_func};
 
@@ -200,7 +202,7 @@ impl Handler for Full {
             → IfOk result (λ p. IsProp i p (model.Method k f)) }
     {
         let func = parts::func(self.alloc, func)?;
-        Ok(build::method(parts::key(key), func))
+        build::method(self.alloc, parts::key(key), func)
     }
 
     fn make_get(
@@ -212,7 +214,7 @@ impl Handler for Full {
             → IfOk result (λ p. IsProp i p (model.Get k f)) }
     {
         let func = parts::func(self.alloc, func)?;
-        Ok(build::getter(parts::key(key), func))
+        build::getter(self.alloc, parts::key(key), func)
     }
 
     fn make_set(
@@ -224,7 +226,7 @@ impl Handler for Full {
             → IfOk result (λ p. IsProp i p (model.Set k f)) }
     {
         let func = parts::func(self.alloc, func)?;
-        Ok(build::setter(parts::key(key), func))
+        build::setter(self.alloc, parts::key(key), func)
     }
 
     fn make_block(&mut self, items: Vec<Stmt>) -> Result<Stmt, AllocError>
@@ -260,7 +262,8 @@ impl Handler for Full {
     }
 
     fn make_if(&mut self, test: Expr, yes: Stmt, no: Option<Stmt>) -> Result<Stmt, AllocError>
-        ensures { (i : Interpretation) (t : model.Expr) (u : model.Stmt) (v : Option model.Stmt) → IsExpr i test t → IsStmt i yes u → ShowMaybe (IsStmt i) no v
+        ensures { (i : Interpretation) (t : model.Expr) (u : model.Stmt) (v : Option model.Stmt) → IsExpr i test t → IsStmt i yes u
+            → ShowMaybe (IsStmt i) no v
             → IfOk result (λ s. IsStmt i s (model.If t u (maybe_stmt_of v))) }
     {
         build::if_stmt(self.alloc, test, yes, no)
@@ -295,7 +298,8 @@ impl Handler for Full {
         over: Expr,
         body: Stmt,
     ) -> Result<Stmt, AllocError>
-        ensures { (i : Interpretation) (n : model.Each) (t : model.Expr) (b : model.Stmt) → ShowEach i (IsExpr i) each n → IsExpr i over t → IsStmt i body b
+        ensures { (i : Interpretation) (n : model.Each) (t : model.Expr) (b : model.Stmt) → ShowEach i (IsExpr i) each n → IsExpr i over t
+            → IsStmt i body b
             → IfOk result (λ s. IsStmt i s (model.ForIn n t b)) }
     {
         build::for_in(self.alloc, parts::each(each), over, body)
@@ -335,11 +339,12 @@ impl Handler for Full {
         of: Expr,
         clauses: Vec<NodeClause<Expr, Stmt>>,
     ) -> Result<Stmt, AllocError>
-        ensures { (i : Interpretation) (t : model.Expr) (cs : List part.Clause) → IsExpr i of t → ShowAll (ShowClause (IsExpr i) (IsStmt i)) clauses.items cs
+        ensures { (i : Interpretation) (t : model.Expr) (cs : List part.Clause) → IsExpr i of t
+            → ShowAll (ShowClause (IsExpr i) (IsStmt i)) clauses.items cs
             → IfOk result (λ s. IsStmt i s (model.Switch t (clauses_of cs))) }
     {
         let clauses = parts::clauses(self.alloc, clauses)?;
-        Ok(build::switch(of, clauses))
+        build::switch(self.alloc, of, clauses)
     }
 
     fn make_label(&mut self, name: Ident, body: Stmt) -> Result<Stmt, AllocError> {
@@ -355,7 +360,7 @@ impl Handler for Full {
         ensures { (i : Interpretation) (bs hs : List model.Stmt) → ShowAll (IsStmt i) body.items bs → ShowAll (IsStmt i) handler.items hs
             → IfOk result (λ s. IsStmt i s (model.Try (stmts_of bs) (maybe_named i param) (stmts_of hs))) }
     {
-        Ok(build::try_stmt(body, param, handler))
+        build::try_stmt(self.alloc, body, param, handler)
     }
 
     fn make_declared(&mut self, func: NodeFunc<Expr, Vec<Stmt>>) -> Result<Stmt, AllocError>
@@ -363,7 +368,7 @@ impl Handler for Full {
             → IfOk result (λ s. IsStmt i s (model.Declared f)) }
     {
         let func = parts::func(self.alloc, func)?;
-        Ok(build::declared(func))
+        build::declared(self.alloc, func)
     }
 
     fn body(&mut self, items: Vec<Stmt>) -> Result<Vec<Stmt>, AllocError>

@@ -3,7 +3,8 @@
 ghost use Rattle.std.specs.Prelude.{◌≡◌, List, [], ◌++◌, IfOk, OnOk};
 ghost use Rattle.std.specs.List.{flat_map};
 ghost use Rattle.parse_handlers.specs.declared.found.FoundFunction.{FoundFunction};
-ghost use Rattle.parse_handlers.specs.Held.{held, held_maybe, held_args, held_operand, held_part, held_tail, held_key, held_body, held_param, held_bind, held_init, held_each, held_clause};
+ghost use Rattle.parse_handlers.specs.Held.{held, held_maybe, held_args, held_operand, held_part, held_tail, held_key, held_body};
+ghost use Rattle.parse_handlers.specs.Held.{held_param, held_bind, held_init, held_each, held_clause};
 
 use crate::found::{FoundFunction, SyntaxBody, SyntaxNode};
 use script_grammar::node::{

@@ -3,8 +3,10 @@
 ghost use Rattle.std.specs.Prelude.{◌≡◌, List, ℕ, IfOk, map, option_map};
 ghost use Rattle.script_grammar.specs.Interpretation.{Interpretation};
 ghost use Rattle.script_grammar.specs.Shows.{ShowAll};
-ghost use Rattle.script_grammar.specs.TreeOf.{args_of, operand_of, part_of, tail_of, key_of, body_of, param_of, func_of, bind_of, init_of, each_of, clause_of};
-ghost use Rattle.parse_handlers.specs.Kept.{kept_args, kept_operand, kept_part, kept_tail, kept_key, kept_body, kept_param, kept_func, kept_bind, kept_init, kept_each, kept_clause};
+ghost use Rattle.script_grammar.specs.TreeOf.{args_of, operand_of, part_of, tail_of, key_of, body_of, param_of, func_of, bind_of, init_of};
+ghost use Rattle.script_grammar.specs.TreeOf.{each_of, clause_of};
+ghost use Rattle.parse_handlers.specs.Kept.{kept_args, kept_operand, kept_part, kept_tail, kept_key, kept_body, kept_param, kept_func};
+ghost use Rattle.parse_handlers.specs.Kept.{kept_bind, kept_init, kept_each, kept_clause};
 
 use script_grammar::node::{
     NodeArgs, NodeBind, NodeClause, NodeEach, NodeFunc, NodeFuncBody, NodeInit, NodeKey,

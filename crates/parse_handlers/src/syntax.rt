@@ -3,10 +3,12 @@
 ghost use Rattle.std.specs.Prelude.{◌≡◌, ◌∷◌, [], List, Option, IfOk, option_map};
 ghost use Rattle.std.specs.List.{list_all};
 ghost use Rattle.script_grammar.specs.Interpretation.{Interpretation, text_of, named, maybe_named};
-ghost use Rattle.script_grammar.specs.Shows.{ShowAll, ShowMaybe, ShowArgs, ShowOperand, ShowPart, ShowTail, ShowKey, ShowFunc, ShowBind, ShowInit, ShowEach, ShowClause};
+ghost use Rattle.script_grammar.specs.Shows.{ShowAll, ShowMaybe, ShowArgs, ShowOperand, ShowPart, ShowTail, ShowKey, ShowFunc, ShowBind};
+ghost use Rattle.script_grammar.specs.Shows.{ShowInit, ShowEach, ShowClause};
 ghost use Rattle.script_grammar.specs.Tree as model;
 ghost use Rattle.script_grammar.specs.TreeLists as part;
-ghost use Rattle.script_grammar.specs.TreeLists.{exprs_of, maybe_expr_of, items_of, maybe_args_of, operands_of, parts_of, tails_of, props_of, binds_of, clauses_of, stmts_of, maybe_stmt_of};
+ghost use Rattle.script_grammar.specs.TreeLists.{exprs_of, maybe_expr_of, items_of, maybe_args_of, operands_of, parts_of, tails_of};
+ghost use Rattle.script_grammar.specs.TreeLists.{props_of, binds_of, clauses_of, stmts_of, maybe_stmt_of};
 ghost use Rattle.parse_handlers.specs.Held.{has_braces, is_plain};
 ghost use Rattle.parse_handlers.specs.Inner.{Inner, no_inner, kind_of, in_function};
 ghost use Rattle.parse_handlers.specs.FoundOf.{FoundAs, found_of, founds_before, HoldsExpr, HoldsStmt, HoldsProp, HoldsBody, HoldsFunction};
@@ -91,7 +93,17 @@ fn found(
     simple: bool,
     inner: Vec<FoundFunction>,
 ) -> FoundFunction
-    ensures { (i : Interpretation) → found_of i result ≡ record { start = extent.start; end = extent.end; kind = kind; name = option_map (text_of i) name; braced = braced; simple = simple; inner = founds_before i inner.items no_inner } }
+    ensures { (i : Interpretation) → found_of i result
+        ≡ record {
+          start = extent.start;
+          end = extent.end;
+          kind = kind;
+          name = option_map
+              (text_of i) name;
+          braced = braced;
+          simple = simple;
+          inner = founds_before i inner.items no_inner;
+        } }
 {
     FoundFunction {
         extent,
@@ -122,7 +134,8 @@ impl Syntax {
         func: NodeFunc<SyntaxNode, SyntaxBody>,
         declared: bool,
     ) -> Result<SyntaxNode, AllocError>
-        ensures { (i : Interpretation) (f : model.Function) → ShowFunc i (HoldsExpr i) (HoldsBody i) func f → IfOk result (λ n. HoldsFunction i declared n f) }
+        ensures { (i : Interpretation) (f : model.Function) → ShowFunc i (HoldsExpr i) (HoldsBody i) func f
+            → IfOk result (λ n. HoldsFunction i declared n f) }
     {
         let NodeFunc {
             form,
@@ -269,7 +282,8 @@ impl Handler for Syntax {
         head: SyntaxNode,
         tails: Vec<NodeTail<SyntaxNode>>,
     ) -> Result<SyntaxNode, AllocError>
-        ensures { (i : Interpretation) (t : model.Expr) (ts : List model.Tail) → HoldsExpr i head t → ShowAll (ShowTail i (HoldsExpr i)) tails.items ts
+        ensures { (i : Interpretation) (t : model.Expr) (ts : List model.Tail) → HoldsExpr i head t
+            → ShowAll (ShowTail i (HoldsExpr i)) tails.items ts
             → IfOk result (λ e. HoldsExpr i e (model.Chain t (tails_of ts))) }
     {
         with(head, tails)
@@ -318,7 +332,8 @@ impl Handler for Syntax {
         first: SyntaxNode,
         rest: Vec<NodeOperand<SyntaxNode>>,
     ) -> Result<SyntaxNode, AllocError>
-        ensures { (i : Interpretation) (t : model.Expr) (os : List part.Operand) → HoldsExpr i first t → ShowAll (ShowOperand (HoldsExpr i)) rest.items os
+        ensures { (i : Interpretation) (t : model.Expr) (os : List part.Operand) → HoldsExpr i first t
+            → ShowAll (ShowOperand (HoldsExpr i)) rest.items os
             → IfOk result (λ e. HoldsExpr i e (model.Binary t (operands_of os))) }
     {
         with(first, rest)
@@ -379,7 +394,8 @@ impl Handler for Syntax {
         key: NodeKey<SyntaxNode>,
         func: NodeFunc<SyntaxNode, SyntaxBody>,
     ) -> Result<SyntaxNode, AllocError>
-        ensures { (i : Interpretation) (k : model.Key) (f : model.Function) → ShowKey i (HoldsExpr i) key k → ShowFunc i (HoldsExpr i) (HoldsBody i) func f
+        ensures { (i : Interpretation) (k : model.Key) (f : model.Function) → ShowKey i (HoldsExpr i) key k
+            → ShowFunc i (HoldsExpr i) (HoldsBody i) func f
             → IfOk result (λ p. HoldsProp i p (model.Method k f)) }
     {
         let node = with(self.nothing(), key)?;
@@ -391,7 +407,8 @@ impl Handler for Syntax {
         key: NodeKey<SyntaxNode>,
         func: NodeFunc<SyntaxNode, SyntaxBody>,
     ) -> Result<SyntaxNode, AllocError>
-        ensures { (i : Interpretation) (k : model.Key) (f : model.Function) → ShowKey i (HoldsExpr i) key k → ShowFunc i (HoldsExpr i) (HoldsBody i) func f
+        ensures { (i : Interpretation) (k : model.Key) (f : model.Function) → ShowKey i (HoldsExpr i) key k
+            → ShowFunc i (HoldsExpr i) (HoldsBody i) func f
             → IfOk result (λ p. HoldsProp i p (model.Get k f)) }
     {
         let node = with(self.nothing(), key)?;
@@ -403,7 +420,8 @@ impl Handler for Syntax {
         key: NodeKey<SyntaxNode>,
         func: NodeFunc<SyntaxNode, SyntaxBody>,
     ) -> Result<SyntaxNode, AllocError>
-        ensures { (i : Interpretation) (k : model.Key) (f : model.Function) → ShowKey i (HoldsExpr i) key k → ShowFunc i (HoldsExpr i) (HoldsBody i) func f
+        ensures { (i : Interpretation) (k : model.Key) (f : model.Function) → ShowKey i (HoldsExpr i) key k
+            → ShowFunc i (HoldsExpr i) (HoldsBody i) func f
             → IfOk result (λ p. HoldsProp i p (model.Set k f)) }
     {
         let node = with(self.nothing(), key)?;
@@ -454,7 +472,8 @@ impl Handler for Syntax {
         yes: SyntaxNode,
         no: Option<SyntaxNode>,
     ) -> Result<SyntaxNode, AllocError>
-        ensures { (i : Interpretation) (t : model.Expr) (u : model.Stmt) (v : Option model.Stmt) → HoldsExpr i test t → HoldsStmt i yes u → ShowMaybe (HoldsStmt i) no v
+        ensures { (i : Interpretation) (t : model.Expr) (u : model.Stmt) (v : Option model.Stmt) → HoldsExpr i test t → HoldsStmt i yes u
+            → ShowMaybe (HoldsStmt i) no v
             → IfOk result (λ s. HoldsStmt i s (model.If t u (maybe_stmt_of v))) }
     {
         let node = with(test, yes)?;
@@ -503,7 +522,8 @@ impl Handler for Syntax {
         over: SyntaxNode,
         body: SyntaxNode,
     ) -> Result<SyntaxNode, AllocError>
-        ensures { (i : Interpretation) (n : model.Each) (t : model.Expr) (b : model.Stmt) → ShowEach i (HoldsExpr i) each n → HoldsExpr i over t → HoldsStmt i body b
+        ensures { (i : Interpretation) (n : model.Each) (t : model.Expr) (b : model.Stmt) → ShowEach i (HoldsExpr i) each n
+            → HoldsExpr i over t → HoldsStmt i body b
             → IfOk result (λ s. HoldsStmt i s (model.ForIn n t b)) }
     {
         let node = with(self.nothing(), each)?;
@@ -556,7 +576,8 @@ impl Handler for Syntax {
         of: SyntaxNode,
         clauses: Vec<NodeClause<SyntaxNode, SyntaxNode>>,
     ) -> Result<SyntaxNode, AllocError>
-        ensures { (i : Interpretation) (t : model.Expr) (cs : List part.Clause) → HoldsExpr i of t → ShowAll (ShowClause (HoldsExpr i) (HoldsStmt i)) clauses.items cs
+        ensures { (i : Interpretation) (t : model.Expr) (cs : List part.Clause) → HoldsExpr i of t
+            → ShowAll (ShowClause (HoldsExpr i) (HoldsStmt i)) clauses.items cs
             → IfOk result (λ s. HoldsStmt i s (model.Switch t (clauses_of cs))) }
     {
         with(of, clauses)

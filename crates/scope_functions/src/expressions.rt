@@ -2,19 +2,23 @@
 
 ghost use Rattle.std.specs.Prelude.{◌≡◌, ℕ, map, option_map};
 ghost use Rattle.script_grammar.specs.Tree.{Stmts};
-ghost use Rattle.script_grammar.specs.TreeLists.{exprs_of, maybe_expr_of, items_of, maybe_args_of, operands_of, parts_of, tails_of, props_of, params_of, binds_of};
+ghost use Rattle.script_grammar.specs.TreeLists.{exprs_of, maybe_expr_of, items_of, maybe_args_of, operands_of, parts_of, tails_of};
+ghost use Rattle.script_grammar.specs.TreeLists.{props_of, params_of, binds_of};
 ghost use Rattle.script_grammar.specs.TreeOf.{expr_of, operand_of, part_of, tail_of, args_of, key_of, prop_of, bind_of, param_of};
 ghost use Rattle.scope_analysis.specs.Uses as uses;
 ghost use Rattle.scope_analysis.specs.Kept.{under};
 ghost use Rattle.scope_functions.specs.OwnUse.{uses_itself};
 
 use crate::wanted::{Wanted, is_atom, is_this};
-use script_grammar::tree::{Args, Bind, Expr, Key, Operand, Param, Prop, Tail, TemplatePart};
+use script_grammar::tree::{
+    Args, Bind, Expr, Key, NewExpression, Operand, Param, Prop, Tail, TemplatePart,
+};
 
 /// Whether an expression uses the name.
 #[cycle(using)]
 pub fn uses_expr(wanted: &Wanted, tree: &Expr) -> bool
-    ensures { (bodies : ℕ → Stmts) → result ≡ uses_itself (uses.uses_expr (expr_of (under wanted.now.texts.now bodies) tree.now)) wanted.now.units.now }
+    ensures { (bodies : ℕ → Stmts) → result ≡ uses_itself
+        (uses.uses_expr (expr_of (under wanted.now.texts.now bodies) tree.now)) wanted.now.units.now }
 {
     match tree {
         Expr::This { .. } => is_this(wanted),
@@ -30,7 +34,10 @@ pub fn uses_expr(wanted: &Wanted, tree: &Expr) -> bool
         Expr::Func { .. } => false,
         Expr::Paren { inner, .. } => uses_expr(wanted, inner),
         Expr::Chain { head, tails } => uses_expr(wanted, head) || uses_tails(wanted, tails),
-        Expr::New { callee, args, .. } => uses_expr(wanted, callee) || uses_args(wanted, args),
+        Expr::New(boxed) => {
+            let new: &NewExpression = boxed;
+            uses_expr(wanted, &new.callee) || uses_args(wanted, &new.args)
+        }
         Expr::Unary { of, .. } => uses_expr(wanted, of),
         Expr::Update { of, .. } => uses_expr(wanted, of),
         Expr::Binary { first, rest } => uses_expr(wanted, first) || uses_operands(wanted, rest),
@@ -44,7 +51,8 @@ pub fn uses_expr(wanted: &Wanted, tree: &Expr) -> bool
 
 #[cycle(using)]
 fn uses_exprs(wanted: &Wanted, items: &[Expr]) -> bool
-    ensures { (bodies : ℕ → Stmts) → result ≡ uses_itself (uses.uses_exprs (exprs_of (map (expr_of (under wanted.now.texts.now bodies)) items.now))) wanted.now.units.now }
+    ensures { (bodies : ℕ → Stmts) → result ≡ uses_itself
+        (uses.uses_exprs (exprs_of (map (expr_of (under wanted.now.texts.now bodies)) items.now))) wanted.now.units.now }
 {
     for item in items {
         if uses_expr(wanted, item) {
@@ -57,7 +65,8 @@ fn uses_exprs(wanted: &Wanted, items: &[Expr]) -> bool
 /// Whether an expression that may be left out uses the name.
 #[cycle(using)]
 pub fn uses_maybe(wanted: &Wanted, value: &Option<Expr>) -> bool
-    ensures { (bodies : ℕ → Stmts) → result ≡ uses_itself (uses.uses_maybe (maybe_expr_of (option_map (expr_of (under wanted.now.texts.now bodies)) value.now))) wanted.now.units.now }
+    ensures { (bodies : ℕ → Stmts) → result ≡ uses_itself
+        (uses.uses_maybe (maybe_expr_of (option_map (expr_of (under wanted.now.texts.now bodies)) value.now))) wanted.now.units.now }
 {
     match value {
         Some(tree) => uses_expr(wanted, tree),
@@ -67,7 +76,8 @@ pub fn uses_maybe(wanted: &Wanted, value: &Option<Expr>) -> bool
 
 #[cycle(using)]
 fn uses_args(wanted: &Wanted, args: &Option<Args>) -> bool
-    ensures { (bodies : ℕ → Stmts) → result ≡ uses_itself (uses.uses_args (maybe_args_of (option_map (args_of (under wanted.now.texts.now bodies)) args.now))) wanted.now.units.now }
+    ensures { (bodies : ℕ → Stmts) → result ≡ uses_itself
+        (uses.uses_args (maybe_args_of (option_map (args_of (under wanted.now.texts.now bodies)) args.now))) wanted.now.units.now }
 {
     match args {
         Some(given) => uses_exprs(wanted, &given.items),
@@ -77,7 +87,8 @@ fn uses_args(wanted: &Wanted, args: &Option<Args>) -> bool
 
 #[cycle(using)]
 fn uses_parts(wanted: &Wanted, parts: &[TemplatePart]) -> bool
-    ensures { (bodies : ℕ → Stmts) → result ≡ uses_itself (uses.uses_parts (parts_of (map (part_of (under wanted.now.texts.now bodies)) parts.now))) wanted.now.units.now }
+    ensures { (bodies : ℕ → Stmts) → result ≡ uses_itself
+        (uses.uses_parts (parts_of (map (part_of (under wanted.now.texts.now bodies)) parts.now))) wanted.now.units.now }
 {
     for part in parts {
         if uses_expr(wanted, &part.value) {
@@ -89,7 +100,8 @@ fn uses_parts(wanted: &Wanted, parts: &[TemplatePart]) -> bool
 
 #[cycle(using)]
 fn uses_items(wanted: &Wanted, items: &[Option<Expr>]) -> bool
-    ensures { (bodies : ℕ → Stmts) → result ≡ uses_itself (uses.uses_items (items_of (map (option_map (expr_of (under wanted.now.texts.now bodies))) items.now))) wanted.now.units.now }
+    ensures { (bodies : ℕ → Stmts) → result ≡ uses_itself
+        (uses.uses_items (items_of (map (option_map (expr_of (under wanted.now.texts.now bodies))) items.now))) wanted.now.units.now }
 {
     for item in items {
         if uses_maybe(wanted, item) {
@@ -101,7 +113,8 @@ fn uses_items(wanted: &Wanted, items: &[Option<Expr>]) -> bool
 
 #[cycle(using)]
 fn uses_operands(wanted: &Wanted, rest: &[Operand]) -> bool
-    ensures { (bodies : ℕ → Stmts) → result ≡ uses_itself (uses.uses_operands (operands_of (map (operand_of (under wanted.now.texts.now bodies)) rest.now))) wanted.now.units.now }
+    ensures { (bodies : ℕ → Stmts) → result ≡ uses_itself
+        (uses.uses_operands (operands_of (map (operand_of (under wanted.now.texts.now bodies)) rest.now))) wanted.now.units.now }
 {
     for operand in rest {
         if uses_expr(wanted, &operand.value) {
@@ -113,7 +126,8 @@ fn uses_operands(wanted: &Wanted, rest: &[Operand]) -> bool
 
 #[cycle(using)]
 fn uses_tails(wanted: &Wanted, tails: &[Tail]) -> bool
-    ensures { (bodies : ℕ → Stmts) → result ≡ uses_itself (uses.uses_tails (tails_of (map (tail_of (under wanted.now.texts.now bodies)) tails.now))) wanted.now.units.now }
+    ensures { (bodies : ℕ → Stmts) → result ≡ uses_itself
+        (uses.uses_tails (tails_of (map (tail_of (under wanted.now.texts.now bodies)) tails.now))) wanted.now.units.now }
 {
     for tail in tails {
         if uses_tail(wanted, tail) {
@@ -125,7 +139,8 @@ fn uses_tails(wanted: &Wanted, tails: &[Tail]) -> bool
 
 #[cycle(using)]
 fn uses_tail(wanted: &Wanted, tail: &Tail) -> bool
-    ensures { (bodies : ℕ → Stmts) → result ≡ uses_itself (uses.uses_tail (tail_of (under wanted.now.texts.now bodies) tail.now)) wanted.now.units.now }
+    ensures { (bodies : ℕ → Stmts) → result ≡ uses_itself
+        (uses.uses_tail (tail_of (under wanted.now.texts.now bodies) tail.now)) wanted.now.units.now }
 {
     match tail {
         Tail::Dot { .. } => false,
@@ -148,7 +163,8 @@ fn uses_key(wanted: &Wanted, key: &Key) -> bool
 
 #[cycle(using)]
 fn uses_prop(wanted: &Wanted, prop: &Prop) -> bool
-    ensures { (bodies : ℕ → Stmts) → result ≡ uses_itself (uses.uses_prop (prop_of (under wanted.now.texts.now bodies) prop.now)) wanted.now.units.now }
+    ensures { (bodies : ℕ → Stmts) → result ≡ uses_itself
+        (uses.uses_prop (prop_of (under wanted.now.texts.now bodies) prop.now)) wanted.now.units.now }
 {
     match prop {
         Prop::Short(name) => is_atom(wanted, name.atom),
@@ -161,7 +177,8 @@ fn uses_prop(wanted: &Wanted, prop: &Prop) -> bool
 
 #[cycle(using)]
 fn uses_props(wanted: &Wanted, props: &[Prop]) -> bool
-    ensures { (bodies : ℕ → Stmts) → result ≡ uses_itself (uses.uses_props (props_of (map (prop_of (under wanted.now.texts.now bodies)) props.now))) wanted.now.units.now }
+    ensures { (bodies : ℕ → Stmts) → result ≡ uses_itself
+        (uses.uses_props (props_of (map (prop_of (under wanted.now.texts.now bodies)) props.now))) wanted.now.units.now }
 {
     for prop in props {
         if uses_prop(wanted, prop) {
@@ -173,7 +190,8 @@ fn uses_props(wanted: &Wanted, props: &[Prop]) -> bool
 
 /// Whether the initializers of parameters use the name.
 pub fn uses_params(wanted: &Wanted, params: &[Param]) -> bool
-    ensures { (bodies : ℕ → Stmts) → result ≡ uses_itself (uses.uses_params (params_of (map (param_of (under wanted.now.texts.now bodies)) params.now))) wanted.now.units.now }
+    ensures { (bodies : ℕ → Stmts) → result ≡ uses_itself
+        (uses.uses_params (params_of (map (param_of (under wanted.now.texts.now bodies)) params.now))) wanted.now.units.now }
 {
     for param in params {
         if uses_maybe(wanted, &param.value) {
@@ -185,7 +203,8 @@ pub fn uses_params(wanted: &Wanted, params: &[Param]) -> bool
 
 /// Whether the initializers of names use the name.
 pub fn uses_binds(wanted: &Wanted, binds: &[Bind]) -> bool
-    ensures { (bodies : ℕ → Stmts) → result ≡ uses_itself (uses.uses_binds (binds_of (map (bind_of (under wanted.now.texts.now bodies)) binds.now))) wanted.now.units.now }
+    ensures { (bodies : ℕ → Stmts) → result ≡ uses_itself
+        (uses.uses_binds (binds_of (map (bind_of (under wanted.now.texts.now bodies)) binds.now))) wanted.now.units.now }
 {
     for bind in binds {
         if uses_maybe(wanted, &bind.value) {

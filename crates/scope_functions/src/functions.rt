@@ -28,21 +28,25 @@ use stencil_data::{ClosedName, FuncKind, ScopeData, Text};
 // Whether a braced body binds the name around its statements. Its var names are its own where a parameter has an
 // initializer.
 fn is_bound_in(wanted: &Wanted, initialized: bool, items: &[Stmt]) -> bool
-    ensures { (bodies : ℕ → model.Stmts) → let body = stmts_of (map (stmt_of (under wanted.now.texts.now bodies)) items.now) in result ≡ has_text (texts_of (defined.top_lexical_names body) ++ uses.body_vars initialized body) wanted.now.units.now }
+    ensures { (bodies : ℕ → model.Stmts) → let body = stmts_of (map (stmt_of (under wanted.now.texts.now bodies)) items.now) in result
+        ≡ has_text (texts_of (defined.top_lexical_names body) ++ uses.body_vars initialized body) wanted.now.units.now }
 {
     is_top_lexical(wanted, items) || (initialized && is_top_var(wanted, items))
 }
 
 // Whether a braced body uses the name and does not bind it.
 fn uses_braced(wanted: &Wanted, initialized: bool, items: &[Stmt]) -> bool
-    ensures { (bodies : ℕ → model.Stmts) → result ≡ uses_itself (uses.uses_body initialized (model.BracedBody (stmts_of (map (stmt_of (under wanted.now.texts.now bodies)) items.now)))) wanted.now.units.now }
+    ensures { (bodies : ℕ → model.Stmts) → result ≡ uses_itself
+        (uses.uses_body initialized (model.BracedBody (stmts_of
+        (map (stmt_of (under wanted.now.texts.now bodies)) items.now)))) wanted.now.units.now }
 {
     !is_bound_in(wanted, initialized, items) && uses_stmts(wanted, items)
 }
 
 // Whether a body uses the name and does not bind it.
 fn uses_body(wanted: &Wanted, initialized: bool, body: &FuncBody) -> bool
-    ensures { (bodies : ℕ → model.Stmts) (b : model.Body) → body_of (under wanted.now.texts.now bodies) body.now ≡ Some b → result ≡ uses_itself (uses.uses_body initialized b) wanted.now.units.now }
+    ensures { (bodies : ℕ → model.Stmts) (b : model.Body) → body_of (under wanted.now.texts.now bodies) body.now ≡ Some b
+        → result ≡ uses_itself (uses.uses_body initialized b) wanted.now.units.now }
 {
     match body {
         FuncBody::Braced(items) => uses_braced(wanted, initialized, items),
@@ -53,7 +57,8 @@ fn uses_body(wanted: &Wanted, initialized: bool, body: &FuncBody) -> bool
 
 // Whether a function uses the name itself.
 fn uses_name(texts: &[Text], units: &[u16], func: &Func) -> bool
-    ensures { (bodies : ℕ → model.Stmts) (b : model.Body) → HasBody (under texts.now bodies) func.now b → result ≡ uses_itself (function_uses (params_in (under texts.now bodies) func.now) b) units.now }
+    ensures { (bodies : ℕ → model.Stmts) (b : model.Body) → HasBody (under texts.now bodies) func.now b
+        → result ≡ uses_itself (function_uses (params_in (under texts.now bodies) func.now) b) units.now }
 {
     let wanted = Wanted { texts, units };
     let initialized = has_initializer(&func.params);
@@ -62,7 +67,8 @@ fn uses_name(texts: &[Text], units: &[u16], func: &Func) -> bool
 
 // Which of `arguments` and `this` a function uses itself.
 fn own_uses(func: &Func, texts: &[Text]) -> OwnUses
-    ensures { (bodies : ℕ → model.Stmts) (b : model.Body) → HasBody (under texts.now bodies) func.now b → UsesItself result (params_in (under texts.now bodies) func.now) b }
+    ensures { (bodies : ℕ → model.Stmts) (b : model.Body) → HasBody (under texts.now bodies) func.now b
+        → UsesItself result (params_in (under texts.now bodies) func.now) b }
 {
     OwnUses {
         arguments: uses_name(texts, &ARGUMENTS, func),
@@ -81,7 +87,9 @@ pub fn scopes(
     closed: &[ClosedName],
     texts: &[Text],
 ) -> Result<Vec<ScopeData>, AllocError>
-    ensures { IfOk result (λ scopes. (bodies : ℕ → model.Stmts) (b : model.Body) → HasBody (under texts.now bodies) func.now b → KnowsNames texts.now → AreScopes texts.now closed.now scopes.items (function_scopes kind (option_map (text_at texts.now) name) (func_of (under texts.now bodies) func.now))) }
+    ensures { IfOk result (λ scopes. (bodies : ℕ → model.Stmts) (b : model.Body) → HasBody (under texts.now bodies) func.now b
+        → KnowsNames texts.now → AreScopes texts.now closed.now scopes.items
+        (function_scopes kind (option_map (text_at texts.now) name) (func_of (under texts.now bodies) func.now))) }
 {
     scopes_using(
         alloc,

@@ -21,7 +21,8 @@ use Rattle.scope_inner.specs.Sites.{sited, sited_in}
 abbrev pub AreScriptSites : List (List ℕ) → List ScopeView → List Stmt → List FunctionSite → Type 0
 AreScriptSites texts scopes ss sites =
     (bodies : ℕ → Stmts) → map (named_scope texts) scopes ≡ script_scopes (script_in texts bodies ss)
-    → map (sited (under texts bodies)) sites ≡ map (sited_in (script_scopes (script_in texts bodies ss)) []) (inner_script (script_in texts bodies ss))
+    → map (sited (under texts bodies)) sites ≡ map (sited_in (script_scopes (script_in texts bodies ss)) [])
+    (inner_script (script_in texts bodies ss))
 
 -- these are the functions directly in a function with these scopes under this chain, where its body was read, whatever its
 -- kind and its name
@@ -29,4 +30,5 @@ abbrev pub AreFunctionSites : List (List ℕ) → List ScopeView → List LinkVi
 AreFunctionSites texts scopes chain f sites =
     (bodies : ℕ → Stmts) (body : Body) (kind : FuncKind) (name : Option Text) → HasBody (under texts bodies) f body
     → map (named_scope texts) scopes ≡ function_scopes kind name (func_of (under texts bodies) f)
-    → map (sited (under texts bodies)) sites ≡ map (sited_in (function_scopes kind name (func_of (under texts bodies) f)) chain) (inner_function kind name (func_of (under texts bodies) f))
+    → map (sited (under texts bodies)) sites ≡ map (sited_in (function_scopes kind name (func_of (under texts bodies) f)) chain)
+    (inner_function kind name (func_of (under texts bodies) f))

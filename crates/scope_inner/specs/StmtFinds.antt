@@ -66,15 +66,19 @@ pub record BlockFinds (p : Spot) (old new : Walk) (ss : List Stmt) : Type 0 wher
 
 -- the clauses of a switch, with the scope of their names
 pub record SwitchFinds (p : Spot) (old new : Walk) (cs : List Clause) : Type 0 where
-  pub all : FindsIn p old.sites.items new.sites.items old.next new.next (λ i. scope_count (clauses_lexical_names (clauses_in i cs)) + count_clauses (clauses_in i cs))
-      (λ i number around. inner_clauses (clauses_in i cs) (number + scope_count (clauses_lexical_names (clauses_in i cs))) (enclosed (clauses_lexical_names (clauses_in i cs)) number around))
+  pub all : FindsIn p old.sites.items new.sites.items old.next new.next
+      (λ i. scope_count (clauses_lexical_names (clauses_in i cs)) + count_clauses (clauses_in i cs))
+      (λ i number around. inner_clauses (clauses_in i cs) (number + scope_count (clauses_lexical_names (clauses_in i cs)))
+      (enclosed (clauses_lexical_names (clauses_in i cs)) number around))
 
 -- a handler with the scope of its parameter
 abbrev pub inner_handler : List Declaration → model.Stmts → ℕ → List ℕ → List Inner
 inner_handler names items number around = inner_block items (number + scope_count names) (enclosed names number around)
 
 pub record HandlerFinds (p : Spot) (old new : Walk) (param : Option Ident) (ss : List Stmt) : Type 0 where
-  pub all : FindsIn p old.sites.items new.sites.items old.next new.next (λ i. scope_count (catch_names (maybe_named i param)) + block_count (stmts_in i ss)) (λ i. inner_handler (catch_names (maybe_named i param)) (stmts_in i ss))
+  pub all : FindsIn p old.sites.items new.sites.items old.next new.next
+      (λ i. scope_count (catch_names (maybe_named i param)) + block_count (stmts_in i ss))
+      (λ i. inner_handler (catch_names (maybe_named i param)) (stmts_in i ss))
 
 -- ---- bodies
 
@@ -106,7 +110,9 @@ InBody i p old new number initialized body =
     → map (sited i) new ≡ map (sited i) old ++ map (sited_in p.scopes outer) (inner_body initialized body number around)
 
 pub record BracedFinds (p : Spot) (old new : Walk) (ss : List Stmt) : Type 0 where
-  pub found : (i : Interpretation) (initialized : Bool) → BodyStands p.scopes old.next initialized (model.BracedBody (stmts_in i ss)) → InBody i p old.sites.items new.sites.items old.next initialized (model.BracedBody (stmts_in i ss))
+  pub found : (i : Interpretation) (initialized : Bool) → BodyStands p.scopes old.next initialized (model.BracedBody (stmts_in i ss))
+      → InBody i p old.sites.items new.sites.items old.next initialized (model.BracedBody (stmts_in i ss))
 
 pub record BodyFinds (p : Spot) (old new : Walk) (b : FuncBody) : Type 0 where
-  pub found : (i : Interpretation) (initialized : Bool) (body : model.Body) → body_of i b ≡ Some body → BodyStands p.scopes old.next initialized body → InBody i p old.sites.items new.sites.items old.next initialized body
+  pub found : (i : Interpretation) (initialized : Bool) (body : model.Body) → body_of i b ≡ Some body
+      → BodyStands p.scopes old.next initialized body → InBody i p old.sites.items new.sites.items old.next initialized body

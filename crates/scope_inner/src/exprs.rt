@@ -10,7 +10,9 @@ ghost use Rattle.scope_inner.specs.Finding.{FindsBy};
 
 use crate::sites::FunctionSite;
 use script_grammar::token::FuncForm;
-use script_grammar::tree::{Args, Expr, Func, Key, Operand, Prop, Tail, TemplatePart};
+use script_grammar::tree::{
+    Args, Expr, Func, Key, NewExpression, Operand, Prop, Tail, TemplatePart,
+};
 use std::alloc::AllocError;
 use stencil_data::{Chain, FuncKind};
 
@@ -22,7 +24,8 @@ fn find_function<'a>(
     name: Option<u32>,
     chain: &Chain,
 ) -> Result<(), AllocError>
-    ensures { OnOk result (FindsBy found.old.items found.new.items chain.now (λ i around. record { func = func_of i func.now; kind = kind; name = option_map (text_of i) name; around = around } ∷ [])) }
+    ensures { OnOk result (FindsBy found.old.items found.new.items chain.now
+        (λ i around. record { func = func_of i func.now; kind = kind; name = option_map (text_of i) name; around = around } ∷ [])) }
 {
     found.push(FunctionSite {
         func,
@@ -81,7 +84,8 @@ fn find_expression<'a>(
     func: &'a Func,
     chain: &Chain,
 ) -> Result<(), AllocError>
-    ensures { OnOk result (FindsBy found.old.items found.new.items chain.now (λ i. defined.named_inner (defined.expression_kind (defined.function_form (func_of i func.now))) (func_of i func.now))) }
+    ensures { OnOk result (FindsBy found.old.items found.new.items chain.now
+        (λ i. defined.named_inner (defined.expression_kind (defined.function_form (func_of i func.now))) (func_of i func.now))) }
 {
     Ok(find_named(found, func, expression_kind(func.form), chain)?)
 }
@@ -113,9 +117,10 @@ pub fn find_expr<'a>(
             find_tails(found, tails, chain)?;
             Ok(())
         }
-        Expr::New { callee, args, .. } => {
-            find_expr(found, callee, chain)?;
-            find_args(found, args, chain)?;
+        Expr::New(boxed) => {
+            let new: &NewExpression = boxed;
+            find_expr(found, &new.callee, chain)?;
+            find_args(found, &new.args, chain)?;
             Ok(())
         }
         Expr::Unary { of, .. } => Ok(find_expr(found, of, chain)?),
@@ -162,7 +167,8 @@ fn find_args<'a>(
     args: &'a Option<Args>,
     chain: &Chain,
 ) -> Result<(), AllocError>
-    ensures { OnOk result (FindsBy found.old.items found.new.items chain.now (λ i. defined.inner_args (maybe_args_of (option_map (args_of i) args.now)))) }
+    ensures { OnOk result (FindsBy found.old.items found.new.items chain.now
+        (λ i. defined.inner_args (maybe_args_of (option_map (args_of i) args.now)))) }
 {
     match args {
         Some(some) => Ok(find_exprs(found, &some.items, chain)?),
@@ -192,7 +198,8 @@ fn find_items<'a>(
     items: &'a [Option<Expr>],
     chain: &Chain,
 ) -> Result<(), AllocError>
-    ensures { OnOk result (FindsBy found.old.items found.new.items chain.now (λ i. defined.inner_items (items_of (map (option_map (expr_of i)) items.now)))) }
+    ensures { OnOk result (FindsBy found.old.items found.new.items chain.now
+        (λ i. defined.inner_items (items_of (map (option_map (expr_of i)) items.now)))) }
 {
     for item in items {
         find_maybe(found, item, chain)?;
@@ -207,7 +214,8 @@ pub fn find_maybe<'a>(
     value: &'a Option<Expr>,
     chain: &Chain,
 ) -> Result<(), AllocError>
-    ensures { OnOk result (FindsBy found.old.items found.new.items chain.now (λ i. defined.inner_maybe (maybe_expr_of (option_map (expr_of i) value.now)))) }
+    ensures { OnOk result (FindsBy found.old.items found.new.items chain.now
+        (λ i. defined.inner_maybe (maybe_expr_of (option_map (expr_of i) value.now)))) }
 {
     match value {
         Some(value) => Ok(find_expr(found, value, chain)?),
@@ -222,7 +230,8 @@ fn find_operands<'a>(
     rest: &'a [Operand],
     chain: &Chain,
 ) -> Result<(), AllocError>
-    ensures { OnOk result (FindsBy found.old.items found.new.items chain.now (λ i. defined.inner_operands (operands_of (map (operand_of i) rest.now)))) }
+    ensures { OnOk result (FindsBy found.old.items found.new.items chain.now
+        (λ i. defined.inner_operands (operands_of (map (operand_of i) rest.now)))) }
 {
     for operand in rest {
         find_expr(found, &operand.value, chain)?;

@@ -49,7 +49,8 @@ fn number_behind(number: usize, scopes: &[ScopeData]) -> usize
 
 /// Enters the next scope, where there is one. Answers the chain inside.
 pub fn enter(next: &mut usize, place: &InnerContext, is_there: bool) -> Result<Chain, AllocError>
-    ensures next { OnOk result (next.old + entered_count is_there ≤ length (spot_of place.now).scopes → next.new ≡ next.old + entered_count is_there) }
+    ensures next { OnOk result (next.old + entered_count is_there ≤ length (spot_of place.now).scopes
+        → next.new ≡ next.old + entered_count is_there) }
     ensures chain { IfOk result (λ chain. chain ≡ entered (spot_of place.now) next.old is_there) }
 {
     if is_there {

@@ -25,7 +25,8 @@ pub struct FunctionSite<'a> {
 /// directly in it, where these are they.
 pub fn extents_of(alloc: Global, sites: &[FunctionSite]) -> Result<Vec<Extent>, AllocError>
     ensures extents { IfOk result (λ extents. extents.items ≡ map extent_at sites.now) }
-    ensures inner { IfOk result (λ extents. (i : Interpretation) (scopes : List NamedScope) (outer : List LinkView) (inner : List Inner) → map (sited i) sites.now ≡ map (sited_in scopes outer) inner → extents.items ≡ defined.extents_of inner) }
+    ensures inner { IfOk result (λ extents. (i : Interpretation) (scopes : List NamedScope) (outer : List LinkView) (inner : List Inner)
+        → map (sited i) sites.now ≡ map (sited_in scopes outer) inner → extents.items ≡ defined.extents_of inner) }
 {
     let mut extents = Vec::new(alloc);
     for site in sites {

@@ -10,7 +10,10 @@ use crate::exprs::{find_expr, find_maybe, find_named};
 use crate::parts::{find_binds, find_each, find_init};
 use crate::places::{InnerContext, Walk, enter, within};
 use emit_stmts::declares::{block_declares, clauses_declare, each_declares, init_declares};
-use script_grammar::tree::{Clause, Each, Expr, Ident, Init, Stmt};
+use script_grammar::tree::{
+    Clause, Each, Expr, ForInStatement, ForStatement, Ident, IfStatement, Init, Stmt,
+    SwitchStatement, TryStatement,
+};
 use std::alloc::AllocError;
 use stencil_data::FuncKind;
 
@@ -29,10 +32,11 @@ pub fn find_stmt<'a>(
         Stmt::Debugger { .. } => Ok(()),
         Stmt::Binds { binds, .. } => Ok(find_binds(&mut out.sites, binds, place.chain)?),
         Stmt::Value { value, .. } => Ok(find_expr(&mut out.sites, value, place.chain)?),
-        Stmt::If { test, yes, no } => {
-            find_expr(&mut out.sites, test, place.chain)?;
-            find_stmt(out, place, yes)?;
-            find_else(out, place, no)?;
+        Stmt::If(boxed) => {
+            let statement: &IfStatement = boxed;
+            find_expr(&mut out.sites, &statement.test, place.chain)?;
+            find_stmt(out, place, &statement.yes)?;
+            find_else(out, place, &statement.no)?;
             Ok(())
         }
         Stmt::Do { body, test, .. } => {
@@ -45,30 +49,42 @@ pub fn find_stmt<'a>(
             find_stmt(out, place, body)?;
             Ok(())
         }
-        Stmt::For {
-            init,
-            test,
-            update,
-            body,
-        } => Ok(find_for(out, place, body, init, test, update)?),
-        Stmt::ForIn { each, over, body } => Ok(find_for_in(out, place, body, each, over)?),
+        Stmt::For(boxed) => {
+            let statement: &ForStatement = boxed;
+            Ok(find_for(
+                out,
+                place,
+                &statement.body,
+                &statement.init,
+                &statement.test,
+                &statement.update,
+            )?)
+        }
+        Stmt::ForIn(boxed) => {
+            let statement: &ForInStatement = boxed;
+            Ok(find_for_in(
+                out,
+                place,
+                &statement.body,
+                &statement.each,
+                &statement.over,
+            )?)
+        }
         Stmt::Continue { .. } => Ok(()),
         Stmt::Break { .. } => Ok(()),
         Stmt::Return { value, .. } => Ok(find_maybe(&mut out.sites, value, place.chain)?),
         Stmt::Throw { value, .. } => Ok(find_expr(&mut out.sites, value, place.chain)?),
-        Stmt::Switch { of, clauses } => {
-            find_expr(&mut out.sites, of, place.chain)?;
-            find_switch(out, place, clauses)?;
+        Stmt::Switch(boxed) => {
+            let statement: &SwitchStatement = boxed;
+            find_expr(&mut out.sites, &statement.of, place.chain)?;
+            find_switch(out, place, &statement.clauses)?;
             Ok(())
         }
         Stmt::Label { body, .. } => Ok(find_stmt(out, place, body)?),
-        Stmt::Try {
-            body,
-            param,
-            handler,
-        } => {
-            find_block(out, place, body)?;
-            find_handler(out, place, handler, *param)?;
+        Stmt::Try(boxed) => {
+            let statement: &TryStatement = boxed;
+            find_block(out, place, &statement.body)?;
+            find_handler(out, place, &statement.handler, statement.param)?;
             Ok(())
         }
         Stmt::Func(func) => Ok(find_named(&mut out.sites, func, FuncKind::Declared, place.chain)?),
@@ -129,7 +145,9 @@ fn find_for<'a>(
     test: &'a Option<Expr>,
     update: &'a Option<Expr>,
 ) -> Result<(), AllocError>
-    ensures { OnOk result (RowFinds (spot_of place.now) out.old out.new (λ i. model.For (init_of i init.now) (maybe_expr_of (option_map (expr_of i) test.now)) (maybe_expr_of (option_map (expr_of i) update.now)) (stmt_of i body.now))) }
+    ensures { OnOk result (RowFinds (spot_of place.now) out.old out.new
+        (λ i. model.For (init_of i init.now) (maybe_expr_of (option_map (expr_of i) test.now))
+        (maybe_expr_of (option_map (expr_of i) update.now)) (stmt_of i body.now))) }
 {
     let chain = enter(&mut out.next, place, init_declares(init))?;
     let inside = within(place, &chain);
@@ -148,7 +166,8 @@ fn find_for_in<'a>(
     each: &'a Each,
     over: &'a Expr,
 ) -> Result<(), AllocError>
-    ensures { OnOk result (RowFinds (spot_of place.now) out.old out.new (λ i. model.ForIn (each_of i each.now) (expr_of i over.now) (stmt_of i body.now))) }
+    ensures { OnOk result (RowFinds (spot_of place.now) out.old out.new
+        (λ i. model.ForIn (each_of i each.now) (expr_of i over.now) (stmt_of i body.now))) }
 {
     let chain = enter(&mut out.next, place, each_declares(each))?;
     let inside = within(place, &chain);

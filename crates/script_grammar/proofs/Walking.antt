@@ -1,8 +1,7 @@
 -- The steps of a walk over the tokens that matches brackets.
-use Rattle.std.proofs.Common.{◌≡◌, ◌≢◌, ◌∙◌, ◌<◌, ◌⊎◌, inl, inr, ℕ, zero, suc, List, [], ◌∷◌, ◌++◌, true, Option, Some, None, length, take, get_or, set, replicate, refl, ap, sym, subst, arith, if◌then◌else◌}
+use Rattle.std.proofs.Common.{◌≡◌, ◌≢◌, ◌∙◌, ◌<◌, ◌⊎◌, inl, inr, ℕ, suc, List, [], ◌∷◌, ◌++◌, true, Option, Some, None, length, take, get_or, refl, ap, sym, subst, arith, if◌then◌else◌}
 use Rattle.std.proofs.Math.Seq.{take-suc}
 use Rattle.std.proofs.lemmas.Bool.{cases_eq}
-use Rattle.std.proofs.lemmas.List.{get_or-set_same, get_or-set_other, length-set, length-replicate}
 use Rattle.script_grammar.specs.declared.token.Kind.{Kind}
 use Rattle.script_grammar.specs.declared.token.Kind.TheVariants as kind
 use Rattle.script_grammar.specs.declared.brackets.Bracket.{Bracket}
@@ -10,9 +9,10 @@ use Rattle.script_grammar.specs.declared.brackets.Bracket.TheVariants.{Template}
 use Rattle.script_grammar.specs.declared.brackets.BracketPart.TheVariants.{Opening, Closing, Middle, Other}
 use Rattle.script_grammar.specs.declared.brackets.Open.{Open}
 use Rattle.script_grammar.specs.Matching.{part_at, is_same, next_open, all_open, opened_by, closed_by, between, IsBalanced, Pairs, IsPartner, IsMatching}
-use Rattle.script_grammar.specs.BracketWalk.{brackets_of, AllOpen, Walked}
+use Rattle.script_grammar.specs.BracketWalk.{brackets_of, partner_in, partners_from, AllOpen, Walked}
 use Rattle.script_grammar.proofs.Balance.{all_open-more, is_same-eq, between-more, between-none}
 use Rattle.script_grammar.proofs.Partners.{opener-unique, closer-not_before, partner-later, partner-earlier, partner-same}
+use Rattle.script_grammar.proofs.PartnerLists.{told_by}
 
 -- One token more changes what is open above each in the same way.
 opened-step : (ks : List Kind) (n : ℕ) → n < length ks
@@ -34,38 +34,31 @@ opened-step ks n within f g fs gs next above (o ∷ os) h = (
 fit-step : (ks : List Kind) (n : ℕ) (s t : List Bracket) → n < length ks → all_open [] (take n ks) ≡ Some s → next_open s (part_at ks n) ≡ Some t → all_open [] (take (suc n) ks) ≡ Some t
 fit-step ks n s t within fit next = ap (all_open []) (take-suc ks n kind.End within) ∙ all_open-more [] s (take n ks) (get_or ks n kind.End) fit ∙ next
 
-pub walked-start : (ks : List Kind) (partners : List (Option ℕ)) → partners ≡ replicate (length ks) None → Walked ks 0 partners []
-walked-start ks partners made = record {
-  size = ap length made ∙ length-replicate (length ks) None;
+pub walked-start : (ks : List Kind) (f : ℕ → Option ℕ) → ((t : ℕ) → f t ≡ None) → Walked ks 0 f []
+walked-start ks f none = record {
   fit = refl;
   opened = tt;
-  partner = λ t p h. absurd (no_some (sym (none_there (length ks) t) ∙ ap (λ l. get_or l t None) (sym made) ∙ h));
+  sound = λ t p h. absurd (no_some (sym (none t) ∙ h));
   only = λ t p h. let l = h.token in absurd (omega arith);
 }
   where
     no_some : {A : Type 0} {a : A} → None ≡ Some a → ⊥
     no_some h = cc
 
-    none_there : (n t : ℕ) → get_or {A = Option ℕ} (replicate n None) t None ≡ None
-    none_there zero t = refl
-    none_there (suc n) zero = refl
-    none_there (suc n) (suc t) = none_there n t
-
-pub walked-other : (ks : List Kind) (n : ℕ) (partners : List (Option ℕ)) (stack : List Open) → n < length ks → part_at ks n ≡ Other → Walked ks n partners stack → Walked ks (suc n) partners stack
-walked-other ks n partners stack within part h = record {
-  size = h.size;
+pub walked-other : (ks : List Kind) (n : ℕ) (f : ℕ → Option ℕ) (stack : List Open) → n < length ks → part_at ks n ≡ Other → Walked ks n f stack → Walked ks (suc n) f stack
+walked-other ks n f stack within part h = record {
   fit = fit-step ks n (brackets_of stack) (brackets_of stack) within h.fit (ap (next_open (brackets_of stack)) part);
   opened = opened-step ks n within (λ a. a) (λ a. a) (λ a b. refl) (λ a b. refl) (λ a. ap (next_open a) part) [] stack h.opened;
-  partner = λ t p e. partner-later ks n t p (h.partner t p e);
+  sound = λ t p e. partner-later ks n t p (h.sound t p e);
   only = λ t p e. h.only t p (partner-same ks n t p (ap closed_by part) e);
 }
 
-pub walked-opening : (ks : List Kind) (n : ℕ) (b : Bracket) (partners : List (Option ℕ)) (stack : List Open) → n < length ks → part_at ks n ≡ Opening b → Walked ks n partners stack → Walked ks (suc n) partners (record { token = n; bracket = b } ∷ stack)
-walked-opening ks n b partners stack within part h = record {
-  size = h.size;
+pub walked-opening : (ks : List Kind) (n : ℕ) (b : Bracket) (f : ℕ → Option ℕ) (stack : List Open) → n < length ks → part_at ks n ≡ Opening b → Walked ks n f stack
+    → Walked ks (suc n) f (record { token = n; bracket = b } ∷ stack)
+walked-opening ks n b f stack within part h = record {
   fit = fit-step ks n (brackets_of stack) (b ∷ brackets_of stack) within h.fit (ap (next_open (brackets_of stack)) part);
   opened = (omega arith, ap opened_by part, ap (all_open []) (between-none ks n), opened-step ks n within (λ a. a) (λ a. b ∷ a) (λ a c. refl) (λ a c. refl) (λ a. ap (next_open a) part) [] stack h.opened);
-  partner = λ t p e. partner-later ks n t p (h.partner t p e);
+  sound = λ t p e. partner-later ks n t p (h.sound t p e);
   only = λ t p e. h.only t p (partner-same ks n t p (ap closed_by part) e);
 }
 
@@ -92,18 +85,15 @@ some-eq {A = A} {a = a} h = ap value h
     value (Some v) = v
 
 -- the token n that only closes what the innermost open token opened
-pub walked-closing : (ks : List Kind) (n : ℕ) (b : Bracket) (partners : List (Option ℕ)) (o : Open) (stack : List Open) → n < length ks → part_at ks n ≡ Closing b → is_same o.bracket b ≡ true → Walked ks n partners (o ∷ stack) → Walked ks (suc n) (set (set partners o.token (Some n)) n (Some o.token)) stack
-walked-closing ks n b partners o stack within part same h = record {
-  size = length-set (set partners x (Some n)) n (Some x) ∙ length-set partners x (Some n) ∙ h.size;
+pub walked-closing : (ks : List Kind) (n : ℕ) (b : Bracket) (f g : ℕ → Option ℕ) (o : Open) (stack : List Open) → n < length ks → part_at ks n ≡ Closing b → is_same o.bracket b ≡ true
+    → g n ≡ Some o.token → g o.token ≡ Some n → ((t : ℕ) → t ≢ o.token → t ≢ n → g t ≡ f t) → Walked ks n f (o ∷ stack) → Walked ks (suc n) g stack
+walked-closing ks n b f g o stack within part same at_n at_x at_other h = record {
   fit = fit-step ks n (o.bracket ∷ brackets_of stack) (brackets_of stack) within h.fit (next (brackets_of stack));
   opened = opened-step ks n within (λ a. o.bracket ∷ a) (λ a. a) (λ a c. refl) (λ a c. refl) next [] stack h.opened.3;
-  partner = sound;
+  sound = sound;
   only = complete;
 }
   where
-    x : ℕ
-    x = o.token
-
     x_n : o.token < n
     x_n = h.opened.0
 
@@ -113,50 +103,40 @@ walked-closing ks n b partners o stack within part same h = record {
     next : (a : List Bracket) → next_open (o.bracket ∷ a) (part_at ks n) ≡ Some a
     next a = ap (next_open (o.bracket ∷ a)) part ∙ ap (λ t. if t then Some a else None) same
 
-    x_within : o.token < length partners
-    x_within = let size = h.size in let before = h.opened.0 in omega arith
-
-    n_within : n < length (set partners o.token (Some n))
-    n_within = let size = h.size in let kept = length-set partners o.token (Some n) in omega arith
-
-    at_n : get_or (set (set partners o.token (Some n)) n (Some o.token)) n None ≡ Some o.token
-    at_n = get_or-set_same (set partners o.token (Some n)) n (Some o.token) None n_within
-
-    at_x : get_or (set (set partners o.token (Some n)) n (Some o.token)) o.token None ≡ Some n
-    at_x = get_or-set_other (set partners o.token (Some n)) n o.token (Some o.token) None (λ e. let before = h.opened.0 in omega arith) ∙ get_or-set_same partners o.token (Some n) None x_within
-
-    at_other : (t : ℕ) → t ≢ o.token → t ≢ n → get_or (set (set partners o.token (Some n)) n (Some o.token)) t None ≡ get_or partners t None
-    at_other t not_x not_n = get_or-set_other (set partners o.token (Some n)) n t (Some o.token) None not_n ∙ get_or-set_other partners o.token t (Some n) None not_x
-
-    sound : (t p : ℕ) → get_or (set (set partners o.token (Some n)) n (Some o.token)) t None ≡ Some p → IsPartner ks (suc n) t p
+    sound : (t p : ℕ) → g t ≡ Some p → IsPartner ks (suc n) t p
     sound t p e = elim (cases_eq t n) [
-      | inl is_n ↦ (let p_x : o.token ≡ p = some-eq (sym at_n ∙ ap (λ m. get_or (set (set partners o.token (Some n)) n (Some o.token)) m None) (sym is_n) ∙ e) in
+      | inl is_n ↦ (let p_x : o.token ≡ p = some-eq (sym at_n ∙ ap g (sym is_n) ∙ e) in
           let before = x_n in
-          record { token = omega arith; partner = omega arith; pairs = inr (ap (λ m. opened_by (part_at ks m)) is_n ∙ ap opened_by part, subst (λ m. Pairs ks m t) p_x (subst (λ m. Pairs ks o.token m) (sym is_n) pair)) })
+          record {
+            token = omega arith;
+            partner = omega arith;
+            pairs = inr (ap (λ m. opened_by (part_at ks m)) is_n ∙ ap opened_by part, subst (λ m. Pairs ks m t) p_x (subst (λ m. Pairs ks o.token m) (sym is_n) pair));
+          })
       | inr not_n ↦ elim (cases_eq t o.token) [
-        | inl is_x ↦ (let p_n : n ≡ p = some-eq (sym at_x ∙ ap (λ m. get_or (set (set partners o.token (Some n)) n (Some o.token)) m None) (sym is_x) ∙ e) in
+        | inl is_x ↦ (let p_n : n ≡ p = some-eq (sym at_x ∙ ap g (sym is_x) ∙ e) in
             let before = x_n in
             record { token = omega arith; partner = omega arith; pairs = inl (subst (λ m. Pairs ks m p) (sym is_x) (subst (λ m. Pairs ks o.token m) p_n pair)) })
-        | inr not_x ↦ partner-later ks n t p (h.partner t p (sym (at_other t not_x not_n) ∙ e))
+        | inr not_x ↦ partner-later ks n t p (h.sound t p (sym (at_other t not_x not_n) ∙ e))
       ]
     ]
 
-    complete : (t p : ℕ) → IsPartner ks (suc n) t p → get_or (set (set partners o.token (Some n)) n (Some o.token)) t None ≡ Some p
+    complete : (t p : ℕ) → IsPartner ks (suc n) t p → g t ≡ Some p
     complete t p e = elim e.pairs [
       | inl tp ↦ elim (pair-cases ks n o.token t p within pair e.partner tp) [
-        | inl new ↦ ap (λ m. get_or (set (set partners o.token (Some n)) n (Some o.token)) m None) new.1 ∙ at_x ∙ ap Some (sym new.0)
+        | inl new ↦ ap g new.1 ∙ at_x ∙ ap Some (sym new.0)
         | inr old ↦ at_other t old.2 (λ is_n. let l = old.0 in omega arith) ∙ h.only t p (partner-earlier ks n t p old.0 old.1 e)
       ]
       | inr back ↦ elim (pair-cases ks n o.token p t within pair e.token back.1) [
-        | inl new ↦ ap (λ m. get_or (set (set partners o.token (Some n)) n (Some o.token)) m None) new.0 ∙ at_n ∙ ap Some (sym new.1)
-        | inr old ↦ at_other t (λ is_x. no_some (sym back.0 ∙ ap (λ m. opened_by (part_at ks m)) is_x ∙ h.opened.1)) (λ is_n. let l = old.1 in omega arith) ∙ h.only t p (partner-earlier ks n t p old.1 old.0 e)
+        | inl new ↦ ap g new.0 ∙ at_n ∙ ap Some (sym new.1)
+        | inr old ↦ at_other t (λ is_x. no_some (sym back.0 ∙ ap (λ m. opened_by (part_at ks m)) is_x ∙ h.opened.1)) (λ is_n. let l = old.1 in omega arith)
+            ∙ h.only t p (partner-earlier ks n t p old.1 old.0 e)
       ]
     ]
 
 -- the token n that closes what the innermost open token opened, and opens again
-pub walked-middle : (ks : List Kind) (n : ℕ) (partners : List (Option ℕ)) (o : Open) (stack : List Open) → n < length ks → part_at ks n ≡ Middle → is_same o.bracket Template ≡ true → Walked ks n partners (o ∷ stack) → Walked ks (suc n) (set partners o.token (Some n)) (record { token = n; bracket = Template } ∷ stack)
-walked-middle ks n partners o stack within part same h = record {
-  size = length-set partners o.token (Some n) ∙ h.size;
+pub walked-middle : (ks : List Kind) (n : ℕ) (f g : ℕ → Option ℕ) (o : Open) (stack : List Open) → n < length ks → part_at ks n ≡ Middle → is_same o.bracket Template ≡ true
+    → g o.token ≡ Some n → ((t : ℕ) → t ≢ o.token → g t ≡ f t) → Walked ks n f (o ∷ stack) → Walked ks (suc n) g (record { token = n; bracket = Template } ∷ stack)
+walked-middle ks n f g o stack within part same at_x at_other h = record {
   fit = fit-step ks n (o.bracket ∷ brackets_of stack) (Template ∷ brackets_of stack) within h.fit (next (brackets_of stack) ∙ ap (λ c. Some (c ∷ brackets_of stack)) is_template);
   opened = (
     omega arith,
@@ -164,7 +144,7 @@ walked-middle ks n partners o stack within part same h = record {
     ap (all_open []) (between-none ks n),
     subst (λ c. AllOpen ks (suc n) (c ∷ []) stack) is_template (opened-step ks n within (λ a. o.bracket ∷ a) (λ a. o.bracket ∷ a) (λ a c. refl) (λ a c. refl) next [] stack h.opened.3),
   );
-  partner = sound;
+  sound = sound;
   only = complete;
 }
   where
@@ -177,27 +157,18 @@ walked-middle ks n partners o stack within part same h = record {
     next : (a : List Bracket) → next_open (o.bracket ∷ a) (part_at ks n) ≡ Some (o.bracket ∷ a)
     next a = ap (next_open (o.bracket ∷ a)) part ∙ ap (λ t. if t then Some (o.bracket ∷ a) else None) same
 
-    x_within : o.token < length partners
-    x_within = let size = h.size in let before = h.opened.0 in omega arith
-
-    at_x : get_or (set partners o.token (Some n)) o.token None ≡ Some n
-    at_x = get_or-set_same partners o.token (Some n) None x_within
-
-    at_other : (t : ℕ) → t ≢ o.token → get_or (set partners o.token (Some n)) t None ≡ get_or partners t None
-    at_other t not_x = get_or-set_other partners o.token t (Some n) None not_x
-
-    sound : (t p : ℕ) → get_or (set partners o.token (Some n)) t None ≡ Some p → IsPartner ks (suc n) t p
+    sound : (t p : ℕ) → g t ≡ Some p → IsPartner ks (suc n) t p
     sound t p e = elim (cases_eq t o.token) [
-      | inl is_x ↦ (let p_n : n ≡ p = some-eq (sym at_x ∙ ap (λ m. get_or (set partners o.token (Some n)) m None) (sym is_x) ∙ e) in
+      | inl is_x ↦ (let p_n : n ≡ p = some-eq (sym at_x ∙ ap g (sym is_x) ∙ e) in
           let before = h.opened.0 in
           record { token = omega arith; partner = omega arith; pairs = inl (subst (λ m. Pairs ks m p) (sym is_x) (subst (λ m. Pairs ks o.token m) p_n pair)) })
-      | inr not_x ↦ partner-later ks n t p (h.partner t p (sym (at_other t not_x) ∙ e))
+      | inr not_x ↦ partner-later ks n t p (h.sound t p (sym (at_other t not_x) ∙ e))
     ]
 
-    complete : (t p : ℕ) → IsPartner ks (suc n) t p → get_or (set partners o.token (Some n)) t None ≡ Some p
+    complete : (t p : ℕ) → IsPartner ks (suc n) t p → g t ≡ Some p
     complete t p e = elim e.pairs [
       | inl tp ↦ elim (pair-cases ks n o.token t p within pair e.partner tp) [
-        | inl new ↦ ap (λ m. get_or (set partners o.token (Some n)) m None) new.1 ∙ at_x ∙ ap Some (sym new.0)
+        | inl new ↦ ap g new.1 ∙ at_x ∙ ap Some (sym new.0)
         | inr old ↦ at_other t old.2 ∙ h.only t p (partner-earlier ks n t p old.0 old.1 e)
       ]
       | inr back ↦ elim (pair-cases ks n o.token p t within pair e.token back.1) [
@@ -207,16 +178,22 @@ walked-middle ks n partners o stack within part same h = record {
     ]
 
 -- where a walk ends, at the last token or at one that does not fit
-pub walked-last : (ks : List Kind) (n : ℕ) (partners : List (Option ℕ)) (stack : List Open) → suc n ≡ length ks → Walked ks n partners stack → IsMatching ks (record { partners = partners; stop = n })
-walked-last ks n partners stack last h = record {
+pub walked-last : (ks : List Kind) (n : ℕ) (ps : List ℕ) (stack : List Open) → suc n ≡ length ks → Walked ks n (partner_in ps) stack
+    → IsMatching ks (record { partners = partners_from 0 ps; stop = n })
+walked-last ks n ps stack last h = record {
   stop = record { within = omega arith; stack = brackets_of stack; fit = h.fit; stops = inl last };
-  partner = h.partner;
-  only = h.only;
+  partner = λ t p e. h.sound t p (sym (told_by ps t) ∙ e);
+  only = λ t p e. told_by ps t ∙ h.only t p e;
 }
 
-pub walked-misfit : (ks : List Kind) (n : ℕ) (partners : List (Option ℕ)) (stack : List Open) → n < length ks → next_open (brackets_of stack) (part_at ks n) ≡ None → Walked ks n partners stack → IsMatching ks (record { partners = partners; stop = n })
-walked-misfit ks n partners stack within misfit h = record {
+pub walked-misfit : (ks : List Kind) (n : ℕ) (ps : List ℕ) (stack : List Open) → n < length ks → next_open (brackets_of stack) (part_at ks n) ≡ None
+    → Walked ks n (partner_in ps) stack → IsMatching ks (record { partners = partners_from 0 ps; stop = n })
+walked-misfit ks n ps stack within misfit h = record {
   stop = record { within = within; stack = brackets_of stack; fit = h.fit; stops = inr misfit };
-  partner = h.partner;
-  only = h.only;
+  partner = λ t p e. h.sound t p (sym (told_by ps t) ∙ e);
+  only = λ t p e. told_by ps t ∙ h.only t p e;
 }
+
+-- the innermost open token stands before the next token
+pub opener-before : (ks : List Kind) (n : ℕ) (f : ℕ → Option ℕ) (o : Open) (stack : List Open) → Walked ks n f (o ∷ stack) → o.token < n
+opener-before ks n f o stack h = h.opened.0

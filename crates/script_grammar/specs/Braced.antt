@@ -2,7 +2,11 @@
 -- project's own choice.
 use Rattle.std.specs.Prelude.{List, [], ◌∷◌, Bool, true, false, if◌then◌else◌}
 use Rattle.script_grammar.specs.Tree as tree
-use Rattle.script_grammar.specs.Tree.{Expr, Exprs, no_exprs, more_exprs, MaybeExpr, no_expr, some_expr, MaybeArgs, no_args, some_args, Parts, no_parts, more_parts, Items, no_items, more_items, Operands, no_operands, more_operands, Tail, Tails, no_tails, more_tails, Key, Prop, Props, no_props, more_props, Function, function, Params, no_params, more_params, Body, Binds, no_binds, more_binds, Init, Each, Clauses, no_clauses, more_clauses, Stmt, Stmts, no_stmts, more_stmts, MaybeStmt, no_stmt, some_stmt}
+use Rattle.script_grammar.specs.Tree.{Expr, Exprs, no_exprs, more_exprs, MaybeExpr, no_expr, some_expr, MaybeArgs, no_args, some_args}
+use Rattle.script_grammar.specs.Tree.{Parts, no_parts, more_parts, Items, no_items, more_items, Operands, no_operands, more_operands, Tail}
+use Rattle.script_grammar.specs.Tree.{Tails, no_tails, more_tails, Key, Prop, Props, no_props, more_props, Function, function, Params}
+use Rattle.script_grammar.specs.Tree.{no_params, more_params, Body, Binds, no_binds, more_binds, Init, Each, Clauses, no_clauses}
+use Rattle.script_grammar.specs.Tree.{more_clauses, Stmt, Stmts, no_stmts, more_stmts, MaybeStmt, no_stmt, some_stmt}
 
 -- The flag says whether the bodies inside a body are wanted too, each after the one around it.
 module _ (nested : Bool) where

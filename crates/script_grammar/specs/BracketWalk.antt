@@ -1,10 +1,24 @@
 -- How far a walk over the tokens has come, for the private calls of the matching of brackets.
-use Rattle.std.specs.Prelude.{Bool, true, false, ℕ, suc, List, [], ◌∷◌, ◌++◌, Option, Some, None, ◌≡◌, ◌<◌, length, take, map}
+use Rattle.std.specs.Prelude.{Bool, true, false, if◌then◌else◌, nat_eq, ℕ, suc, List, [], ◌∷◌, ◌++◌, Option, Some, None, ◌≡◌, ◌<◌, take}
+use Rattle.std.specs.Prelude.{map, slice_index_or}
 use Rattle.script_grammar.specs.declared.token.Kind.{Kind}
 use Rattle.script_grammar.specs.declared.brackets.Bracket.{Bracket}
 use Rattle.script_grammar.specs.declared.brackets.BracketPart.TheVariants.{Closing}
 use Rattle.script_grammar.specs.declared.brackets.Open.{Open}
-use Rattle.script_grammar.specs.Matching.{is_same, next_open, IsMatching, all_open, opened_by, part_at, between, IsPartner, partner_of}
+use Rattle.script_grammar.specs.Matching.{is_same, next_open, IsMatching, all_open, opened_by, part_at, between, IsPartner}
+
+-- What a list tells that has the partner of each token from token n on, or the token's own number where it has none.
+unfoldable pub partners_from : ℕ → List ℕ → List (Option ℕ)
+partners_from n [] = []
+partners_from n (p ∷ ps) = (if nat_eq p n then None else Some p) ∷ partners_from (suc n) ps
+
+-- The partner of a token by such a list from token 0 on. Tokens after the end of the list have none.
+abbrev pub partner_in : List ℕ → ℕ → Option ℕ
+partner_in partners t = if nat_eq (slice_index_or partners t t) t then None else Some (slice_index_or partners t t)
+
+-- Both lists say the same but for token t, whose partner is p in the new one.
+abbrev pub GainsPartner : List ℕ → List ℕ → ℕ → ℕ → Type 0
+GainsPartner old new t p = (x : ℕ) → partner_in new x ≡ (if nat_eq x t then Some p else partner_in old x)
 
 abbrev pub brackets_of : List Open → List Bracket
 brackets_of = map (λ o. o.bracket)
@@ -17,17 +31,16 @@ AllOpen ks n above (o ∷ os) =
     × AllOpen ks n (above ++ (o.bracket ∷ [])) os
 
 -- The tokens before n fit, these are open, and partners are known among them.
-pub record Walked (ks : List Kind) (n : ℕ) (partners : List (Option ℕ)) (stack : List Open) : Type 0 where
-  pub size : length partners ≡ length ks
+pub record Walked (ks : List Kind) (n : ℕ) (partner : ℕ → Option ℕ) (stack : List Open) : Type 0 where
   pub fit : all_open [] (take n ks) ≡ Some (brackets_of stack)
   pub opened : AllOpen ks n [] stack
-  pub partner : (t p : ℕ) → partner_of (record { partners = partners; stop = n }) t ≡ Some p → IsPartner ks n t p
-  pub only : (t p : ℕ) → IsPartner ks n t p → partner_of (record { partners = partners; stop = n }) t ≡ Some p
+  pub sound : (t p : ℕ) → partner t ≡ Some p → IsPartner ks n t p
+  pub only : (t p : ℕ) → IsPartner ks n t p → partner t ≡ Some p
 
 -- What the walk knows after token n, whether it fits or not.
-abbrev pub After : List Kind → ℕ → Bool → List (Option ℕ) → List Open → Type 0
-After ks n true partners stack = Walked ks (suc n) partners stack
-After ks n false partners stack = IsMatching ks (record { partners = partners; stop = n })
+abbrev pub After : List Kind → ℕ → Bool → List ℕ → List Open → Type 0
+After ks n true partners stack = Walked ks (suc n) (partner_in partners) stack
+After ks n false partners stack = IsMatching ks (record { partners = partners_from 0 partners; stop = n })
 
 -- Closing this bracket takes away the innermost open token, where that is of this kind, and answers it.
 abbrev pub Closes : List Open → List Open → Bracket → Option ℕ → Type 0

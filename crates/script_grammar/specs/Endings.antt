@@ -1,7 +1,8 @@
 -- How an expression ends: its last part, found by going to the right operand of a comma, an assignment, a conditional, a
 -- binary operator, a prefix operator, or to an arrow's expression body (this project's own table of continuing tokens).
 use Rattle.std.specs.Prelude.{true, false, if◌then◌else◌}
-use Rattle.script_grammar.specs.Tree.{Expr, Exprs, no_exprs, more_exprs, Operands, no_operands, more_operands, Function, function, Body, BracedBody, ShortBody, MaybeExpr, no_expr, some_expr, Binds, no_binds, more_binds}
+use Rattle.script_grammar.specs.Tree.{Expr, Exprs, no_exprs, more_exprs, Operands, no_operands, more_operands, Function, function, Body}
+use Rattle.script_grammar.specs.Tree.{BracedBody, ShortBody, MaybeExpr, no_expr, some_expr, Binds, no_binds, more_binds}
 use Rattle.script_grammar.specs.Tree as tree
 use Rattle.script_grammar.specs.Kinds.{is_arrow_form}
 use Rattle.script_grammar.specs.Pieces.{Ending, BracedArrow, Postfix, Operand, BareBinding, Keyword}

@@ -1,6 +1,7 @@
 -- Which brackets of a list of tokens match. ECMA-262 has this in its productions alone; as a relation of its own it is
 -- this project's own choice.
-use Rattle.std.specs.Prelude.{ℕ, suc, map, List, [], ◌∷◌, Bool, true, false, nat_eq, if◌then◌else◌, Option, Some, None, ◌≡◌, ◌<◌, ◌⊎◌, length, take, drop, slice_index_or, option_and_then}
+use Rattle.std.specs.Prelude.{ℕ, suc, map, List, [], ◌∷◌, Bool, true, false, nat_eq, if◌then◌else◌, Option, Some, None, ◌≡◌, ◌<◌, ◌⊎◌}
+use Rattle.std.specs.Prelude.{length, take, drop, slice_index_or, option_and_then}
 use Rattle.script_grammar.specs.declared.token.Token.{Token}
 use Rattle.script_grammar.specs.declared.token.Kind.{Kind}
 use Rattle.script_grammar.specs.declared.token.Kind.TheVariants as kind

@@ -1,5 +1,6 @@
 -- What a tree is written with: places for tokens, and semicolons that are not written.
-use Rattle.std.specs.Prelude.{ℕ, List, [], ◌∷◌, ◌++◌, Bool, true, false, not, ◌&&◌, ◌||◌, ◌≡◌, Option, Some, None, if◌then◌else◌, nat_eq, length, replicate}
+use Rattle.std.specs.Prelude.{ℕ, List, [], ◌∷◌, ◌++◌, Bool, true, false, not, ◌&&◌, ◌||◌, ◌≡◌, Option, Some, None, if◌then◌else◌, nat_eq}
+use Rattle.std.specs.Prelude.{length, replicate}
 use Rattle.script_grammar.specs.declared.token.Kind.{Kind}
 use Rattle.script_grammar.specs.declared.token.Kind.TheVariants as kind
 use Rattle.script_grammar.specs.declared.token.mark.TheConstants as mark
@@ -19,7 +20,8 @@ pub data Content : Type 0 where
   number : ℕ → Content
   role : Role → Content
 
--- A place for a token. `starts` are the offsets of its start that the tree keeps, and `ends` are those of its end. `glued` says that no line end stands before it. `depth` is the number of counted nodes around it.
+-- A place for a token. `starts` are the offsets of its start that the tree keeps, and `ends` are those of its end.
+-- `glued` says that no line end stands before it. `depth` is the number of counted nodes around it.
 pub record Slot : Type 0 where
   pub kind : Wanted
   pub content : Content
@@ -76,7 +78,8 @@ is_do_while _ = false
 
 -- A semicolon may be left out before this token. A `;` is always the written one.
 abbrev pub may_omit : Ending → Lexeme → Bool
-may_omit e t = not (is_mark mark.SEMICOLON t.kind) && (is_mark mark.CLOSE_BRACE t.kind || is_end t.kind || is_do_while e || (t.after_line && not (continues e t.kind)))
+may_omit e t = not (is_mark mark.SEMICOLON t.kind)
+    && (is_mark mark.CLOSE_BRACE t.kind || is_end t.kind || is_do_while e || (t.after_line && not (continues e t.kind)))
 
 -- A token at a place.
 

@@ -6,7 +6,11 @@ use Rattle.script_grammar.specs.declared.token.word.TheConstants as word
 use Rattle.script_grammar.specs.declared.token.FuncForm.{FuncForm}
 use Rattle.script_grammar.specs.declared.token.FuncForm.TheVariants as form
 use Rattle.script_grammar.specs.Kinds.{op_level, no_level, is_assign_op, is_prefix_op, is_update_op, is_arrow_form, is_mark, is_word, is_var}
-use Rattle.script_grammar.specs.Tree.{Named, Expr, Exprs, no_exprs, more_exprs, MaybeExpr, no_expr, some_expr, MaybeArgs, no_args, some_args, Parts, no_parts, more_parts, Items, no_items, more_items, Operands, no_operands, more_operands, Tail, Tails, no_tails, more_tails, Key, Prop, Props, no_props, more_props, Function, function, Params, no_params, more_params, Body, Binds, no_binds, more_binds, Init, Each, Clauses, no_clauses, more_clauses, Stmt, Stmts, no_stmts, more_stmts, MaybeStmt, no_stmt, some_stmt}
+use Rattle.script_grammar.specs.Tree.{Named, Expr, Exprs, no_exprs, more_exprs, MaybeExpr, no_expr, some_expr, MaybeArgs, no_args}
+use Rattle.script_grammar.specs.Tree.{some_args, Parts, no_parts, more_parts, Items, no_items, more_items, Operands, no_operands}
+use Rattle.script_grammar.specs.Tree.{more_operands, Tail, Tails, no_tails, more_tails, Key, Prop, Props, no_props, more_props, Function}
+use Rattle.script_grammar.specs.Tree.{function, Params, no_params, more_params, Body, Binds, no_binds, more_binds, Init, Each, Clauses}
+use Rattle.script_grammar.specs.Tree.{no_clauses, more_clauses, Stmt, Stmts, no_stmts, more_stmts, MaybeStmt, no_stmt, some_stmt}
 use Rattle.script_grammar.specs.Tree as tree
 use Rattle.script_grammar.specs.Pieces.{Bodies, whole, passed, begins_with}
 use Rattle.script_grammar.specs.Print.{print}
@@ -307,9 +311,12 @@ abbrev mutual
   Proper m (tree.New at callee args) = (rank callee ≤ callee_rank args) × Proper m callee × ProperArgs m args
   Proper m (tree.Unary at op of is_word) = (is_prefix_op op is_word ≡ true) × (rank of ≤ unary_rank) × Proper m of
   Proper m (tree.Update at op prefix of) = (is_update_op op ≡ true) × (rank of ≤ updated_rank prefix) × Proper m of
-  Proper m (tree.Binary first rest) = HasOperands rest × (operands_level rest < no_level) × (rank first ≤ first_rank (operands_level rest)) × Proper m first × ProperOperands m (operands_level rest) rest
-  Proper m (tree.Cond test then_value else_value) = (rank test ≤ short_rank) × Proper m test × (rank then_value ≤ assign_rank) × Proper m then_value × (rank else_value ≤ assign_rank) × Proper m else_value
-  Proper m (tree.Assign op target value) = (is_assign_op op ≡ true) × (rank target ≤ left_rank) × Proper m target × (rank value ≤ assign_rank) × Proper m value
+  Proper m (tree.Binary first rest) = HasOperands rest × (operands_level rest < no_level) × (rank first ≤ first_rank (operands_level rest))
+      × Proper m first × ProperOperands m (operands_level rest) rest
+  Proper m (tree.Cond test then_value else_value) = (rank test ≤ short_rank) × Proper m test × (rank then_value ≤ assign_rank)
+      × Proper m then_value × (rank else_value ≤ assign_rank) × Proper m else_value
+  Proper m (tree.Assign op target value) = (is_assign_op op ≡ true) × (rank target ≤ left_rank) × Proper m target
+      × (rank value ≤ assign_rank) × Proper m value
   Proper m (tree.Comma es) = HasTwo es × ProperExprs m es
 
   -- each an AssignmentExpression
@@ -342,7 +349,8 @@ abbrev mutual
   -- operands of one level
   pub ProperOperands : Bodies → ℕ → Operands → Type 0
   ProperOperands m n no_operands = Unit {0}
-  ProperOperands m n (more_operands op is_word value rest) = (op_level op is_word ≡ n) × (rank value ≤ rest_rank n rest) × Proper m value × ProperOperands m n rest
+  ProperOperands m n (more_operands op is_word value rest) = (op_level op is_word ≡ n) × (rank value ≤ rest_rank n rest) × Proper m value
+      × ProperOperands m n rest
 
   pub ProperTails : Bodies → Tails → Type 0
   ProperTails m no_tails = Unit {0}
@@ -371,7 +379,8 @@ abbrev mutual
   ProperProps m (more_props p ps) = ProperProp m p × ProperProps m ps
 
   pub ProperFunction : Bodies → Function → Type 0
-  ProperFunction m (function form start end name ps comma bare body) = AreParams ps comma × SuitsForm form ps comma × BareIf bare form start ps comma × ProperParams m ps × ProperBody m form body
+  ProperFunction m (function form start end name ps comma bare body) = AreParams ps comma × SuitsForm form ps comma
+      × BareIf bare form start ps comma × ProperParams m ps × ProperBody m form body
 
   pub ProperParams : Bodies → Params → Type 0
   ProperParams m no_params = Unit {0}
@@ -413,10 +422,12 @@ abbrev mutual
   ProperStmt m inside (tree.Debugger semi) = Unit {0}
   ProperStmt m inside (tree.Binding decl bs semi) = HasBinds bs × ProperBinds m bs
   ProperStmt m inside (tree.Value e semi) = (begins_brace e ≡ false) × (begins_function e ≡ false) × Proper m e
-  ProperStmt m inside (tree.If test then_stmt else_stmt) = Proper m test × (is_statement then_stmt ≡ true) × ProperStmt m inside then_stmt × ElseIsNearest then_stmt else_stmt × ProperElse m inside else_stmt
+  ProperStmt m inside (tree.If test then_stmt else_stmt) = Proper m test × (is_statement then_stmt ≡ true) × ProperStmt m inside then_stmt
+      × ElseIsNearest then_stmt else_stmt × ProperElse m inside else_stmt
   ProperStmt m inside (tree.Do body test semi) = (is_statement body ≡ true) × ProperStmt m inside body × Proper m test
   ProperStmt m inside (tree.While test body) = Proper m test × (is_statement body ≡ true) × ProperStmt m inside body
-  ProperStmt m inside (tree.For init test update body) = ProperInit m init × ProperOption m test × ProperOption m update × (is_statement body ≡ true) × ProperStmt m inside body
+  ProperStmt m inside (tree.For init test update body) = ProperInit m init × ProperOption m test × ProperOption m update
+      × (is_statement body ≡ true) × ProperStmt m inside body
   ProperStmt m inside (tree.ForIn each over body) = ProperEach m each × Proper m over × (is_statement body ≡ true) × ProperStmt m inside body
   ProperStmt m inside (tree.Continue at label semi) = Unit {0}
   ProperStmt m inside (tree.Break at label semi) = Unit {0}

@@ -8,7 +8,8 @@ use Rattle.script_grammar.specs.Tree.{Named, Expr, Function, function, Body, Stm
 use Rattle.script_grammar.specs.Tree as tree
 use Rattle.script_grammar.specs.Pieces.{Bodies, whole, Piece, Fits, mark_piece, closing_mark, until}
 use Rattle.script_grammar.specs.Print.{print, print_stmts, print_params, parenthesized, param_depth, arrow_pieces}
-use Rattle.script_grammar.specs.Proper.{Proper, ProperStmts, ProperParams, AreParams, SuitsForm, BareIf, rank, assign_rank, begins_brace, free_of_in, InIf}
+use Rattle.script_grammar.specs.Proper.{Proper, ProperStmts, ProperParams, AreParams, SuitsForm, BareIf, rank, assign_rank, begins_brace}
+use Rattle.script_grammar.specs.Proper.{free_of_in, InIf}
 
 -- Everywhere here `w` are the tokens of the part, `next` is the token after it, and `depth` is that of what is around it.
 -- The braced bodies of functions inside it are read as statements, or passed over.
@@ -48,7 +49,8 @@ OwnProper m form (tree.BracedBody items) = ProperStmts m true items
 OwnProper m form (tree.ShortBody value) = (is_arrow_form form ≡ true) × (rank value ≤ assign_rank) × (begins_brace value ≡ false) × Proper m value
 
 abbrev pub ProperAlone : Bodies → Function → Type 0
-ProperAlone m (function form start end name ps comma bare body) = AreParams ps comma × SuitsForm form ps comma × BareIf bare form start ps comma × ProperParams m ps × OwnProper m form body
+ProperAlone m (function form start end name ps comma bare body) = AreParams ps comma × SuitsForm form ps comma
+    × BareIf bare form start ps comma × ProperParams m ps × OwnProper m form body
 
 -- a braced body, and the offset of its end
 abbrev pub print_braced : Bodies → ℕ → ℕ → Stmts → List Piece
@@ -59,7 +61,8 @@ print_own m d end (tree.BracedBody items) = print_braced m d end items
 print_own m d end (tree.ShortBody value) = until end (print m (suc d) value)
 
 abbrev pub print_alone : Bodies → ℕ → Function → List Piece
-print_alone m d (function form start end name ps comma bare body) = parenthesized bare start d (print_params m (param_depth form bare d) d ps) comma ++ (arrow_pieces form d ++ print_own m d end body)
+print_alone m d (function form start end name ps comma bare body) = parenthesized bare start d
+    (print_params m (param_depth form bare d) d ps) comma ++ (arrow_pieces form d ++ print_own m d end body)
 
 pub record IsFunction (m : Bodies) (form : FuncForm) (name : Option Named) (depth : ℕ) (w : List Lexeme) (next : Lexeme) (f : Function) : Type 0 where
   pub of : IsOf form name f

@@ -82,7 +82,8 @@ abbrev pub ShowKey : {E : Type 0} → Interpretation → (E → Expr → Type 0)
 ShowKey i shows n key = KeyOf i shows n (λ x. key ≡ x)
 
 -- A body that was passed over has the statements that the interpretation gives to its function, by its start.
-abbrev pub FuncBodyOf : {E B : Type 0} → Interpretation → (E → Expr → Type 0) → (B → Stmts → Type 0) → (start : ℕ) → NodeFuncBody E B → (Body → Type 0) → Type 0
+abbrev pub FuncBodyOf : {E B : Type 0} → Interpretation → (E → Expr → Type 0) → (B → Stmts → Type 0) → (start : ℕ) → NodeFuncBody E B
+    → (Body → Type 0) → Type 0
 FuncBodyOf i shows shows_body start (bodies.Braced b) k = (ss : Stmts) × shows_body b ss × k (model.BracedBody ss)
 FuncBodyOf i shows shows_body start (bodies.Short e) k = (t : Expr) × shows e t × k (model.ShortBody t)
 FuncBodyOf i shows shows_body start (bodies.Passed) k = k (model.BracedBody (i.bodies start))
@@ -96,7 +97,8 @@ ShowParam i shows n p = ParamOf i shows n (λ x. p ≡ x)
 abbrev pub FuncOf : {E B : Type 0} → Interpretation → (E → Expr → Type 0) → (B → Stmts → Type 0) → NodeFunc E B → (Function → Type 0) → Type 0
 FuncOf i shows shows_body n k =
     (ps : List Param) × ShowAll (ShowParam i shows) n.params.items ps
-    × FuncBodyOf i shows shows_body n.start n.body (λ b. k (model.function n.form n.start n.end (maybe_named i n.name) (params_of ps) n.comma n.bare b))
+    × FuncBodyOf i shows shows_body n.start n.body (λ b. k
+    (model.function n.form n.start n.end (maybe_named i n.name) (params_of ps) n.comma n.bare b))
 
 abbrev pub ShowFunc : {E B : Type 0} → Interpretation → (E → Expr → Type 0) → (B → Stmts → Type 0) → NodeFunc E B → Function → Type 0
 ShowFunc i shows shows_body n f = FuncOf i shows shows_body n (λ x. f ≡ x)

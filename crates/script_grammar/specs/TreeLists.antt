@@ -1,6 +1,10 @@
 -- The lists and options inside trees, from `List` and `Option`.
 use Rattle.std.specs.Prelude.{ℕ, List, [], ◌∷◌, Bool, Option, Some, None}
-use Rattle.script_grammar.specs.Tree.{Named, Expr, Exprs, no_exprs, more_exprs, MaybeExpr, no_expr, some_expr, MaybeArgs, no_args, some_args, Parts, no_parts, more_parts, Items, no_items, more_items, Operands, no_operands, more_operands, Tail, Tails, no_tails, more_tails, Prop, Props, no_props, more_props, Params, no_params, more_params, Binds, no_binds, more_binds, Clauses, no_clauses, more_clauses, Stmt, Stmts, no_stmts, more_stmts, MaybeStmt, no_stmt, some_stmt}
+use Rattle.script_grammar.specs.Tree.{Named, Expr, Exprs, no_exprs, more_exprs, MaybeExpr, no_expr, some_expr, MaybeArgs, no_args}
+use Rattle.script_grammar.specs.Tree.{some_args, Parts, no_parts, more_parts, Items, no_items, more_items, Operands, no_operands}
+use Rattle.script_grammar.specs.Tree.{more_operands, Tail, Tails, no_tails, more_tails, Prop, Props, no_props, more_props, Params}
+use Rattle.script_grammar.specs.Tree.{no_params, more_params, Binds, no_binds, more_binds, Clauses, no_clauses, more_clauses, Stmt, Stmts}
+use Rattle.script_grammar.specs.Tree.{no_stmts, more_stmts, MaybeStmt, no_stmt, some_stmt}
 
 -- arguments, and whether a comma stands after them
 pub record Args : Type 0 where

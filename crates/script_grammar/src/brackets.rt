@@ -1,8 +1,8 @@
 //! Which brackets of a list of tokens match.
 
-ghost use Rattle.std.specs.Prelude.{◌≡◌, ◌<◌, ◌^◌, ◌+◌, ℕ, List, [], ◌∷◌, length, map, reverse, IfOk, OnOk, Option, Some, None, slice_set, slice_index_or, replicate, vec_len};
+ghost use Rattle.std.specs.Prelude.{◌≡◌, ◌≢◌, ◌<◌, ◌^◌, ℕ, [], ◌∷◌, length, reverse, IfOk, OnOk};
 ghost use Rattle.script_grammar.specs.Matching.{part_of, part_of_mark, kinds_of, is_same, partner_of, IsMatching};
-ghost use Rattle.script_grammar.specs.BracketWalk.{Walked, After, Closes};
+ghost use Rattle.script_grammar.specs.BracketWalk.{Walked, After, Closes, GainsPartner, partner_in, partners_from};
 
 use crate::token::{Kind, Token, mark};
 use std::alloc::{AllocError, Global};
@@ -36,23 +36,27 @@ struct Open {
 /// The partners found so far, and the open tokens, the innermost last.
 #[derive(Drop)]
 struct Walk {
-    partners: Vec<Option<u32>>,
+    /// As [`Brackets`] has them.
+    partners: Vec<u32>,
     stack: Vec<Open>,
 }
 
 /// For each token of a list its partner, and the first token that closes a bracket which is not the innermost open one.
+/// Takes 4 bytes of memory for each token up to the last that has a partner, and no more.
 #[derive(Drop)]
 pub struct Brackets {
-    partners: Vec<Option<u32>>,
+    /// Each token's partner, or the token's own number where it has none. The tokens after the end have none.
+    partners: Vec<u32>,
     stop: u32,
 }
 
 impl Model for Brackets {
     ghost use Rattle.script_grammar.specs.Matching.{Matching};
+    ghost use Rattle.script_grammar.specs.BracketWalk.{partners_from};
 
     ghost Value = { Matching };
 
-    ghost view = { λ b. record { partners = b.partners.items; stop = b.stop } };
+    ghost view = { λ b. record { partners = partners_from 0 b.partners.items; stop = b.stop } };
 }
 
 fn mark_part(index: u8) -> BracketPart
@@ -92,15 +96,25 @@ fn is_same(first: Bracket, second: Bracket) -> bool
     }
 }
 
+/// The partner of a token by such a list as [`Brackets`] has.
+fn partner_in(partners: &[u32], token: u32) -> Option<u32>
+    ensures { result ≡ partner_in partners.now token }
+{
+    match partners.get(token as usize) {
+        Some(partner) if *partner != token => Some(*partner),
+        _ => None,
+    }
+}
+
 impl Walk {
-    fn new(alloc: Global, count: usize) -> Result<Walk, AllocError>
-        ensures partners { IfOk result (λ w. w.partners.items ≡ replicate count None) }
-        ensures stack { IfOk result (λ w. w.stack.items ≡ []) }
+    fn new(alloc: Global) -> Walk
+        ensures partners { result.partners.items ≡ [] }
+        ensures stack { result.stack.items ≡ [] }
     {
-        Ok(Walk {
-            partners: vec![in alloc; None; count]?,
+        Walk {
+            partners: Vec::new(alloc),
             stack: Vec::new(alloc),
-        })
+        }
     }
 
     fn open(&mut self, token: u32, bracket: Bracket) -> Result<(), AllocError>
@@ -123,17 +137,33 @@ impl Walk {
         }
     }
 
-    fn pair(&mut self, token: u32, partner: u32)
-        requires { token < vec_len self.old.partners }
-        ensures partners { self.new.partners.items ≡ slice_set self.old.partners.items token (Some partner) }
+    /// Makes the list of partners reach to this token.
+    fn reach(&mut self, token: u32) -> Result<(), AllocError>
+        ensures partners { OnOk result ((t : ℕ) → partner_in self.new.partners.items t ≡ partner_in self.old.partners.items t) }
+        ensures within { OnOk result (token < length self.new.partners.items) }
         ensures stack { self.new.stack ≡ self.old.stack }
     {
-        self.partners[token as usize] = Some(partner);
+        let mut own = self.partners.len();
+        while own <= token as usize {
+            self.partners.push(own as u32)?;
+            own += 1;
+        }
+        Ok(())
+    }
+
+    fn pair(&mut self, token: u32, partner: u32) -> Result<(), AllocError>
+        requires other { partner ≢ token }
+        ensures partners { OnOk result (GainsPartner self.old.partners.items self.new.partners.items token partner) }
+        ensures stack { self.new.stack ≡ self.old.stack }
+    {
+        self.reach(token)?;
+        self.partners[token as usize] = partner;
+        Ok(())
     }
 
     fn take(&mut self, tokens: &[Token], token: u32) -> Result<bool, AllocError>
         requires within { token < length tokens.now }
-        requires so_far { Walked (kinds_of tokens.now) token self.old.partners.items (reverse self.old.stack.items) }
+        requires so_far { Walked (kinds_of tokens.now) token (partner_in self.old.partners.items) (reverse self.old.stack.items) }
         ensures { IfOk result (λ fits. After (kinds_of tokens.now) token fits self.new.partners.items (reverse self.new.stack.items)) }
     {
         match bracket_part(tokens[token as usize].kind) {
@@ -145,15 +175,15 @@ impl Walk {
                 let Some(opener) = self.close(bracket) else {
                     return Ok(false);
                 };
-                self.pair(opener, token);
-                self.pair(token, opener);
+                self.pair(opener, token)?;
+                self.pair(token, opener)?;
                 Ok(true)
             }
             BracketPart::Middle => {
                 let Some(opener) = self.close(Bracket::Template) else {
                     return Ok(false);
                 };
-                self.pair(opener, token);
+                self.pair(opener, token)?;
                 self.open(token, Bracket::Template)?;
                 Ok(true)
             }
@@ -162,7 +192,7 @@ impl Walk {
     }
 
     fn stop_at(self, stop: u32) -> Brackets
-        ensures { result ≡ record { partners = self.partners.items; stop = stop } }
+        ensures { result ≡ record { partners = partners_from 0 self.partners.items; stop = stop } }
     {
         let Walk { partners, stack: _ } = self;
         Brackets { partners, stop }
@@ -177,7 +207,7 @@ impl Brackets {
         ensures { IfOk result (λ b. IsMatching (kinds_of tokens.now) b) }
     {
         let last = (tokens.len() - 1) as u32;
-        let mut walk = Walk::new(alloc, tokens.len())?;
+        let mut walk = Walk::new(alloc);
         for token in 0..last {
             if !walk.take(tokens, token)? {
                 return Ok(walk.stop_at(token));
@@ -188,10 +218,11 @@ impl Brackets {
 
     /// The token that closes what this one opens, or else the one that opened what it closes. None where the token is no
     /// bracket, where it has no partner before the stop, and where there is no such token.
+    #[tactic(auto, using(crate::proofs::PartnerLists::told_by))]
     pub fn partner(&self, token: u32) -> Option<u32>
         ensures { result ≡ partner_of self.now token }
     {
-        self.partners.get(token as usize).copied().flatten()
+        partner_in(self.partners.as_slice(), token)
     }
 
     /// The first token that closes a bracket which is not the innermost open one, or else the last token.

@@ -3,12 +3,15 @@
 ghost use Rattle.std.specs.Prelude.{◌≡◌, List, Option, Some, None, IfOk, map, option_map};
 ghost use Rattle.script_grammar.specs.Interpretation.{Interpretation, text_of, named, maybe_named};
 ghost use Rattle.script_grammar.specs.Tree as model;
-ghost use Rattle.script_grammar.specs.TreeLists.{exprs_of, maybe_expr_of, items_of, maybe_args_of, operands_of, parts_of, tails_of, props_of, params_of, binds_of, clauses_of, stmts_of, maybe_stmt_of};
-ghost use Rattle.script_grammar.specs.TreeOf.{expr_of, stmt_of, prop_of, key_of, body_of, init_of, each_of, tail_of, args_of, bind_of, clause_of, func_of, operand_of, param_of, part_of};
+ghost use Rattle.script_grammar.specs.TreeLists.{exprs_of, maybe_expr_of, items_of, maybe_args_of, operands_of, parts_of, tails_of};
+ghost use Rattle.script_grammar.specs.TreeLists.{props_of, params_of, binds_of, clauses_of, stmts_of, maybe_stmt_of};
+ghost use Rattle.script_grammar.specs.TreeOf.{expr_of, stmt_of, prop_of, key_of, body_of, init_of, each_of, tail_of, args_of, bind_of};
+ghost use Rattle.script_grammar.specs.TreeOf.{clause_of, func_of, operand_of, param_of, part_of};
 
 use crate::token::Decl;
 use crate::tree::{
-    Args, Bind, Clause, Each, Expr, Func, Ident, Init, Key, Operand, Prop, Stmt, Tail, TemplatePart,
+    Args, Bind, Clause, Each, Expr, ForInStatement, ForStatement, Func, Ident, IfStatement, Init,
+    Key, NewExpression, Operand, Prop, Stmt, SwitchStatement, Tail, TemplatePart, TryStatement,
 };
 use std::alloc::{AllocError, Global};
 
@@ -119,13 +122,11 @@ pub fn new_expr(
     callee: Expr,
     args: Option<Args>,
 ) -> Result<Expr, AllocError>
-    ensures { IfOk result (λ made. (i : Interpretation) → expr_of i made ≡ model.New at (expr_of i callee) (maybe_args_of (option_map (args_of i) args))) }
+    ensures { IfOk result (λ made. (i : Interpretation)
+        → expr_of i made ≡ model.New at (expr_of i callee) (maybe_args_of (option_map (args_of i) args))) }
 {
-    Ok(Expr::New {
-        at,
-        callee: Box::new(alloc, callee)?,
-        args,
-    })
+    let new = NewExpression { at, callee, args };
+    Ok(Expr::New(Box::new(alloc, new)?))
 }
 
 /// A prefix operator.
@@ -154,7 +155,8 @@ pub fn update(alloc: Global, at: u32, op: u8, prefix: bool, of: Expr) -> Result<
 
 /// One level of binary operators.
 pub fn binary(alloc: Global, first: Expr, rest: Vec<Operand>) -> Result<Expr, AllocError>
-    ensures { IfOk result (λ made. (i : Interpretation) → expr_of i made ≡ model.Binary (expr_of i first) (operands_of (map (operand_of i) rest.items))) }
+    ensures { IfOk result (λ made. (i : Interpretation)
+        → expr_of i made ≡ model.Binary (expr_of i first) (operands_of (map (operand_of i) rest.items))) }
 {
     Ok(Expr::Binary {
         first: Box::new(alloc, first)?,
@@ -228,20 +230,18 @@ pub fn value(value: Expr, semi: bool) -> Stmt
 
 /// `if`.
 pub fn if_stmt(alloc: Global, test: Expr, yes: Stmt, no: Option<Stmt>) -> Result<Stmt, AllocError>
-    ensures { IfOk result (λ made. (i : Interpretation) → stmt_of i made ≡ model.If (expr_of i test) (stmt_of i yes) (maybe_stmt_of (option_map (stmt_of i) no))) }
+    ensures { IfOk result (λ made. (i : Interpretation)
+        → stmt_of i made ≡ model.If (expr_of i test) (stmt_of i yes) (maybe_stmt_of (option_map (stmt_of i) no))) }
 {
-    let yes = Box::new(alloc, yes)?;
     match no {
-        Some(no) => Ok(Stmt::If {
-            test,
-            yes,
-            no: Some(Box::new(alloc, no)?),
-        }),
-        None => Ok(Stmt::If {
-            test,
-            yes,
-            no: None,
-        }),
+        Some(no) => {
+            let no = Some(Box::new(alloc, no)?);
+            Ok(Stmt::If(Box::new(alloc, IfStatement { test, yes, no })?))
+        }
+        None => {
+            let no = None;
+            Ok(Stmt::If(Box::new(alloc, IfStatement { test, yes, no })?))
+        }
     }
 }
 
@@ -274,25 +274,25 @@ pub fn for_stmt(
     update: Option<Expr>,
     body: Stmt,
 ) -> Result<Stmt, AllocError>
-    ensures { IfOk result (λ made. (i : Interpretation) → stmt_of i made ≡ model.For (init_of i init) (maybe_expr_of (option_map (expr_of i) test)) (maybe_expr_of (option_map (expr_of i) update)) (stmt_of i body)) }
+    ensures { IfOk result (λ made. (i : Interpretation)
+        → stmt_of i made ≡ model.For (init_of i init) (maybe_expr_of (option_map (expr_of i) test))
+        (maybe_expr_of (option_map (expr_of i) update)) (stmt_of i body)) }
 {
-    Ok(Stmt::For {
+    let statement = ForStatement {
         init,
         test,
         update,
-        body: Box::new(alloc, body)?,
-    })
+        body,
+    };
+    Ok(Stmt::For(Box::new(alloc, statement)?))
 }
 
 /// A `for` with `in`.
 pub fn for_in(alloc: Global, each: Each, over: Expr, body: Stmt) -> Result<Stmt, AllocError>
     ensures { IfOk result (λ made. (i : Interpretation) → stmt_of i made ≡ model.ForIn (each_of i each) (expr_of i over) (stmt_of i body)) }
 {
-    Ok(Stmt::ForIn {
-        each,
-        over,
-        body: Box::new(alloc, body)?,
-    })
+    let statement = ForInStatement { each, over, body };
+    Ok(Stmt::ForIn(Box::new(alloc, statement)?))
 }
 
 /// `continue`.
@@ -324,10 +324,12 @@ pub fn throw(value: Expr, semi: bool) -> Stmt
 }
 
 /// `switch`.
-pub fn switch(of: Expr, clauses: Vec<Clause>) -> Stmt
-    ensures { (i : Interpretation) → stmt_of i result ≡ model.Switch (expr_of i of) (clauses_of (map (clause_of i) clauses.items)) }
+pub fn switch(alloc: Global, of: Expr, clauses: Vec<Clause>) -> Result<Stmt, AllocError>
+    ensures { IfOk result (λ made. (i : Interpretation)
+        → stmt_of i made ≡ model.Switch (expr_of i of) (clauses_of (map (clause_of i) clauses.items))) }
 {
-    Stmt::Switch { of, clauses }
+    let statement = SwitchStatement { of, clauses };
+    Ok(Stmt::Switch(Box::new(alloc, statement)?))
 }
 
 /// A labelled statement.
@@ -341,21 +343,28 @@ pub fn label(alloc: Global, name: Ident, body: Stmt) -> Result<Stmt, AllocError>
 }
 
 /// `try`.
-pub fn try_stmt(body: Vec<Stmt>, param: Option<Ident>, handler: Vec<Stmt>) -> Stmt
-    ensures { (i : Interpretation) → stmt_of i result ≡ model.Try (stmts_of (map (stmt_of i) body.items)) (maybe_named i param) (stmts_of (map (stmt_of i) handler.items)) }
+pub fn try_stmt(
+    alloc: Global,
+    body: Vec<Stmt>,
+    param: Option<Ident>,
+    handler: Vec<Stmt>,
+) -> Result<Stmt, AllocError>
+    ensures { IfOk result (λ made. (i : Interpretation)
+        → stmt_of i made ≡ model.Try (stmts_of (map (stmt_of i) body.items)) (maybe_named i param) (stmts_of (map (stmt_of i) handler.items))) }
 {
-    Stmt::Try {
+    let statement = TryStatement {
         body,
         param,
         handler,
-    }
+    };
+    Ok(Stmt::Try(Box::new(alloc, statement)?))
 }
 
 /// A function declaration.
-pub fn declared(func: Func) -> Stmt
-    ensures { (i : Interpretation) → stmt_of i result ≡ model.Declared (func_of i func) }
+pub fn declared(alloc: Global, func: Func) -> Result<Stmt, AllocError>
+    ensures { IfOk result (λ made. (i : Interpretation) → stmt_of i made ≡ model.Declared (func_of i func)) }
 {
-    Stmt::Func(func)
+    Ok(Stmt::Func(Box::new(alloc, func)?))
 }
 
 /// A shorthand property.
@@ -373,22 +382,31 @@ pub fn pair(key: Key, value: Expr) -> Prop
 }
 
 /// A method.
-pub fn method(key: Key, func: Func) -> Prop
-    ensures { (i : Interpretation) → prop_of i result ≡ model.Method (key_of i key) (func_of i func) }
+pub fn method(alloc: Global, key: Key, func: Func) -> Result<Prop, AllocError>
+    ensures { IfOk result (λ made. (i : Interpretation) → prop_of i made ≡ model.Method (key_of i key) (func_of i func)) }
 {
-    Prop::Method { key, func }
+    Ok(Prop::Method {
+        key,
+        func: Box::new(alloc, func)?,
+    })
 }
 
 /// A getter.
-pub fn getter(key: Key, func: Func) -> Prop
-    ensures { (i : Interpretation) → prop_of i result ≡ model.Get (key_of i key) (func_of i func) }
+pub fn getter(alloc: Global, key: Key, func: Func) -> Result<Prop, AllocError>
+    ensures { IfOk result (λ made. (i : Interpretation) → prop_of i made ≡ model.Get (key_of i key) (func_of i func)) }
 {
-    Prop::Get { key, func }
+    Ok(Prop::Get {
+        key,
+        func: Box::new(alloc, func)?,
+    })
 }
 
 /// A setter.
-pub fn setter(key: Key, func: Func) -> Prop
-    ensures { (i : Interpretation) → prop_of i result ≡ model.Set (key_of i key) (func_of i func) }
+pub fn setter(alloc: Global, key: Key, func: Func) -> Result<Prop, AllocError>
+    ensures { IfOk result (λ made. (i : Interpretation) → prop_of i made ≡ model.Set (key_of i key) (func_of i func)) }
 {
-    Prop::Set { key, func }
+    Ok(Prop::Set {
+        key,
+        func: Box::new(alloc, func)?,
+    })
 }

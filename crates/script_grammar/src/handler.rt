@@ -2,10 +2,12 @@
 
 ghost use Rattle.std.specs.Prelude.{List, Option, IfOk};
 ghost use Rattle.script_grammar.specs.Interpretation.{Interpretation, text_of, named, maybe_named};
-ghost use Rattle.script_grammar.specs.Shows.{ShowAll, ShowMaybe, ShowArgs, ShowOperand, ShowPart, ShowTail, ShowKey, ShowFunc, ShowBind, ShowInit, ShowEach, ShowClause};
+ghost use Rattle.script_grammar.specs.Shows.{ShowAll, ShowMaybe, ShowArgs, ShowOperand, ShowPart, ShowTail, ShowKey, ShowFunc, ShowBind};
+ghost use Rattle.script_grammar.specs.Shows.{ShowInit, ShowEach, ShowClause};
 ghost use Rattle.script_grammar.specs.Tree as model;
 ghost use Rattle.script_grammar.specs.TreeLists as part;
-ghost use Rattle.script_grammar.specs.TreeLists.{exprs_of, maybe_expr_of, items_of, maybe_args_of, operands_of, parts_of, tails_of, props_of, binds_of, clauses_of, stmts_of, maybe_stmt_of};
+ghost use Rattle.script_grammar.specs.TreeLists.{exprs_of, maybe_expr_of, items_of, maybe_args_of, operands_of, parts_of, tails_of};
+ghost use Rattle.script_grammar.specs.TreeLists.{props_of, binds_of, clauses_of, stmts_of, maybe_stmt_of};
 
 use crate::node::{
     NodeArgs, NodeBind, NodeClause, NodeEach, NodeFunc, NodeInit, NodeKey, NodeOperand, NodeTail,
@@ -104,7 +106,8 @@ pub trait Handler {
         head: Self::E,
         tails: Vec<NodeTail<Self::E>>,
     ) -> Result<Self::E, AllocError>
-        ensures { (i : Interpretation) (t : model.Expr) (ts : List model.Tail) → shows_expr i head t → ShowAll (ShowTail i (shows_expr i)) tails.items ts
+        ensures { (i : Interpretation) (t : model.Expr) (ts : List model.Tail) → shows_expr i head t
+            → ShowAll (ShowTail i (shows_expr i)) tails.items ts
             → IfOk result (λ e. shows_expr i e (model.Chain t (tails_of ts))) };
 
     fn make_new(
@@ -141,7 +144,8 @@ pub trait Handler {
         first: Self::E,
         rest: Vec<NodeOperand<Self::E>>,
     ) -> Result<Self::E, AllocError>
-        ensures { (i : Interpretation) (t : model.Expr) (os : List part.Operand) → shows_expr i first t → ShowAll (ShowOperand (shows_expr i)) rest.items os
+        ensures { (i : Interpretation) (t : model.Expr) (os : List part.Operand) → shows_expr i first t
+            → ShowAll (ShowOperand (shows_expr i)) rest.items os
             → IfOk result (λ e. shows_expr i e (model.Binary t (operands_of os))) };
 
     fn make_cond(&mut self, test: Self::E, yes: Self::E, no: Self::E) -> Result<Self::E, AllocError>
@@ -173,7 +177,8 @@ pub trait Handler {
         key: NodeKey<Self::E>,
         func: NodeFunc<Self::E, Self::B>,
     ) -> Result<Self::P, AllocError>
-        ensures { (i : Interpretation) (k : model.Key) (f : model.Function) → ShowKey i (shows_expr i) key k → ShowFunc i (shows_expr i) (shows_body i) func f
+        ensures { (i : Interpretation) (k : model.Key) (f : model.Function) → ShowKey i (shows_expr i) key k
+            → ShowFunc i (shows_expr i) (shows_body i) func f
             → IfOk result (λ p. shows_prop i p (model.Method k f)) };
 
     fn make_get(
@@ -181,7 +186,8 @@ pub trait Handler {
         key: NodeKey<Self::E>,
         func: NodeFunc<Self::E, Self::B>,
     ) -> Result<Self::P, AllocError>
-        ensures { (i : Interpretation) (k : model.Key) (f : model.Function) → ShowKey i (shows_expr i) key k → ShowFunc i (shows_expr i) (shows_body i) func f
+        ensures { (i : Interpretation) (k : model.Key) (f : model.Function) → ShowKey i (shows_expr i) key k
+            → ShowFunc i (shows_expr i) (shows_body i) func f
             → IfOk result (λ p. shows_prop i p (model.Get k f)) };
 
     fn make_set(
@@ -189,7 +195,8 @@ pub trait Handler {
         key: NodeKey<Self::E>,
         func: NodeFunc<Self::E, Self::B>,
     ) -> Result<Self::P, AllocError>
-        ensures { (i : Interpretation) (k : model.Key) (f : model.Function) → ShowKey i (shows_expr i) key k → ShowFunc i (shows_expr i) (shows_body i) func f
+        ensures { (i : Interpretation) (k : model.Key) (f : model.Function) → ShowKey i (shows_expr i) key k
+            → ShowFunc i (shows_expr i) (shows_body i) func f
             → IfOk result (λ p. shows_prop i p (model.Set k f)) };
 
     fn make_block(&mut self, items: Vec<Self::S>) -> Result<Self::S, AllocError>
@@ -221,7 +228,8 @@ pub trait Handler {
         yes: Self::S,
         no: Option<Self::S>,
     ) -> Result<Self::S, AllocError>
-        ensures { (i : Interpretation) (t : model.Expr) (u : model.Stmt) (v : Option model.Stmt) → shows_expr i test t → shows_stmt i yes u → ShowMaybe (shows_stmt i) no v
+        ensures { (i : Interpretation) (t : model.Expr) (u : model.Stmt) (v : Option model.Stmt) → shows_expr i test t → shows_stmt i yes u
+            → ShowMaybe (shows_stmt i) no v
             → IfOk result (λ s. shows_stmt i s (model.If t u (maybe_stmt_of v))) };
 
     fn make_do(&mut self, body: Self::S, test: Self::E, semi: bool) -> Result<Self::S, AllocError>
@@ -249,7 +257,8 @@ pub trait Handler {
         over: Self::E,
         body: Self::S,
     ) -> Result<Self::S, AllocError>
-        ensures { (i : Interpretation) (n : model.Each) (t : model.Expr) (b : model.Stmt) → ShowEach i (shows_expr i) each n → shows_expr i over t → shows_stmt i body b
+        ensures { (i : Interpretation) (n : model.Each) (t : model.Expr) (b : model.Stmt) → ShowEach i (shows_expr i) each n
+            → shows_expr i over t → shows_stmt i body b
             → IfOk result (λ s. shows_stmt i s (model.ForIn n t b)) };
 
     fn make_continue(
@@ -281,7 +290,8 @@ pub trait Handler {
         of: Self::E,
         clauses: Vec<NodeClause<Self::E, Self::S>>,
     ) -> Result<Self::S, AllocError>
-        ensures { (i : Interpretation) (t : model.Expr) (cs : List part.Clause) → shows_expr i of t → ShowAll (ShowClause (shows_expr i) (shows_stmt i)) clauses.items cs
+        ensures { (i : Interpretation) (t : model.Expr) (cs : List part.Clause) → shows_expr i of t
+            → ShowAll (ShowClause (shows_expr i) (shows_stmt i)) clauses.items cs
             → IfOk result (λ s. shows_stmt i s (model.Switch t (clauses_of cs))) };
 
     fn make_label(&mut self, name: Ident, body: Self::S) -> Result<Self::S, AllocError>

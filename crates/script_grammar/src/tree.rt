@@ -81,11 +81,7 @@ pub enum Expr {
         head: Box<Expr>,
         tails: Vec<Tail>,
     },
-    New {
-        at: u32,
-        callee: Box<Expr>,
-        args: Option<Args>,
-    },
+    New(Box<NewExpression>),
     /// A prefix operator, `++` and `--` excepted.
     Unary {
         at: u32,
@@ -119,6 +115,15 @@ pub enum Expr {
     Comma {
         items: Vec<Expr>,
     },
+}
+
+/// `new`, whose arguments may be left out.
+#[cycle(syntax)]
+#[derive(Drop)]
+pub struct NewExpression {
+    pub at: u32,
+    pub callee: Expr,
+    pub args: Option<Args>,
 }
 
 /// A binary operator and the operand after it.
@@ -164,9 +169,9 @@ pub enum Key {
 pub enum Prop {
     Short(Ident),
     Pair { key: Key, value: Expr },
-    Method { key: Key, func: Func },
-    Get { key: Key, func: Func },
-    Set { key: Key, func: Func },
+    Method { key: Key, func: Box<Func> },
+    Get { key: Key, func: Box<Func> },
+    Set { key: Key, func: Box<Func> },
 }
 
 /// The body of a function.
@@ -237,6 +242,51 @@ pub struct Clause {
     pub items: Vec<Stmt>,
 }
 
+/// `if`, with the statement after its `else`.
+#[cycle(syntax)]
+#[derive(Drop)]
+pub struct IfStatement {
+    pub test: Expr,
+    pub yes: Stmt,
+    pub no: Option<Box<Stmt>>,
+}
+
+/// A `for` with two semicolons.
+#[cycle(syntax)]
+#[derive(Drop)]
+pub struct ForStatement {
+    pub init: Init,
+    pub test: Option<Expr>,
+    pub update: Option<Expr>,
+    pub body: Stmt,
+}
+
+/// A `for` with `in`.
+#[cycle(syntax)]
+#[derive(Drop)]
+pub struct ForInStatement {
+    pub each: Each,
+    pub over: Expr,
+    pub body: Stmt,
+}
+
+/// `switch`.
+#[cycle(syntax)]
+#[derive(Drop)]
+pub struct SwitchStatement {
+    pub of: Expr,
+    pub clauses: Vec<Clause>,
+}
+
+/// `try` with `catch`.
+#[cycle(syntax)]
+#[derive(Drop)]
+pub struct TryStatement {
+    pub body: Vec<Stmt>,
+    pub param: Option<Ident>,
+    pub handler: Vec<Stmt>,
+}
+
 /// A statement or a declaration (clause 14).
 #[cycle(syntax)]
 #[derive(Drop)]
@@ -255,31 +305,18 @@ pub enum Stmt {
         value: Expr,
         semi: bool,
     },
-    If {
-        test: Expr,
-        yes: Box<Stmt>,
-        no: Option<Box<Stmt>>,
-    },
+    If(Box<IfStatement>),
     Do {
+        semi: bool,
         body: Box<Stmt>,
         test: Expr,
-        semi: bool,
     },
     While {
         test: Expr,
         body: Box<Stmt>,
     },
-    For {
-        init: Init,
-        test: Option<Expr>,
-        update: Option<Expr>,
-        body: Box<Stmt>,
-    },
-    ForIn {
-        each: Each,
-        over: Expr,
-        body: Box<Stmt>,
-    },
+    For(Box<ForStatement>),
+    ForIn(Box<ForInStatement>),
     Continue {
         at: u32,
         label: Option<Ident>,
@@ -291,26 +328,25 @@ pub enum Stmt {
         semi: bool,
     },
     Return {
-        value: Option<Expr>,
         semi: bool,
+        value: Option<Expr>,
     },
     Throw {
         value: Expr,
         semi: bool,
     },
-    Switch {
-        of: Expr,
-        clauses: Vec<Clause>,
-    },
+    Switch(Box<SwitchStatement>),
     Label {
         name: Ident,
         body: Box<Stmt>,
     },
-    Try {
-        body: Vec<Stmt>,
-        param: Option<Ident>,
-        handler: Vec<Stmt>,
-    },
+    Try(Box<TryStatement>),
     /// A function declaration.
-    Func(Func),
+    Func(Box<Func>),
 }
+
+const _: () = prove!(size_of::<Expr>() == 40);
+
+const _: () = prove!(size_of::<Prop>() == 96);
+
+const _: () = prove!(size_of::<Stmt>() == 56);

@@ -43,7 +43,12 @@ abbrev pub with_radix : Option ℕ → List ℕ → Numeral
 with_radix None codes = zero_literal
 with_radix (Some radix) [] = zero_literal
 with_radix (Some radix) (c ∷ codes) = if is_digit c radix
-    then record { length = 3 + more_digits radix codes; value = digits_value radix (take (1 + more_digits radix codes) (c ∷ codes)); is_decimal = false }
+    then record {
+      length = 3 + more_digits radix codes;
+      value = digits_value radix
+          (take (1 + more_digits radix codes) (c ∷ codes));
+      is_decimal = false;
+    }
     else zero_literal
 
 -- The literal that begins with `0`; the text is what follows it.

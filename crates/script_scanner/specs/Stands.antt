@@ -29,7 +29,8 @@ StandFor texts (t ∷ ts) (l ∷ ls) = StandsFor texts t l × StandFor texts ts 
 
 -- The text is the value of a token.
 abbrev pub IsValueAmong : List Lexed → List ℕ → Type 0
-IsValueAmong lexed text = (before : List Lexed) × (token : Lexed) × (after : List Lexed) × (lexed ≡ before ++ token ∷ after) × (token.value ≡ Text text)
+IsValueAmong lexed text = (before : List Lexed) × (token : Lexed) × (after : List Lexed) × (lexed ≡ before ++ token ∷ after)
+    × (token.value ≡ Text text)
 
 -- The texts are those from before and more after them, each of which is the value of a token.
 pub record GainsOnly (before after : List (List ℕ)) (lexed : List Lexed) : Type 0 where

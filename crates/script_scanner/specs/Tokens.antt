@@ -1,5 +1,6 @@
 -- The tokens of a text. ECMA-262, 12th edition, clause 12: from the left, the longest token at each place.
-use Rattle.std.specs.Prelude.{ℕ, zero, suc, ◌+◌, Bool, false, ◌||◌, ◌&&◌, ◌==◌, nat_le, nat_lt, List, [], ◌∷◌, map, filter, take, drop, length, Option, Some, None, option_map, if◌then◌else◌}
+use Rattle.std.specs.Prelude.{ℕ, zero, suc, ◌+◌, Bool, false, ◌||◌, ◌&&◌, ◌==◌, nat_le, nat_lt, List, [], ◌∷◌, map, filter, take, drop}
+use Rattle.std.specs.Prelude.{length, Option, Some, None, option_map, if◌then◌else◌}
 use Rattle.std.specs.Char.{is_digit}
 use Rattle.script_grammar.specs.declared.token.Kind.{Kind}
 use Rattle.script_grammar.specs.declared.token.Kind.TheVariants as kind

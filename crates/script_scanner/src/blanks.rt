@@ -2,7 +2,8 @@
 ghost use Rattle.std.specs.Prelude.{◌≡◌, ◌≢◌, ◌≤◌, ◌<◌, ◌+◌, ℕ, true, length, map, not, IfSome};
 ghost use Rattle.std.specs.List.{prefix_len, list_any};
 ghost use Rattle.unit_text.specs.Points.{code_of};
-ghost use Rattle.script_scanner.specs.Blanks.{begins, blank_at, comment_at, block_comment, is_line_end, is_white_space, line_length, length_to_star_slash, line_end_length, first_line_length};
+ghost use Rattle.script_scanner.specs.Blanks.{begins, blank_at, comment_at, block_comment, is_line_end, is_white_space, line_length};
+ghost use Rattle.script_scanner.specs.Blanks.{length_to_star_slash, line_end_length, first_line_length};
 
 use crate::sources::Source;
 

@@ -2,7 +2,8 @@
 ghost use Rattle.std.specs.Prelude.{◌≡◌, ◌≤◌, ◌<◌, ◌+◌, length, map, IfSome, not, ◌==◌};
 ghost use Rattle.std.specs.List.{prefix_len};
 ghost use Rattle.unit_text.specs.Points.{code_of};
-ghost use Rattle.script_scanner.specs.Escapes.{begins_with_digit, is_hex_digit, hex_byte, hex_unit, braced_step, unicode_step, single_escape, escape_step, value_step};
+ghost use Rattle.script_scanner.specs.Escapes.{begins_with_digit, is_hex_digit, hex_byte, hex_unit, braced_step, unicode_step};
+ghost use Rattle.script_scanner.specs.Escapes.{single_escape, escape_step, value_step};
 ghost use Rattle.script_scanner.specs.Fits.{StepFits};
 
 use crate::blanks::{begins, is_line_end, line_end_length};

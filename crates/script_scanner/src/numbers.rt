@@ -1,7 +1,8 @@
 //! Numbers: digits in four bases.
 ghost use Rattle.std.specs.Prelude.{◌≡◌, ◌≤◌, ◌<◌, ◌+◌, ℕ, length, map, take, IfSome, Some, ◌==◌, ◌||◌};
 ghost use Rattle.unit_text.specs.Points.{code_of};
-ghost use Rattle.script_scanner.specs.Numbers.{digit_length, more_digits, digits_value, with_digit, radix_of, with_radix, after_zero, numeral_at, is_spoiled_by, zero_literal};
+ghost use Rattle.script_scanner.specs.Numbers.{digit_length, more_digits, digits_value, with_digit, radix_of, with_radix, after_zero};
+ghost use Rattle.script_scanner.specs.Numbers.{numeral_at, is_spoiled_by, zero_literal};
 
 use crate::names::is_name_start;
 use crate::sources::Source;

@@ -78,7 +78,8 @@ fn name_piece<T: Source>(rest: T, units: &mut Vec<u16>) -> Result<FoundToken, Al
 /// The number at the front, where digits begin.
 fn number_piece<T: Source>(rest: T) -> Option<FoundToken>
     requires { 0 < length (T.points rest) }
-    ensures value { (units : List ℕ) → FindsPiece (number_piece (numeral_at (map code_of (T.points rest))) (map code_of (T.points rest))) result units }
+    ensures value { (units : List ℕ) → FindsPiece (number_piece (numeral_at (map code_of (T.points rest)))
+        (map code_of (T.points rest))) result units }
     ensures within { IfSome result (λ found. (0 < found.length) × (found.length ≤ length (T.points rest))) }
 {
     let numeral = numeral_at(rest);
@@ -101,7 +102,8 @@ fn string_piece<T: Source>(
     others: T,
     units: &mut Vec<u16>,
 ) -> Result<Option<FoundToken>, AllocError>
-    ensures value { IfOk result (λ found. FindsPiece (string_piece (body_of (Ending.Quote quote) (map code_of (T.points others)))) found units.new.items) }
+    ensures value { IfOk result (λ found. FindsPiece
+        (string_piece (body_of (Ending.Quote quote) (map code_of (T.points others)))) found units.new.items) }
     ensures within { IfOk result (λ o. IfSome o (λ found. (0 < found.length) × (found.length ≤ 1 + length (T.points others)))) }
 {
     match read_body(Ending::Quote(quote), others, units)? {
@@ -121,7 +123,8 @@ fn template_piece<T: Source>(
     others: T,
     units: &mut Vec<u16>,
 ) -> Result<Option<FoundToken>, AllocError>
-    ensures value { IfOk result (λ found. FindsPiece (template_piece whole head (body_of Ending.Template (map code_of (T.points others)))) found units.new.items) }
+    ensures value { IfOk result (λ found. FindsPiece
+        (template_piece whole head (body_of Ending.Template (map code_of (T.points others)))) found units.new.items) }
     ensures within { IfOk result (λ o. IfSome o (λ found. (0 < found.length) × (found.length ≤ 1 + length (T.points others)))) }
 {
     match read_body(Ending::Template, others, units)? {

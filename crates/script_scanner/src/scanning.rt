@@ -1,5 +1,6 @@
 //! The tokens of a text, one after the other.
-ghost use Rattle.std.specs.Prelude.{◌≡◌, ◌≤◌, ◌<◌, ◌+◌, ◌-◌, ◌^◌, ◌++◌, ℕ, suc, List, [], true, false, nat_lt, length, map, drop, IfOk, OnOk, OnErr, Some, None, ◌∷◌};
+ghost use Rattle.std.specs.Prelude.{◌≡◌, ◌≤◌, ◌<◌, ◌+◌, ◌-◌, ◌^◌, ◌++◌, ℕ, suc, List, [], true, false, nat_lt, length, map, drop, IfOk};
+ghost use Rattle.std.specs.Prelude.{OnOk, OnErr, Some, None, ◌∷◌};
 ghost use Rattle.std.specs.Str.{IsAscii, chars};
 ghost use Rattle.unit_text.specs.Points.{code_of, points_from, LieEndToEnd};
 ghost use Rattle.std.specs.List.Sorted.{IsPartitionPoint, IsNonDecreasingBy};
@@ -341,8 +342,9 @@ impl Scanner {
         }
     }
 
-    /// The same. The blanks and tokens that are most of any script have shorter ways.
-    #[inline]
+    /// The same. The blanks and tokens that are most of any script have shorter ways, which stand in the scanner's loop: a call for
+    /// each of them would cost a fifth of a step, to save and restore registers.
+    #[inline(always)]
     fn step<T: Source>(
         &mut self,
         alloc: Global,
@@ -392,7 +394,8 @@ impl Scanner {
         requires tokens { self.old.tokens.items ≡ [] }
         requires braces { self.old.braces.items ≡ [] }
         requires after_line { self.old.after_line ≡ false }
-        ensures stand { OnOk result (StandFor atoms.new self.new.tokens.items (tokens_within (suc (length (T.points text))) to [] false (T.points text))) }
+        ensures stand { OnOk result (StandFor atoms.new self.new.tokens.items
+            (tokens_within (suc (length (T.points text))) to [] false (T.points text))) }
         ensures last { OnOk result (HasOneLast self.new.tokens.items) }
         ensures gains { OnOk result (GainsOnly atoms.old atoms.new (tokens_within (suc (length (T.points text))) to [] false (T.points text))) }
         ensures keeps { Keeps atoms.old atoms.new }
@@ -498,7 +501,8 @@ pub fn scan_ascii(
     requires ascii { IsAscii bytes.now }
     requires fits { start + length bytes.now ≤ 4294967295 }
     requires few { length bytes.now + length atoms.old < 2 ^ 32 - 1 }
-    ensures tokens { IfOk result (λ made. StandFor atoms.new made.items (tokens (points_from start (chars bytes.now)) start (start + length bytes.now))) }
+    ensures tokens { IfOk result (λ made. StandFor atoms.new made.items
+        (tokens (points_from start (chars bytes.now)) start (start + length bytes.now))) }
     ensures last { IfOk result (λ made. HasOneLast made.items) }
     ensures gains { OnOk result (GainsOnly atoms.old atoms.new (tokens (points_from start (chars bytes.now)) start (start + length bytes.now))) }
     ensures keeps { Keeps atoms.old atoms.new }

@@ -4,6 +4,7 @@ use denote.Param.Weighed.{most, at_most}
 use Rattle.script_grammar.specs.declared.tree.Each.TheShapes.{weighed-Expr-Array-1-at-1}
 use Rattle.script_grammar.proofs.tree.Expr.TheLaws.{the_size}
 use Rattle.script_grammar.specs.declared.tree.Func.{Func, out-Func}
+use Rattle.script_grammar.specs.declared.tree.NewExpression.{out-NewExpression}
 use Rattle.script_grammar.specs.declared.tree.Expr.{Expr}
 use Rattle.script_grammar.specs.declared.tree.Tail.{Tail}
 use Rattle.script_grammar.specs.declared.tree.Args.{Args}
@@ -123,8 +124,8 @@ emit_expr-returns-in_ok-emit_tails-in-Chain t c = arm.at_chain _ c.in-Chain.head
     (row.chain_row c.deref-in-Chain.result.now c.deref-in-Chain-3.result.now c.use_before.result (λ i. c.use_before.ensures i ∙ ap (λ (l : List Tail). use_before c.args.wanted (tails_of (map (tail_of i) l))) (c.deref-in-Chain-2.ensures.value ∙ sym c.deref-in-Chain-3.ensures.value)) c.in_ok-emit_expr-in-Chain.ensures c.in_ok-emit_tails-in-Chain.ensures)
 
 pub emit_expr-returns-in_ok-emit_args-in-New : goal.emit_expr-returns-in_ok-emit_args-in-New
-emit_expr-returns-in_ok-emit_args-in-New t c = arm.at_new _ c.in-New.at c.in-New.callee c.in-New.args c.deref-in-New.result.now c.in-New.is c.deref-in-New.ensures
-    (row.new_row c.in-New.at c.deref-in-New.result.now c.in-New.args c.in_ok-emit_expr-in-New.ensures (c.in_ok-before_new-in-New.ensures c.args.site.now.texts.now) c.in_ok-emit_args-in-New.ensures)
+emit_expr-returns-in_ok-emit_args-in-New t c = arm.at_new _ c.in-New.boxed c.deref-new.result.now c.in-New.is c.deref-new.ensures
+    (row.new_row (out-NewExpression c.deref-new.result.now).at (out-NewExpression c.deref-new.result.now).callee (out-NewExpression c.deref-new.result.now).args c.in_ok-emit_expr-in-New.ensures (c.in_ok-before_new-in-New.ensures c.args.site.now.texts.now) c.in_ok-emit_args-in-New.ensures)
 
 pub emit_expr-returns-in_ok-emit_unary-in-Unary : goal.emit_expr-returns-in_ok-emit_unary-in-Unary
 emit_expr-returns-in_ok-emit_unary-in-Unary t c = arm.at_unary _ c.in-Unary.at c.in-Unary.op c.in-Unary.of c.in-Unary.is_word c.deref-in-Unary.result.now c.in-Unary.is c.deref-in-Unary.ensures c.in_ok-emit_unary-in-Unary.ensures
@@ -190,13 +191,13 @@ pub emit_prop-returns-in_ok-closing_pair-in-Pair : goal.emit_prop-returns-in_ok-
 emit_prop-returns-in_ok-closing_pair-in-Pair t c = subst (λ (p : Prop). PropEmits c.args.site.now c.args.out.now c.closing_pair.new.out p) (sym c.in-Pair.is) (row.prop_pair c.in-Pair.key c.in-Pair.value c.in_ok-emit_key-in-Pair.ensures c.in_ok-emit_expr-in-Pair.ensures c.in_ok-closing_pair-in-Pair.ensures)
 
 pub emit_prop-returns-in_ok-emit_method-in-Method : goal.emit_prop-returns-in_ok-emit_method-in-Method
-emit_prop-returns-in_ok-emit_method-in-Method t c = subst (λ (p : Prop). PropEmits c.args.site.now c.args.out.now c.emit_method.new.out p) (sym c.in-Method.is) (row.prop_method c.in-Method.key c.in-Method.func _ refl c.in_ok-emit_method-in-Method.ensures)
+emit_prop-returns-in_ok-emit_method-in-Method t c = subst (λ (p : Prop). PropEmits c.args.site.now c.args.out.now c.emit_method.new.out p) (sym c.in-Method.is) (row.prop_method c.in-Method.key c.in-Method.func _ (ap (λ (f : Func). (out-Func f).start) c.deref.ensures) c.in_ok-emit_method-in-Method.ensures)
 
 pub emit_prop-returns-in_ok-emit_method-in-Get : goal.emit_prop-returns-in_ok-emit_method-in-Get
-emit_prop-returns-in_ok-emit_method-in-Get t c = subst (λ (p : Prop). PropEmits c.args.site.now c.args.out.now c.emit_method-in-Get.new.out p) (sym c.in-Get.is) (row.prop_get c.in-Get.key c.in-Get.func _ refl c.in_ok-emit_method-in-Get.ensures)
+emit_prop-returns-in_ok-emit_method-in-Get t c = subst (λ (p : Prop). PropEmits c.args.site.now c.args.out.now c.emit_method-in-Get.new.out p) (sym c.in-Get.is) (row.prop_get c.in-Get.key c.in-Get.func _ (ap (λ (f : Func). (out-Func f).start) c.deref-in-Get.ensures) c.in_ok-emit_method-in-Get.ensures)
 
 pub emit_prop-returns-in_ok-emit_method-in-Set : goal.emit_prop-returns-in_ok-emit_method-in-Set
-emit_prop-returns-in_ok-emit_method-in-Set t c = subst (λ (p : Prop). PropEmits c.args.site.now c.args.out.now c.emit_method-in-Set.new.out p) (sym c.in-Set.is) (row.prop_set c.in-Set.key c.in-Set.func _ refl c.in_ok-emit_method-in-Set.ensures)
+emit_prop-returns-in_ok-emit_method-in-Set t c = subst (λ (p : Prop). PropEmits c.args.site.now c.args.out.now c.emit_method-in-Set.new.out p) (sym c.in-Set.is) (row.prop_set c.in-Set.key c.in-Set.func _ (ap (λ (f : Func). (out-Func f).start) c.deref-in-Set.ensures) c.in_ok-emit_method-in-Set.ensures)
 
 pub emit_tail-returns-in_ok-used_dot-in-Dot : goal.emit_tail-returns-in_ok-used_dot-in-Dot
 emit_tail-returns-in_ok-used_dot-in-Dot t c = subst (λ (u : Tail). TailEmits c.args.site.now c.args.out.now c.used_dot.new.out c.args.wanted u) (sym c.in-Dot.is) (row.tail_dot c.in-Dot.atom (c.in_ok-used_dot-in-Dot.ensures c.args.site.now.texts.now))

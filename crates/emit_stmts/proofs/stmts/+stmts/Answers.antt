@@ -1,5 +1,6 @@
 use Rattle.std.proofs.Common.{List, Option, ap, drop_of_length-le, length, subst, sym, ℕ, ◌++◌, ◌<◌, ◌∙◌}
 use Rattle.script_grammar.specs.declared.tree.Ident.{Ident}
+use Rattle.script_grammar.specs.declared.tree.TryStatement.{out-TryStatement}
 use Rattle.bytecode_buf.specs.Appends.{AllRoom}
 use Rattle.bytecode_buf.specs.declared.opcode.Op.TheVariants as op
 use Rattle.bytecode_buf.specs.declared.waits.Aim.TheVariants as aim
@@ -172,7 +173,7 @@ pub emit_stmt-returns-in_ok-value_stmt-in-Value : goal.emit_stmt-returns-in_ok-v
 emit_stmt-returns-in_ok-value_stmt-in-Value t c = arm.at_value _ c.in-Value.value c.in-Value.semi c.in-Value.is (c.in_ok-value_stmt-in-Value.ensures c.args.waits.now.items c.in-Value.semi)
 
 pub emit_stmt-returns-in_ok-emit_then-in-None : goal.emit_stmt-returns-in_ok-emit_then-in-None
-emit_stmt-returns-in_ok-emit_then-in-None t c = arm.at_then _ c.in-If.test c.in-If.yes c.in-If.no c.deref-in-None.result.now c.in-If.is c.deref-in-None.ensures c.in-None.is c.in_ok-emit_then-in-None.ensures
+emit_stmt-returns-in_ok-emit_then-in-None t c = arm.at_then _ c.in-If.boxed c.deref-statement.result.now c.in-If.is c.deref-statement.ensures c.in-None.is c.in_ok-emit_then-in-None.ensures
 
 pub emit_stmt-returns-in_ok-emit_do-in-Do : goal.emit_stmt-returns-in_ok-emit_do-in-Do
 emit_stmt-returns-in_ok-emit_do-in-Do t c = arm.at_do _ c.in-Do.body c.in-Do.test c.in-Do.semi c.deref-in-Do.result.now c.in-Do.is c.deref-in-Do.ensures (c.in_ok-emit_do-in-Do.ensures c.in-Do.semi)
@@ -181,10 +182,10 @@ pub emit_stmt-returns-in_ok-emit_while-in-While : goal.emit_stmt-returns-in_ok-e
 emit_stmt-returns-in_ok-emit_while-in-While t c = arm.at_while _ c.in-While.test c.in-While.body c.deref-in-While.result.now c.in-While.is c.deref-in-While.ensures c.in_ok-emit_while-in-While.ensures
 
 pub emit_stmt-returns-in_ok-emit_for-in-For : goal.emit_stmt-returns-in_ok-emit_for-in-For
-emit_stmt-returns-in_ok-emit_for-in-For t c = arm.at_for _ c.in-For.init c.in-For.test c.in-For.update c.in-For.body c.deref-in-For.result.now c.in-For.is c.deref-in-For.ensures c.in_ok-emit_for-in-For.ensures
+emit_stmt-returns-in_ok-emit_for-in-For t c = arm.at_for _ c.in-For.boxed c.deref-statement-in-For.result.now c.in-For.is c.deref-statement-in-For.ensures c.in_ok-emit_for-in-For.ensures
 
 pub emit_stmt-returns-in_ok-emit_for_in-in-ForIn : goal.emit_stmt-returns-in_ok-emit_for_in-in-ForIn
-emit_stmt-returns-in_ok-emit_for_in-in-ForIn t c = arm.at_for_in _ c.in-ForIn.each c.in-ForIn.over c.in-ForIn.body c.deref-in-ForIn.result.now c.in-ForIn.is c.deref-in-ForIn.ensures c.in_ok-emit_for_in-in-ForIn.ensures
+emit_stmt-returns-in_ok-emit_for_in-in-ForIn t c = arm.at_for_in _ c.in-ForIn.boxed c.deref-statement-in-ForIn.result.now c.in-ForIn.is c.deref-statement-in-ForIn.ensures c.in_ok-emit_for_in-in-ForIn.ensures
 
 pub emit_stmt-returns-in_ok-continue_stmt-in-Continue : goal.emit_stmt-returns-in_ok-continue_stmt-in-Continue
 emit_stmt-returns-in_ok-continue_stmt-in-Continue t c = arm.at_continue _ c.in-Continue.at c.in-Continue.label c.in-Continue.semi c.in-Continue.is (c.in_ok-continue_stmt-in-Continue.ensures c.in-Continue.at c.in-Continue.semi)
@@ -199,7 +200,7 @@ pub emit_stmt-returns-in_ok-throw_stmt-in-Throw : goal.emit_stmt-returns-in_ok-t
 emit_stmt-returns-in_ok-throw_stmt-in-Throw t c = arm.at_throw _ c.in-Throw.value c.in-Throw.semi c.in-Throw.is (c.in_ok-throw_stmt-in-Throw.ensures c.args.waits.now.items c.in-Throw.semi)
 
 pub emit_stmt-returns-in_ok-emit_switch-in-Switch : goal.emit_stmt-returns-in_ok-emit_switch-in-Switch
-emit_stmt-returns-in_ok-emit_switch-in-Switch t c = arm.at_switch _ c.in-Switch.of c.in-Switch.clauses c.deref-in-Switch.result.now c.in-Switch.is c.deref-in-Switch.ensures.value c.in_ok-emit_switch-in-Switch.ensures
+emit_stmt-returns-in_ok-emit_switch-in-Switch t c = arm.at_switch _ c.in-Switch.boxed c.deref-statement-in-Switch.result.now c.deref-in-Switch.result.now c.in-Switch.is c.deref-statement-in-Switch.ensures c.deref-in-Switch.ensures.value c.in_ok-emit_switch-in-Switch.ensures
 
 pub emit_stmt-returns-in_ok-emit_label-in-Label : goal.emit_stmt-returns-in_ok-emit_label-in-Label
 emit_stmt-returns-in_ok-emit_label-in-Label t c = arm.at_label _ c.in-Label.name c.in-Label.body c.deref-in-Label.result.now c.in-Label.is c.deref-in-Label.ensures c.in_ok-emit_label-in-Label.ensures
@@ -208,13 +209,13 @@ pub emit_stmt-returns-in-Func : goal.emit_stmt-returns-in-Func
 emit_stmt-returns-in-Func t c = arm.at_func _ c.in-Func.field-0 c.in-Func.is
 
 pub emit_stmt-target-requires : goal.emit_stmt-target-requires
-emit_stmt-target-requires t c = subst (AllRoom (length c.emit_stmt.new.out.code)) (sym c.deref-in-Some-2.ensures.value) (written_room (written_from_none c.new-ends.ensures.items (written_both c.in_ok-emit_first-in-Some.ensures.code c.in_ok-emit_stmt-in-Some.ensures.row.code)))
+emit_stmt-target-requires t c = subst (AllRoom (length c.emit_stmt.new.out.code)) (sym c.deref-in-Some.ensures.value) (written_room (written_from_none c.new-ends.ensures.items (written_both c.in_ok-emit_first-in-Some.ensures.code c.in_ok-emit_stmt-in-Some.ensures.row.code)))
 
 pub emit_stmt-returns-in_ok-target-in-Some : goal.emit_stmt-returns-in_ok-target-in-Some
-emit_stmt-returns-in_ok-target-in-Some t c = arm.at_choice _ c.in-If.test c.in-If.yes c.in-If.no c.in-Some.second c.deref-in-Some.result.now c.deref-last.result.now c.in-If.is c.deref-in-Some.ensures c.in-Some.is c.deref-last.ensures (choice_row c.args.site.now c.in-If.test c.deref-in-Some.result.now c.deref-last.result.now c.new-ends.ensures.items c.in_ok-emit_first-in-Some.ensures c.in_ok-emit_stmt-in-Some.ensures (subst (λ (ws : List Wait). LandsHere (aim.After) c.emit_stmt.new.out.code ws c.args.waits.now.items c.target.new.out c.target.new.waits.items) c.deref-in-Some-2.ensures.value c.in_ok-target-in-Some.ensures.lands))
+emit_stmt-returns-in_ok-target-in-Some t c = arm.at_choice _ c.in-If.boxed c.deref-statement.result.now c.in-Some.second c.deref-last.result.now c.in-If.is c.deref-statement.ensures c.in-Some.is c.deref-last.ensures (choice_row c.args.site.now c.deref-statement.result.now.test c.deref-statement.result.now.yes c.deref-last.result.now c.new-ends.ensures.items c.in_ok-emit_first-in-Some.ensures c.in_ok-emit_stmt-in-Some.ensures (subst (λ (ws : List Wait). LandsHere (aim.After) c.emit_stmt.new.out.code ws c.args.waits.now.items c.target.new.out c.target.new.waits.items) c.deref-in-Some.ensures.value c.in_ok-target-in-Some.ensures.lands))
 
 pub emit_stmt-target-requires-in-Try : goal.emit_stmt-target-requires-in-Try
 emit_stmt-target-requires-in-Try t c = subst (AllRoom (length c.emit_handler.new.out.code)) (sym c.deref-in-Try-3.ensures.value) (written_room (written_from_none c.new-ends-in-Try.ensures.items (written_both (written_both c.in_ok-emit_guarded-in-Try.ensures.code (written_plain c.args.site.now c.emit_guarded.new.waits.items c.emit_guarded.new.out.notes.items c.emit_guarded.new.out.next (expr.written_of (c.in_ok-plain-in-Try.ensures c.args.site.now.exprs.texts.now)))) c.in_ok-emit_handler-in-Try.ensures.code)))
 
 pub emit_stmt-returns-in_ok-target-in-Try : goal.emit_stmt-returns-in_ok-target-in-Try
-emit_stmt-returns-in_ok-target-in-Try t c = arm.at_try _ c.in-Try.body c.in-Try.param c.in-Try.handler c.deref-in-Try.result.now c.deref-in-Try-2.result.now c.in-Try.is c.deref-in-Try.ensures.value c.deref-in-Try-2.ensures.value (try_row c.args.site.now c.deref-in-Try.result.now c.in-Try.param c.deref-in-Try-2.result.now c.new-ends-in-Try.ensures.items c.in_ok-emit_guarded-in-Try.ensures (c.in_ok-plain-in-Try.ensures c.args.site.now.exprs.texts.now) c.in_ok-emit_handler-in-Try.ensures (subst (λ (ws : List Wait). LandsHere (aim.After) c.emit_handler.new.out.code ws c.args.waits.now.items c.target-in-Try.new.out c.target-in-Try.new.waits.items) c.deref-in-Try-3.ensures.value c.in_ok-target-in-Try.ensures.lands))
+emit_stmt-returns-in_ok-target-in-Try t c = arm.at_try _ c.in-Try.boxed c.deref-statement-in-Try.result.now c.deref-in-Try.result.now c.deref-in-Try-2.result.now c.in-Try.is c.deref-statement-in-Try.ensures c.deref-in-Try.ensures.value c.deref-in-Try-2.ensures.value (try_row c.args.site.now c.deref-in-Try.result.now (out-TryStatement c.deref-statement-in-Try.result.now).param c.deref-in-Try-2.result.now c.new-ends-in-Try.ensures.items c.in_ok-emit_guarded-in-Try.ensures (c.in_ok-plain-in-Try.ensures c.args.site.now.exprs.texts.now) c.in_ok-emit_handler-in-Try.ensures (subst (λ (ws : List Wait). LandsHere (aim.After) c.emit_handler.new.out.code ws c.args.waits.now.items c.target-in-Try.new.out c.target-in-Try.new.waits.items) c.deref-in-Try-3.ensures.value c.in_ok-target-in-Try.ensures.lands))

@@ -46,7 +46,7 @@ is_var_in-returns-in-Binds t c = λ bodies.
 
 pub is_var_in-returns-in-Do : goal.is_var_in-returns-in-Do
 is_var_in-returns-in-Do t c = λ bodies.
-    rw c.in-Do.is (rw (stmt_of-Do (under c.args.wanted.now.texts.now bodies) c.in-Do.body c.in-Do.test c.in-Do.semi) (rw (sym c.deref-in-Do.ensures) (c.is_var_in-in-Do.ensures bodies)))
+    rw c.in-Do.is (rw (stmt_of-Do (under c.args.wanted.now.texts.now bodies) c.in-Do.semi c.in-Do.body c.in-Do.test) (rw (sym c.deref-in-Do.ensures) (c.is_var_in-in-Do.ensures bodies)))
 
 pub is_var_in-returns-in-While : goal.is_var_in-returns-in-While
 is_var_in-returns-in-While t c = λ bodies.
@@ -54,7 +54,7 @@ is_var_in-returns-in-While t c = λ bodies.
 
 pub is_var_in-returns-in-Switch : goal.is_var_in-returns-in-Switch
 is_var_in-returns-in-Switch t c = λ bodies.
-    rw c.in-Switch.is (rw (stmt_of-Switch (under c.args.wanted.now.texts.now bodies) c.in-Switch.of c.in-Switch.clauses) (rw (sym c.deref-in-Switch.ensures.value) (c.is_var_in_clauses.ensures bodies)))
+    rw c.in-Switch.is (rw (stmt_of-Switch (under c.args.wanted.now.texts.now bodies) c.in-Switch.boxed) (rw (sym c.deref-in-Switch.ensures) (rw (sym c.deref-in-Switch-2.ensures.value) (c.is_var_in_clauses.ensures bodies))))
 
 pub is_var_in-returns-in-Label : goal.is_var_in-returns-in-Label
 is_var_in-returns-in-Label t c = λ bodies.
@@ -62,35 +62,35 @@ is_var_in-returns-in-Label t c = λ bodies.
 
 pub is_var_in-returns-then-is_var_in : goal.is_var_in-returns-then-is_var_in
 is_var_in-returns-then-is_var_in t c = λ bodies.
-    rw c.in-If.is (rw (stmt_of-If (under c.args.wanted.now.texts.now bodies) c.in-If.test c.in-If.yes c.in-If.no) (rw (sym c.deref-in-If.ensures) (used_first _ _ c.args.wanted.now.units.now _ (c.is_var_in.ensures bodies) c.if-is_var_in.true)))
+    rw c.in-If.is (rw (stmt_of-If (under c.args.wanted.now.texts.now bodies) c.in-If.boxed) (rw (sym c.deref-statement.ensures) ((used_first _ _ c.args.wanted.now.units.now _ (c.is_var_in.ensures bodies) c.if-is_var_in.true))))
 
 pub is_var_in-returns-else-is_var_in : goal.is_var_in-returns-else-is_var_in
 is_var_in-returns-else-is_var_in t c = λ bodies.
-    rw c.in-If.is (rw (stmt_of-If (under c.args.wanted.now.texts.now bodies) c.in-If.test c.in-If.yes c.in-If.no) (rw (sym c.deref-in-If.ensures) ((used_behind _ _ c.args.wanted.now.units.now _ _ (c.is_var_in.ensures bodies) c.if-is_var_in.false (c.is_var_in_else.ensures bodies)))))
+    rw c.in-If.is (rw (stmt_of-If (under c.args.wanted.now.texts.now bodies) c.in-If.boxed) (rw (sym c.deref-statement.ensures) (((used_behind _ _ c.args.wanted.now.units.now _ _ (c.is_var_in.ensures bodies) c.if-is_var_in.false (c.is_var_in_else.ensures bodies))))))
 
 pub is_var_in-returns-then-is_var_in_init : goal.is_var_in-returns-then-is_var_in_init
 is_var_in-returns-then-is_var_in_init t c = λ bodies.
-    rw c.in-For.is (rw (stmt_of-For (under c.args.wanted.now.texts.now bodies) c.in-For.init c.in-For.test c.in-For.update c.in-For.body) ((used_first _ _ c.args.wanted.now.units.now _ (c.is_var_in_init.ensures bodies) c.if-is_var_in_init.true)))
+    rw c.in-For.is (rw (stmt_of-For (under c.args.wanted.now.texts.now bodies) c.in-For.boxed) (rw (sym c.deref-statement-in-For.ensures) ((used_first _ _ c.args.wanted.now.units.now _ (c.is_var_in_init.ensures bodies) c.if-is_var_in_init.true))))
 
 pub is_var_in-returns-else-is_var_in_init : goal.is_var_in-returns-else-is_var_in_init
 is_var_in-returns-else-is_var_in_init t c = λ bodies.
-    rw c.in-For.is (rw (stmt_of-For (under c.args.wanted.now.texts.now bodies) c.in-For.init c.in-For.test c.in-For.update c.in-For.body) ((rw (sym c.deref-else-is_var_in_init.ensures) (used_behind _ _ c.args.wanted.now.units.now _ _ (c.is_var_in_init.ensures bodies) c.if-is_var_in_init.false (c.is_var_in-else-is_var_in_init.ensures bodies)))))
+    rw c.in-For.is (rw (stmt_of-For (under c.args.wanted.now.texts.now bodies) c.in-For.boxed) (rw (sym c.deref-statement-in-For.ensures) (((used_behind _ _ c.args.wanted.now.units.now _ _ (c.is_var_in_init.ensures bodies) c.if-is_var_in_init.false (c.is_var_in-else-is_var_in_init.ensures bodies))))))
 
 pub is_var_in-returns-then-is_var_in_each : goal.is_var_in-returns-then-is_var_in_each
 is_var_in-returns-then-is_var_in_each t c = λ bodies.
-    rw c.in-ForIn.is (rw (stmt_of-ForIn (under c.args.wanted.now.texts.now bodies) c.in-ForIn.each c.in-ForIn.over c.in-ForIn.body) ((used_first _ _ c.args.wanted.now.units.now _ (c.is_var_in_each.ensures bodies) c.if-is_var_in_each.true)))
+    rw c.in-ForIn.is (rw (stmt_of-ForIn (under c.args.wanted.now.texts.now bodies) c.in-ForIn.boxed) (rw (sym c.deref-statement-in-ForIn.ensures) ((used_first _ _ c.args.wanted.now.units.now _ (c.is_var_in_each.ensures bodies) c.if-is_var_in_each.true))))
 
 pub is_var_in-returns-else-is_var_in_each : goal.is_var_in-returns-else-is_var_in_each
 is_var_in-returns-else-is_var_in_each t c = λ bodies.
-    rw c.in-ForIn.is (rw (stmt_of-ForIn (under c.args.wanted.now.texts.now bodies) c.in-ForIn.each c.in-ForIn.over c.in-ForIn.body) ((rw (sym c.deref-else-is_var_in_each.ensures) (used_behind _ _ c.args.wanted.now.units.now _ _ (c.is_var_in_each.ensures bodies) c.if-is_var_in_each.false (c.is_var_in-else-is_var_in_each.ensures bodies)))))
+    rw c.in-ForIn.is (rw (stmt_of-ForIn (under c.args.wanted.now.texts.now bodies) c.in-ForIn.boxed) (rw (sym c.deref-statement-in-ForIn.ensures) (((used_behind _ _ c.args.wanted.now.units.now _ _ (c.is_var_in_each.ensures bodies) c.if-is_var_in_each.false (c.is_var_in-else-is_var_in_each.ensures bodies))))))
 
 pub is_var_in-returns-then-is_var : goal.is_var_in-returns-then-is_var
 is_var_in-returns-then-is_var t c = λ bodies.
-    rw c.in-Try.is (rw (stmt_of-Try (under c.args.wanted.now.texts.now bodies) c.in-Try.body c.in-Try.param c.in-Try.handler) (rw (sym c.deref-in-Try.ensures.value) (used_first _ _ c.args.wanted.now.units.now _ (c.is_var-in-Try.ensures bodies) c.if-is_var.true)))
+    rw c.in-Try.is (rw (stmt_of-Try (under c.args.wanted.now.texts.now bodies) c.in-Try.boxed) (rw (sym c.deref-statement-in-Try.ensures) (rw (sym c.deref-in-Try.ensures.value) (used_first _ _ c.args.wanted.now.units.now _ (c.is_var-in-Try.ensures bodies) c.if-is_var.true))))
 
 pub is_var_in-returns-else-is_var : goal.is_var_in-returns-else-is_var
 is_var_in-returns-else-is_var t c = λ bodies.
-    rw c.in-Try.is (rw (stmt_of-Try (under c.args.wanted.now.texts.now bodies) c.in-Try.body c.in-Try.param c.in-Try.handler) (rw (sym c.deref-in-Try.ensures.value) (rw (sym c.deref-else-is_var.ensures.value) (used_behind _ _ c.args.wanted.now.units.now _ _ (c.is_var-in-Try.ensures bodies) c.if-is_var.false (c.is_var-else-is_var.ensures bodies)))))
+    rw c.in-Try.is (rw (stmt_of-Try (under c.args.wanted.now.texts.now bodies) c.in-Try.boxed) (rw (sym c.deref-statement-in-Try.ensures) (rw (sym c.deref-in-Try.ensures.value) (rw (sym c.deref-else-is_var.ensures.value) (used_behind _ _ c.args.wanted.now.units.now _ _ (c.is_var-in-Try.ensures bodies) c.if-is_var.false (c.is_var-else-is_var.ensures bodies))))))
 
 pub is_var_in_else-returns-in-Some : goal.is_var_in_else-returns-in-Some
 is_var_in_else-returns-in-Some t c = λ bodies.

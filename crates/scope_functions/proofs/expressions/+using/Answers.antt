@@ -55,11 +55,11 @@ uses_expr-returns-else-uses_expr t c = λ bodies.
 
 pub uses_expr-returns-then-uses_expr-2 : goal.uses_expr-returns-then-uses_expr-2
 uses_expr-returns-then-uses_expr-2 t c = λ bodies.
-    rw c.in-New.is (rw (expr_of-New (under c.args.wanted.now.texts.now bodies) c.in-New.at c.in-New.callee c.in-New.args) (rw (sym c.deref-in-New.ensures) (used_first _ _ c.args.wanted.now.units.now _ (c.uses_expr-in-New.ensures bodies) c.if-uses_expr-2.true)))
+    rw c.in-New.is (rw (expr_of-New (under c.args.wanted.now.texts.now bodies) c.in-New.boxed) (rw (sym c.deref-new.ensures) (used_first _ _ c.args.wanted.now.units.now _ (c.uses_expr-in-New.ensures bodies) c.if-uses_expr-2.true)))
 
 pub uses_expr-returns-else-uses_expr-2 : goal.uses_expr-returns-else-uses_expr-2
 uses_expr-returns-else-uses_expr-2 t c = λ bodies.
-    rw c.in-New.is (rw (expr_of-New (under c.args.wanted.now.texts.now bodies) c.in-New.at c.in-New.callee c.in-New.args) (rw (sym c.deref-in-New.ensures) ((used_behind _ _ c.args.wanted.now.units.now _ _ (c.uses_expr-in-New.ensures bodies) c.if-uses_expr-2.false (c.uses_args.ensures bodies)))))
+    rw c.in-New.is (rw (expr_of-New (under c.args.wanted.now.texts.now bodies) c.in-New.boxed) (rw (sym c.deref-new.ensures) ((used_behind _ _ c.args.wanted.now.units.now _ _ (c.uses_expr-in-New.ensures bodies) c.if-uses_expr-2.false (c.uses_args.ensures bodies)))))
 
 pub uses_expr-returns-then-uses_expr-3 : goal.uses_expr-returns-then-uses_expr-3
 uses_expr-returns-then-uses_expr-3 t c = λ bodies.
@@ -183,15 +183,15 @@ uses_key-returns-in-Computed t c = λ bodies.
 
 pub uses_prop-returns-in-Method : goal.uses_prop-returns-in-Method
 uses_prop-returns-in-Method t c = λ bodies.
-    rw c.in-Method.is (rw (prop_of-Method (under c.args.wanted.now.texts.now bodies) c.in-Method.key c.in-Method.func) (rw (func_of-fields (under c.args.wanted.now.texts.now bodies) c.in-Method.func) (c.uses_key-in-Method.ensures bodies ∙ sym (no_functions (uses_key (key_of (under c.args.wanted.now.texts.now bodies) c.in-Method.key)).own c.args.wanted.now.units.now))))
+    rw c.in-Method.is (rw (prop_of-Method (under c.args.wanted.now.texts.now bodies) c.in-Method.key c.in-Method.func) (rw (func_of-fields (under c.args.wanted.now.texts.now bodies) c.in-Method.func.value) (c.uses_key-in-Method.ensures bodies ∙ sym (no_functions (uses_key (key_of (under c.args.wanted.now.texts.now bodies) c.in-Method.key)).own c.args.wanted.now.units.now))))
 
 pub uses_prop-returns-in-Get : goal.uses_prop-returns-in-Get
 uses_prop-returns-in-Get t c = λ bodies.
-    rw c.in-Get.is (rw (prop_of-Get (under c.args.wanted.now.texts.now bodies) c.in-Get.key c.in-Get.func) (rw (func_of-fields (under c.args.wanted.now.texts.now bodies) c.in-Get.func) (c.uses_key-in-Get.ensures bodies ∙ sym (no_functions (uses_key (key_of (under c.args.wanted.now.texts.now bodies) c.in-Get.key)).own c.args.wanted.now.units.now))))
+    rw c.in-Get.is (rw (prop_of-Get (under c.args.wanted.now.texts.now bodies) c.in-Get.key c.in-Get.func) (rw (func_of-fields (under c.args.wanted.now.texts.now bodies) c.in-Get.func.value) (c.uses_key-in-Get.ensures bodies ∙ sym (no_functions (uses_key (key_of (under c.args.wanted.now.texts.now bodies) c.in-Get.key)).own c.args.wanted.now.units.now))))
 
 pub uses_prop-returns-in-Set : goal.uses_prop-returns-in-Set
 uses_prop-returns-in-Set t c = λ bodies.
-    rw c.in-Set.is (rw (prop_of-Set (under c.args.wanted.now.texts.now bodies) c.in-Set.key c.in-Set.func) (rw (func_of-fields (under c.args.wanted.now.texts.now bodies) c.in-Set.func) (c.uses_key-in-Set.ensures bodies ∙ sym (no_functions (uses_key (key_of (under c.args.wanted.now.texts.now bodies) c.in-Set.key)).own c.args.wanted.now.units.now))))
+    rw c.in-Set.is (rw (prop_of-Set (under c.args.wanted.now.texts.now bodies) c.in-Set.key c.in-Set.func) (rw (func_of-fields (under c.args.wanted.now.texts.now bodies) c.in-Set.func.value) (c.uses_key-in-Set.ensures bodies ∙ sym (no_functions (uses_key (key_of (under c.args.wanted.now.texts.now bodies) c.in-Set.key)).own c.args.wanted.now.units.now))))
 
 pub uses_tail-returns-in-Index : goal.uses_tail-returns-in-Index
 uses_tail-returns-in-Index t c = λ bodies.

@@ -1,5 +1,7 @@
 use Rattle.std.proofs.Common.{List, ◌++◌, map, option_map, refl, sym, ap, ◌∙◌, arith}
 use Rattle.script_grammar.specs.declared.tree.Stmt.{Stmt}
+use Rattle.script_grammar.specs.declared.tree.ForInStatement.{out-ForInStatement}
+use Rattle.script_grammar.specs.declared.tree.TryStatement.{out-TryStatement}
 use Rattle.script_grammar.specs.declared.tree.Clause.{Clause}
 use Rattle.script_grammar.specs.Interpretation.{maybe_named}
 use Rattle.script_grammar.specs.TreeLists.{maybe_expr_of, stmts_of, clauses_of}
@@ -79,23 +81,23 @@ uses_stmt-returns-in-Value t c = λ bodies.
 
 pub uses_stmt-returns-then-uses_expr : goal.uses_stmt-returns-then-uses_expr
 uses_stmt-returns-then-uses_expr t c = λ bodies.
-    rw c.in-If.is (rw (stmt_of-If (under c.args.wanted.now.texts.now bodies) c.in-If.test c.in-If.yes c.in-If.no) (used_first _ _ c.args.wanted.now.units.now _ (c.uses_expr-in-If.ensures bodies) c.if-uses_expr.true))
+    rw c.in-If.is (rw (stmt_of-If (under c.args.wanted.now.texts.now bodies) c.in-If.boxed) (rw (sym c.deref-statement.ensures) (used_first _ _ c.args.wanted.now.units.now _ (c.uses_expr-in-If.ensures bodies) c.if-uses_expr.true)))
 
 pub uses_stmt-returns-then-uses_stmt : goal.uses_stmt-returns-then-uses_stmt
 uses_stmt-returns-then-uses_stmt t c = λ bodies.
-    rw c.in-If.is (rw (stmt_of-If (under c.args.wanted.now.texts.now bodies) c.in-If.test c.in-If.yes c.in-If.no) (rw (sym c.deref-else-uses_expr.ensures) (used_behind _ _ c.args.wanted.now.units.now _ _ (c.uses_expr-in-If.ensures bodies) c.if-uses_expr.false (used_first _ _ c.args.wanted.now.units.now _ (c.uses_stmt.ensures bodies) c.if-uses_stmt.true))))
+    rw c.in-If.is (rw (stmt_of-If (under c.args.wanted.now.texts.now bodies) c.in-If.boxed) (rw (sym c.deref-statement.ensures) ((used_behind _ _ c.args.wanted.now.units.now _ _ (c.uses_expr-in-If.ensures bodies) c.if-uses_expr.false (used_first _ _ c.args.wanted.now.units.now _ (c.uses_stmt.ensures bodies) c.if-uses_stmt.true)))))
 
 pub uses_stmt-returns-else-uses_stmt : goal.uses_stmt-returns-else-uses_stmt
 uses_stmt-returns-else-uses_stmt t c = λ bodies.
-    rw c.in-If.is (rw (stmt_of-If (under c.args.wanted.now.texts.now bodies) c.in-If.test c.in-If.yes c.in-If.no) (rw (sym c.deref-else-uses_expr.ensures) (used_behind _ _ c.args.wanted.now.units.now _ _ (c.uses_expr-in-If.ensures bodies) c.if-uses_expr.false (used_behind _ _ c.args.wanted.now.units.now _ _ (c.uses_stmt.ensures bodies) c.if-uses_stmt.false (c.uses_else.ensures bodies)))))
+    rw c.in-If.is (rw (stmt_of-If (under c.args.wanted.now.texts.now bodies) c.in-If.boxed) (rw (sym c.deref-statement.ensures) ((used_behind _ _ c.args.wanted.now.units.now _ _ (c.uses_expr-in-If.ensures bodies) c.if-uses_expr.false (used_behind _ _ c.args.wanted.now.units.now _ _ (c.uses_stmt.ensures bodies) c.if-uses_stmt.false (c.uses_else.ensures bodies))))))
 
 pub uses_stmt-returns-then-uses_stmt-2 : goal.uses_stmt-returns-then-uses_stmt-2
 uses_stmt-returns-then-uses_stmt-2 t c = λ bodies.
-    rw c.in-Do.is (rw (stmt_of-Do (under c.args.wanted.now.texts.now bodies) c.in-Do.body c.in-Do.test c.in-Do.semi) (rw (sym c.deref-in-Do.ensures) (used_first _ _ c.args.wanted.now.units.now _ (c.uses_stmt-in-Do.ensures bodies) c.if-uses_stmt-2.true)))
+    rw c.in-Do.is (rw (stmt_of-Do (under c.args.wanted.now.texts.now bodies) c.in-Do.semi c.in-Do.body c.in-Do.test) (rw (sym c.deref-in-Do.ensures) (used_first _ _ c.args.wanted.now.units.now _ (c.uses_stmt-in-Do.ensures bodies) c.if-uses_stmt-2.true)))
 
 pub uses_stmt-returns-else-uses_stmt-2 : goal.uses_stmt-returns-else-uses_stmt-2
 uses_stmt-returns-else-uses_stmt-2 t c = λ bodies.
-    rw c.in-Do.is (rw (stmt_of-Do (under c.args.wanted.now.texts.now bodies) c.in-Do.body c.in-Do.test c.in-Do.semi) (rw (sym c.deref-in-Do.ensures) (used_behind _ _ c.args.wanted.now.units.now _ _ (c.uses_stmt-in-Do.ensures bodies) c.if-uses_stmt-2.false (c.uses_expr-else-uses_stmt-2.ensures bodies))))
+    rw c.in-Do.is (rw (stmt_of-Do (under c.args.wanted.now.texts.now bodies) c.in-Do.semi c.in-Do.body c.in-Do.test) (rw (sym c.deref-in-Do.ensures) (used_behind _ _ c.args.wanted.now.units.now _ _ (c.uses_stmt-in-Do.ensures bodies) c.if-uses_stmt-2.false (c.uses_expr-else-uses_stmt-2.ensures bodies))))
 
 pub uses_stmt-returns-then-uses_expr-2 : goal.uses_stmt-returns-then-uses_expr-2
 uses_stmt-returns-then-uses_expr-2 t c = λ bodies.
@@ -107,31 +109,31 @@ uses_stmt-returns-else-uses_expr-2 t c = λ bodies.
 
 pub uses_stmt-returns-then-uses_for_head : goal.uses_stmt-returns-then-uses_for_head
 uses_stmt-returns-then-uses_for_head t c = λ bodies.
-    rw c.in-For.is (rw (stmt_of-For (under c.args.wanted.now.texts.now bodies) c.in-For.init c.in-For.test c.in-For.update c.in-For.body) (used_unbound (texts_of (init_lexical_names (init_of (under c.args.wanted.now.texts.now bodies) c.in-For.init))) ((uses_init (init_of (under c.args.wanted.now.texts.now bodies) c.in-For.init)).own ++ ((uses_maybe (maybe_expr_of (option_map (expr_of (under c.args.wanted.now.texts.now bodies)) c.in-For.test))).own ++ ((uses_maybe (maybe_expr_of (option_map (expr_of (under c.args.wanted.now.texts.now bodies)) c.in-For.update))).own ++ (uses_stmt (stmt_of (under c.args.wanted.now.texts.now bodies) c.in-For.body.value)).own))) c.args.wanted.now.units.now _ _ (c.is_lexical_in_init.ensures bodies) c.if-not-is_lexical_in_init.true (used_first ((uses_init (init_of (under c.args.wanted.now.texts.now bodies) c.in-For.init)).own ++ ((uses_maybe (maybe_expr_of (option_map (expr_of (under c.args.wanted.now.texts.now bodies)) c.in-For.test))).own ++ (uses_maybe (maybe_expr_of (option_map (expr_of (under c.args.wanted.now.texts.now bodies)) c.in-For.update))).own)) (uses_stmt (stmt_of (under c.args.wanted.now.texts.now bodies) c.in-For.body.value)).own c.args.wanted.now.units.now _ (c.uses_for_head.ensures bodies) c.if-uses_for_head.true ∙ three_first (uses_init (init_of (under c.args.wanted.now.texts.now bodies) c.in-For.init)).own (uses_maybe (maybe_expr_of (option_map (expr_of (under c.args.wanted.now.texts.now bodies)) c.in-For.test))).own (uses_maybe (maybe_expr_of (option_map (expr_of (under c.args.wanted.now.texts.now bodies)) c.in-For.update))).own (uses_stmt (stmt_of (under c.args.wanted.now.texts.now bodies) c.in-For.body.value)).own c.args.wanted.now.units.now)))
+    rw c.in-For.is (rw (stmt_of-For (under c.args.wanted.now.texts.now bodies) c.in-For.boxed) (rw (sym c.deref-statement-in-For.ensures) (used_unbound (texts_of (init_lexical_names (init_of (under c.args.wanted.now.texts.now bodies) c.deref-statement-in-For.result.now.init))) ((uses_init (init_of (under c.args.wanted.now.texts.now bodies) c.deref-statement-in-For.result.now.init)).own ++ ((uses_maybe (maybe_expr_of (option_map (expr_of (under c.args.wanted.now.texts.now bodies)) c.deref-statement-in-For.result.now.test))).own ++ ((uses_maybe (maybe_expr_of (option_map (expr_of (under c.args.wanted.now.texts.now bodies)) c.deref-statement-in-For.result.now.update))).own ++ (uses_stmt (stmt_of (under c.args.wanted.now.texts.now bodies) c.deref-statement-in-For.result.now.body)).own))) c.args.wanted.now.units.now _ _ (c.is_lexical_in_init.ensures bodies) c.if-not-is_lexical_in_init.true (used_first ((uses_init (init_of (under c.args.wanted.now.texts.now bodies) c.deref-statement-in-For.result.now.init)).own ++ ((uses_maybe (maybe_expr_of (option_map (expr_of (under c.args.wanted.now.texts.now bodies)) c.deref-statement-in-For.result.now.test))).own ++ (uses_maybe (maybe_expr_of (option_map (expr_of (under c.args.wanted.now.texts.now bodies)) c.deref-statement-in-For.result.now.update))).own)) (uses_stmt (stmt_of (under c.args.wanted.now.texts.now bodies) c.deref-statement-in-For.result.now.body)).own c.args.wanted.now.units.now _ (c.uses_for_head.ensures bodies) c.if-uses_for_head.true ∙ three_first (uses_init (init_of (under c.args.wanted.now.texts.now bodies) c.deref-statement-in-For.result.now.init)).own (uses_maybe (maybe_expr_of (option_map (expr_of (under c.args.wanted.now.texts.now bodies)) c.deref-statement-in-For.result.now.test))).own (uses_maybe (maybe_expr_of (option_map (expr_of (under c.args.wanted.now.texts.now bodies)) c.deref-statement-in-For.result.now.update))).own (uses_stmt (stmt_of (under c.args.wanted.now.texts.now bodies) c.deref-statement-in-For.result.now.body)).own c.args.wanted.now.units.now))))
 
 pub uses_stmt-returns-else-uses_for_head : goal.uses_stmt-returns-else-uses_for_head
 uses_stmt-returns-else-uses_for_head t c = λ bodies.
-    rw c.in-For.is (rw (stmt_of-For (under c.args.wanted.now.texts.now bodies) c.in-For.init c.in-For.test c.in-For.update c.in-For.body) (used_unbound (texts_of (init_lexical_names (init_of (under c.args.wanted.now.texts.now bodies) c.in-For.init))) ((uses_init (init_of (under c.args.wanted.now.texts.now bodies) c.in-For.init)).own ++ ((uses_maybe (maybe_expr_of (option_map (expr_of (under c.args.wanted.now.texts.now bodies)) c.in-For.test))).own ++ ((uses_maybe (maybe_expr_of (option_map (expr_of (under c.args.wanted.now.texts.now bodies)) c.in-For.update))).own ++ (uses_stmt (stmt_of (under c.args.wanted.now.texts.now bodies) c.in-For.body.value)).own))) c.args.wanted.now.units.now _ _ (c.is_lexical_in_init.ensures bodies) c.if-not-is_lexical_in_init.true (used_behind ((uses_init (init_of (under c.args.wanted.now.texts.now bodies) c.in-For.init)).own ++ ((uses_maybe (maybe_expr_of (option_map (expr_of (under c.args.wanted.now.texts.now bodies)) c.in-For.test))).own ++ (uses_maybe (maybe_expr_of (option_map (expr_of (under c.args.wanted.now.texts.now bodies)) c.in-For.update))).own)) (uses_stmt (stmt_of (under c.args.wanted.now.texts.now bodies) c.in-For.body.value)).own c.args.wanted.now.units.now _ _ (c.uses_for_head.ensures bodies) c.if-uses_for_head.false (c.uses_stmt-else-uses_for_head.ensures bodies ∙ ap (λ (s : Stmt). has_text (uses_stmt (stmt_of (under c.args.wanted.now.texts.now bodies) s)).own c.args.wanted.now.units.now) c.deref-else-uses_for_head.ensures) ∙ three_first (uses_init (init_of (under c.args.wanted.now.texts.now bodies) c.in-For.init)).own (uses_maybe (maybe_expr_of (option_map (expr_of (under c.args.wanted.now.texts.now bodies)) c.in-For.test))).own (uses_maybe (maybe_expr_of (option_map (expr_of (under c.args.wanted.now.texts.now bodies)) c.in-For.update))).own (uses_stmt (stmt_of (under c.args.wanted.now.texts.now bodies) c.in-For.body.value)).own c.args.wanted.now.units.now)))
+    rw c.in-For.is (rw (stmt_of-For (under c.args.wanted.now.texts.now bodies) c.in-For.boxed) (rw (sym c.deref-statement-in-For.ensures) (used_unbound (texts_of (init_lexical_names (init_of (under c.args.wanted.now.texts.now bodies) c.deref-statement-in-For.result.now.init))) ((uses_init (init_of (under c.args.wanted.now.texts.now bodies) c.deref-statement-in-For.result.now.init)).own ++ ((uses_maybe (maybe_expr_of (option_map (expr_of (under c.args.wanted.now.texts.now bodies)) c.deref-statement-in-For.result.now.test))).own ++ ((uses_maybe (maybe_expr_of (option_map (expr_of (under c.args.wanted.now.texts.now bodies)) c.deref-statement-in-For.result.now.update))).own ++ (uses_stmt (stmt_of (under c.args.wanted.now.texts.now bodies) c.deref-statement-in-For.result.now.body)).own))) c.args.wanted.now.units.now _ _ (c.is_lexical_in_init.ensures bodies) c.if-not-is_lexical_in_init.true (used_behind ((uses_init (init_of (under c.args.wanted.now.texts.now bodies) c.deref-statement-in-For.result.now.init)).own ++ ((uses_maybe (maybe_expr_of (option_map (expr_of (under c.args.wanted.now.texts.now bodies)) c.deref-statement-in-For.result.now.test))).own ++ (uses_maybe (maybe_expr_of (option_map (expr_of (under c.args.wanted.now.texts.now bodies)) c.deref-statement-in-For.result.now.update))).own)) (uses_stmt (stmt_of (under c.args.wanted.now.texts.now bodies) c.deref-statement-in-For.result.now.body)).own c.args.wanted.now.units.now _ _ (c.uses_for_head.ensures bodies) c.if-uses_for_head.false (c.uses_stmt-else-uses_for_head.ensures bodies) ∙ three_first (uses_init (init_of (under c.args.wanted.now.texts.now bodies) c.deref-statement-in-For.result.now.init)).own (uses_maybe (maybe_expr_of (option_map (expr_of (under c.args.wanted.now.texts.now bodies)) c.deref-statement-in-For.result.now.test))).own (uses_maybe (maybe_expr_of (option_map (expr_of (under c.args.wanted.now.texts.now bodies)) c.deref-statement-in-For.result.now.update))).own (uses_stmt (stmt_of (under c.args.wanted.now.texts.now bodies) c.deref-statement-in-For.result.now.body)).own c.args.wanted.now.units.now))))
 
 pub uses_stmt-returns-else-not-is_lexical_in_init : goal.uses_stmt-returns-else-not-is_lexical_in_init
 uses_stmt-returns-else-not-is_lexical_in_init t c = λ bodies.
-    rw c.in-For.is (rw (stmt_of-For (under c.args.wanted.now.texts.now bodies) c.in-For.init c.in-For.test c.in-For.update c.in-For.body) (used_bound (texts_of (init_lexical_names (init_of (under c.args.wanted.now.texts.now bodies) c.in-For.init))) ((uses_init (init_of (under c.args.wanted.now.texts.now bodies) c.in-For.init)).own ++ ((uses_maybe (maybe_expr_of (option_map (expr_of (under c.args.wanted.now.texts.now bodies)) c.in-For.test))).own ++ ((uses_maybe (maybe_expr_of (option_map (expr_of (under c.args.wanted.now.texts.now bodies)) c.in-For.update))).own ++ (uses_stmt (stmt_of (under c.args.wanted.now.texts.now bodies) c.in-For.body.value)).own))) c.args.wanted.now.units.now _ (c.is_lexical_in_init.ensures bodies) c.if-not-is_lexical_in_init.false))
+    rw c.in-For.is (rw (stmt_of-For (under c.args.wanted.now.texts.now bodies) c.in-For.boxed) (rw (sym c.deref-statement-in-For.ensures) (used_bound (texts_of (init_lexical_names (init_of (under c.args.wanted.now.texts.now bodies) c.deref-statement-in-For.result.now.init))) ((uses_init (init_of (under c.args.wanted.now.texts.now bodies) c.deref-statement-in-For.result.now.init)).own ++ ((uses_maybe (maybe_expr_of (option_map (expr_of (under c.args.wanted.now.texts.now bodies)) c.deref-statement-in-For.result.now.test))).own ++ ((uses_maybe (maybe_expr_of (option_map (expr_of (under c.args.wanted.now.texts.now bodies)) c.deref-statement-in-For.result.now.update))).own ++ (uses_stmt (stmt_of (under c.args.wanted.now.texts.now bodies) c.deref-statement-in-For.result.now.body)).own))) c.args.wanted.now.units.now _ (c.is_lexical_in_init.ensures bodies) c.if-not-is_lexical_in_init.false)))
 
 pub uses_stmt-returns-then-uses_for_in_head : goal.uses_stmt-returns-then-uses_for_in_head
 uses_stmt-returns-then-uses_for_in_head t c = λ bodies.
-    rw c.in-ForIn.is (rw (stmt_of-ForIn (under c.args.wanted.now.texts.now bodies) c.in-ForIn.each c.in-ForIn.over c.in-ForIn.body) (used_unbound (texts_of (each_lexical_names (each_of (under c.args.wanted.now.texts.now bodies) c.in-ForIn.each))) ((uses_each (each_of (under c.args.wanted.now.texts.now bodies) c.in-ForIn.each)).own ++ ((uses_expr (expr_of (under c.args.wanted.now.texts.now bodies) c.in-ForIn.over)).own ++ (uses_stmt (stmt_of (under c.args.wanted.now.texts.now bodies) c.in-ForIn.body.value)).own)) c.args.wanted.now.units.now _ _ (c.is_lexical_in_each.ensures bodies) c.if-not-is_lexical_in_each.true (used_first ((uses_each (each_of (under c.args.wanted.now.texts.now bodies) c.in-ForIn.each)).own ++ (uses_expr (expr_of (under c.args.wanted.now.texts.now bodies) c.in-ForIn.over)).own) (uses_stmt (stmt_of (under c.args.wanted.now.texts.now bodies) c.in-ForIn.body.value)).own c.args.wanted.now.units.now _ (c.uses_for_in_head.ensures bodies) c.if-uses_for_in_head.true ∙ two_first (uses_each (each_of (under c.args.wanted.now.texts.now bodies) c.in-ForIn.each)).own (uses_expr (expr_of (under c.args.wanted.now.texts.now bodies) c.in-ForIn.over)).own (uses_stmt (stmt_of (under c.args.wanted.now.texts.now bodies) c.in-ForIn.body.value)).own c.args.wanted.now.units.now)))
+    rw c.in-ForIn.is (rw (stmt_of-ForIn (under c.args.wanted.now.texts.now bodies) c.in-ForIn.boxed) (rw (sym c.deref-statement-in-ForIn.ensures) (used_unbound (texts_of (each_lexical_names (each_of (under c.args.wanted.now.texts.now bodies) (out-ForInStatement c.deref-statement-in-ForIn.result.now).each))) ((uses_each (each_of (under c.args.wanted.now.texts.now bodies) (out-ForInStatement c.deref-statement-in-ForIn.result.now).each)).own ++ ((uses_expr (expr_of (under c.args.wanted.now.texts.now bodies) (out-ForInStatement c.deref-statement-in-ForIn.result.now).over)).own ++ (uses_stmt (stmt_of (under c.args.wanted.now.texts.now bodies) (out-ForInStatement c.deref-statement-in-ForIn.result.now).body)).own)) c.args.wanted.now.units.now _ _ (c.is_lexical_in_each.ensures bodies) c.if-not-is_lexical_in_each.true (used_first ((uses_each (each_of (under c.args.wanted.now.texts.now bodies) (out-ForInStatement c.deref-statement-in-ForIn.result.now).each)).own ++ (uses_expr (expr_of (under c.args.wanted.now.texts.now bodies) (out-ForInStatement c.deref-statement-in-ForIn.result.now).over)).own) (uses_stmt (stmt_of (under c.args.wanted.now.texts.now bodies) (out-ForInStatement c.deref-statement-in-ForIn.result.now).body)).own c.args.wanted.now.units.now _ (c.uses_for_in_head.ensures bodies) c.if-uses_for_in_head.true ∙ two_first (uses_each (each_of (under c.args.wanted.now.texts.now bodies) (out-ForInStatement c.deref-statement-in-ForIn.result.now).each)).own (uses_expr (expr_of (under c.args.wanted.now.texts.now bodies) (out-ForInStatement c.deref-statement-in-ForIn.result.now).over)).own (uses_stmt (stmt_of (under c.args.wanted.now.texts.now bodies) (out-ForInStatement c.deref-statement-in-ForIn.result.now).body)).own c.args.wanted.now.units.now))))
 
 pub uses_stmt-returns-else-uses_for_in_head : goal.uses_stmt-returns-else-uses_for_in_head
 uses_stmt-returns-else-uses_for_in_head t c = λ bodies.
-    rw c.in-ForIn.is (rw (stmt_of-ForIn (under c.args.wanted.now.texts.now bodies) c.in-ForIn.each c.in-ForIn.over c.in-ForIn.body) (used_unbound (texts_of (each_lexical_names (each_of (under c.args.wanted.now.texts.now bodies) c.in-ForIn.each))) ((uses_each (each_of (under c.args.wanted.now.texts.now bodies) c.in-ForIn.each)).own ++ ((uses_expr (expr_of (under c.args.wanted.now.texts.now bodies) c.in-ForIn.over)).own ++ (uses_stmt (stmt_of (under c.args.wanted.now.texts.now bodies) c.in-ForIn.body.value)).own)) c.args.wanted.now.units.now _ _ (c.is_lexical_in_each.ensures bodies) c.if-not-is_lexical_in_each.true (used_behind ((uses_each (each_of (under c.args.wanted.now.texts.now bodies) c.in-ForIn.each)).own ++ (uses_expr (expr_of (under c.args.wanted.now.texts.now bodies) c.in-ForIn.over)).own) (uses_stmt (stmt_of (under c.args.wanted.now.texts.now bodies) c.in-ForIn.body.value)).own c.args.wanted.now.units.now _ _ (c.uses_for_in_head.ensures bodies) c.if-uses_for_in_head.false (c.uses_stmt-else-uses_for_in_head.ensures bodies ∙ ap (λ (s : Stmt). has_text (uses_stmt (stmt_of (under c.args.wanted.now.texts.now bodies) s)).own c.args.wanted.now.units.now) c.deref-else-uses_for_in_head.ensures) ∙ two_first (uses_each (each_of (under c.args.wanted.now.texts.now bodies) c.in-ForIn.each)).own (uses_expr (expr_of (under c.args.wanted.now.texts.now bodies) c.in-ForIn.over)).own (uses_stmt (stmt_of (under c.args.wanted.now.texts.now bodies) c.in-ForIn.body.value)).own c.args.wanted.now.units.now)))
+    rw c.in-ForIn.is (rw (stmt_of-ForIn (under c.args.wanted.now.texts.now bodies) c.in-ForIn.boxed) (rw (sym c.deref-statement-in-ForIn.ensures) (used_unbound (texts_of (each_lexical_names (each_of (under c.args.wanted.now.texts.now bodies) (out-ForInStatement c.deref-statement-in-ForIn.result.now).each))) ((uses_each (each_of (under c.args.wanted.now.texts.now bodies) (out-ForInStatement c.deref-statement-in-ForIn.result.now).each)).own ++ ((uses_expr (expr_of (under c.args.wanted.now.texts.now bodies) (out-ForInStatement c.deref-statement-in-ForIn.result.now).over)).own ++ (uses_stmt (stmt_of (under c.args.wanted.now.texts.now bodies) (out-ForInStatement c.deref-statement-in-ForIn.result.now).body)).own)) c.args.wanted.now.units.now _ _ (c.is_lexical_in_each.ensures bodies) c.if-not-is_lexical_in_each.true (used_behind ((uses_each (each_of (under c.args.wanted.now.texts.now bodies) (out-ForInStatement c.deref-statement-in-ForIn.result.now).each)).own ++ (uses_expr (expr_of (under c.args.wanted.now.texts.now bodies) (out-ForInStatement c.deref-statement-in-ForIn.result.now).over)).own) (uses_stmt (stmt_of (under c.args.wanted.now.texts.now bodies) (out-ForInStatement c.deref-statement-in-ForIn.result.now).body)).own c.args.wanted.now.units.now _ _ (c.uses_for_in_head.ensures bodies) c.if-uses_for_in_head.false (c.uses_stmt-else-uses_for_in_head.ensures bodies) ∙ two_first (uses_each (each_of (under c.args.wanted.now.texts.now bodies) (out-ForInStatement c.deref-statement-in-ForIn.result.now).each)).own (uses_expr (expr_of (under c.args.wanted.now.texts.now bodies) (out-ForInStatement c.deref-statement-in-ForIn.result.now).over)).own (uses_stmt (stmt_of (under c.args.wanted.now.texts.now bodies) (out-ForInStatement c.deref-statement-in-ForIn.result.now).body)).own c.args.wanted.now.units.now))))
 
 pub uses_stmt-returns-else-not-is_lexical_in_each : goal.uses_stmt-returns-else-not-is_lexical_in_each
 uses_stmt-returns-else-not-is_lexical_in_each t c = λ bodies.
-    rw c.in-ForIn.is (rw (stmt_of-ForIn (under c.args.wanted.now.texts.now bodies) c.in-ForIn.each c.in-ForIn.over c.in-ForIn.body) (used_bound (texts_of (each_lexical_names (each_of (under c.args.wanted.now.texts.now bodies) c.in-ForIn.each))) ((uses_each (each_of (under c.args.wanted.now.texts.now bodies) c.in-ForIn.each)).own ++ ((uses_expr (expr_of (under c.args.wanted.now.texts.now bodies) c.in-ForIn.over)).own ++ (uses_stmt (stmt_of (under c.args.wanted.now.texts.now bodies) c.in-ForIn.body.value)).own)) c.args.wanted.now.units.now _ (c.is_lexical_in_each.ensures bodies) c.if-not-is_lexical_in_each.false))
+    rw c.in-ForIn.is (rw (stmt_of-ForIn (under c.args.wanted.now.texts.now bodies) c.in-ForIn.boxed) (rw (sym c.deref-statement-in-ForIn.ensures) (used_bound (texts_of (each_lexical_names (each_of (under c.args.wanted.now.texts.now bodies) (out-ForInStatement c.deref-statement-in-ForIn.result.now).each))) ((uses_each (each_of (under c.args.wanted.now.texts.now bodies) (out-ForInStatement c.deref-statement-in-ForIn.result.now).each)).own ++ ((uses_expr (expr_of (under c.args.wanted.now.texts.now bodies) (out-ForInStatement c.deref-statement-in-ForIn.result.now).over)).own ++ (uses_stmt (stmt_of (under c.args.wanted.now.texts.now bodies) (out-ForInStatement c.deref-statement-in-ForIn.result.now).body)).own)) c.args.wanted.now.units.now _ (c.is_lexical_in_each.ensures bodies) c.if-not-is_lexical_in_each.false)))
 
 pub uses_stmt-returns-in-Return : goal.uses_stmt-returns-in-Return
 uses_stmt-returns-in-Return t c = λ bodies.
-    rw c.in-Return.is (rw (stmt_of-Return (under c.args.wanted.now.texts.now bodies) c.in-Return.value c.in-Return.semi) (c.uses_maybe.ensures bodies))
+    rw c.in-Return.is (rw (stmt_of-Return (under c.args.wanted.now.texts.now bodies) c.in-Return.semi c.in-Return.value) (c.uses_maybe.ensures bodies))
 
 pub uses_stmt-returns-in-Throw : goal.uses_stmt-returns-in-Throw
 uses_stmt-returns-in-Throw t c = λ bodies.
@@ -139,11 +141,11 @@ uses_stmt-returns-in-Throw t c = λ bodies.
 
 pub uses_stmt-returns-then-uses_expr-3 : goal.uses_stmt-returns-then-uses_expr-3
 uses_stmt-returns-then-uses_expr-3 t c = λ bodies.
-    rw c.in-Switch.is (rw (stmt_of-Switch (under c.args.wanted.now.texts.now bodies) c.in-Switch.of c.in-Switch.clauses) (used_first _ _ c.args.wanted.now.units.now _ (c.uses_expr-in-Switch.ensures bodies) c.if-uses_expr-3.true))
+    rw c.in-Switch.is (rw (stmt_of-Switch (under c.args.wanted.now.texts.now bodies) c.in-Switch.boxed) (rw (sym c.deref-statement-in-Switch.ensures) (used_first _ _ c.args.wanted.now.units.now _ (c.uses_expr-in-Switch.ensures bodies) c.if-uses_expr-3.true)))
 
 pub uses_stmt-returns-else-uses_expr-3 : goal.uses_stmt-returns-else-uses_expr-3
 uses_stmt-returns-else-uses_expr-3 t c = λ bodies.
-    rw c.in-Switch.is (rw (stmt_of-Switch (under c.args.wanted.now.texts.now bodies) c.in-Switch.of c.in-Switch.clauses) (rw (sym c.deref-else-uses_expr-3.ensures.value) (used_behind _ _ c.args.wanted.now.units.now _ _ (c.uses_expr-in-Switch.ensures bodies) c.if-uses_expr-3.false (c.uses_switch.ensures bodies))))
+    rw c.in-Switch.is (rw (stmt_of-Switch (under c.args.wanted.now.texts.now bodies) c.in-Switch.boxed) (rw (sym c.deref-statement-in-Switch.ensures) (rw (sym c.deref-else-uses_expr-3.ensures.value) (used_behind _ _ c.args.wanted.now.units.now _ _ (c.uses_expr-in-Switch.ensures bodies) c.if-uses_expr-3.false (c.uses_switch.ensures bodies)))))
 
 pub uses_stmt-returns-in-Label : goal.uses_stmt-returns-in-Label
 uses_stmt-returns-in-Label t c = λ bodies.
@@ -151,16 +153,16 @@ uses_stmt-returns-in-Label t c = λ bodies.
 
 pub uses_stmt-returns-then-uses_block : goal.uses_stmt-returns-then-uses_block
 uses_stmt-returns-then-uses_block t c = λ bodies.
-    rw c.in-Try.is (rw (stmt_of-Try (under c.args.wanted.now.texts.now bodies) c.in-Try.body c.in-Try.param c.in-Try.handler) (rw (sym c.deref-in-Try.ensures.value) (used_first _ _ c.args.wanted.now.units.now _ (c.uses_block-in-Try.ensures bodies) c.if-uses_block.true)))
+    rw c.in-Try.is (rw (stmt_of-Try (under c.args.wanted.now.texts.now bodies) c.in-Try.boxed) (rw (sym c.deref-statement-in-Try.ensures) (rw (sym c.deref-in-Try.ensures.value) (used_first _ _ c.args.wanted.now.units.now _ (c.uses_block-in-Try.ensures bodies) c.if-uses_block.true))))
 
 pub uses_stmt-returns-then-not-is_named : goal.uses_stmt-returns-then-not-is_named
 uses_stmt-returns-then-not-is_named t c = λ bodies.
-    rw c.in-Try.is (rw (stmt_of-Try (under c.args.wanted.now.texts.now bodies) c.in-Try.body c.in-Try.param c.in-Try.handler) (rw (sym c.deref-in-Try.ensures.value) (rw (sym c.deref-then-not-is_named.ensures.value) (used_behind _ _ c.args.wanted.now.units.now _ _ (c.uses_block-in-Try.ensures bodies) c.if-uses_block.false (used_unbound (name_list (maybe_named (under c.args.wanted.now.texts.now bodies) c.in-Try.param)) (texts_without (texts_of (lexical_names (stmts_of (map (stmt_of (under c.args.wanted.now.texts.now bodies)) c.deref-then-not-is_named.result.now)))) (uses_stmts (stmts_of (map (stmt_of (under c.args.wanted.now.texts.now bodies)) c.deref-then-not-is_named.result.now))).own) c.args.wanted.now.units.now _ _ (c.is_named.ensures bodies) c.if-not-is_named.true (c.uses_block-then-not-is_named.ensures bodies))))))
+    rw c.in-Try.is (rw (stmt_of-Try (under c.args.wanted.now.texts.now bodies) c.in-Try.boxed) (rw (sym c.deref-statement-in-Try.ensures) (rw (sym c.deref-in-Try.ensures.value) (rw (sym c.deref-then-not-is_named.ensures.value) (used_behind _ _ c.args.wanted.now.units.now _ _ (c.uses_block-in-Try.ensures bodies) c.if-uses_block.false (used_unbound (name_list (maybe_named (under c.args.wanted.now.texts.now bodies) (out-TryStatement c.deref-statement-in-Try.result.now).param)) (texts_without (texts_of (lexical_names (stmts_of (map (stmt_of (under c.args.wanted.now.texts.now bodies)) c.deref-then-not-is_named.result.now)))) (uses_stmts (stmts_of (map (stmt_of (under c.args.wanted.now.texts.now bodies)) c.deref-then-not-is_named.result.now))).own) c.args.wanted.now.units.now _ _ (c.is_named.ensures bodies) c.if-not-is_named.true (c.uses_block-then-not-is_named.ensures bodies)))))))
 
 pub uses_stmt-returns-else-not-is_named : goal.uses_stmt-returns-else-not-is_named
 uses_stmt-returns-else-not-is_named t c = λ bodies.
-    rw c.in-Try.is (rw (stmt_of-Try (under c.args.wanted.now.texts.now bodies) c.in-Try.body c.in-Try.param c.in-Try.handler) (rw (sym c.deref-in-Try.ensures.value) (used_behind _ _ c.args.wanted.now.units.now _ _ (c.uses_block-in-Try.ensures bodies) c.if-uses_block.false (used_bound (name_list (maybe_named (under c.args.wanted.now.texts.now bodies) c.in-Try.param)) (texts_without (texts_of (lexical_names (stmts_of (map (stmt_of (under c.args.wanted.now.texts.now bodies)) c.in-Try.handler.items)))) (uses_stmts (stmts_of (map (stmt_of (under c.args.wanted.now.texts.now bodies)) c.in-Try.handler.items))).own) c.args.wanted.now.units.now _ (c.is_named.ensures bodies) c.if-not-is_named.false))))
+    rw c.in-Try.is (rw (stmt_of-Try (under c.args.wanted.now.texts.now bodies) c.in-Try.boxed) (rw (sym c.deref-statement-in-Try.ensures) (rw (sym c.deref-in-Try.ensures.value) (used_behind _ _ c.args.wanted.now.units.now _ _ (c.uses_block-in-Try.ensures bodies) c.if-uses_block.false (used_bound (name_list (maybe_named (under c.args.wanted.now.texts.now bodies) (out-TryStatement c.deref-statement-in-Try.result.now).param)) (texts_without (texts_of (lexical_names (stmts_of (map (stmt_of (under c.args.wanted.now.texts.now bodies)) (out-TryStatement c.deref-statement-in-Try.result.now).handler.items)))) (uses_stmts (stmts_of (map (stmt_of (under c.args.wanted.now.texts.now bodies)) (out-TryStatement c.deref-statement-in-Try.result.now).handler.items))).own) c.args.wanted.now.units.now _ (c.is_named.ensures bodies) c.if-not-is_named.false)))))
 
 pub uses_stmt-returns-in-Func : goal.uses_stmt-returns-in-Func
 uses_stmt-returns-in-Func t c = λ bodies.
-    rw c.in-Func.is (rw (stmt_of-Func (under c.args.wanted.now.texts.now bodies) c.in-Func.field-0) (rw (func_of-fields (under c.args.wanted.now.texts.now bodies) c.in-Func.field-0) refl))
+    rw c.in-Func.is (rw (stmt_of-Func (under c.args.wanted.now.texts.now bodies) c.in-Func.field-0) (rw (func_of-fields (under c.args.wanted.now.texts.now bodies) c.in-Func.field-0.value) refl))

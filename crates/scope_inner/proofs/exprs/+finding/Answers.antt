@@ -5,6 +5,7 @@ use Rattle.script_grammar.proofs.tree.Expr.TheLaws.{the_size}
 use Rattle.script_grammar.specs.declared.tree.Args.{Args}
 use Rattle.script_grammar.specs.declared.tree.Expr.{Expr}
 use Rattle.script_grammar.specs.declared.tree.Func.{Func}
+use Rattle.script_grammar.specs.declared.tree.NewExpression.{NewExpression, out-NewExpression}
 use Rattle.script_grammar.specs.declared.tree.Operand.{Operand}
 use Rattle.script_grammar.specs.declared.tree.Prop.{Prop}
 use Rattle.script_grammar.specs.declared.tree.Tail.{Tail}
@@ -68,7 +69,7 @@ pub find_expr-returns-in_ok-find_tails-in-Chain : goal.find_expr-returns-in_ok-f
 find_expr-returns-in_ok-find_tails-in-Chain t c = expr_is c.args.tree.now (λ i. model.Chain (expr_of i c.in-Chain.head.value) (tails_of (map (tail_of i) c.in-Chain.tails.items))) (λ i. ap (expr_of i) c.in-Chain.is ∙ equation.expr_of-Chain i c.in-Chain.head c.in-Chain.tails) (λ i r. ap₂ (λ (v : Expr) (l : List Tail). inner_expr (expr_of i v) r ++ inner_tails (tails_of (map (tail_of i) l)) r) c.deref-in-Chain.ensures c.deref-in-Chain-2.ensures.value) (found_both c.in_ok-find_expr-in-Chain.ensures c.in_ok-find_tails-in-Chain.ensures)
 
 pub find_expr-returns-in_ok-find_args-in-New : goal.find_expr-returns-in_ok-find_args-in-New
-find_expr-returns-in_ok-find_args-in-New t c = expr_is c.args.tree.now (λ i. model.New c.in-New.at (expr_of i c.in-New.callee.value) (maybe_args_of (option_map (args_of i) c.in-New.args))) (λ i. ap (expr_of i) c.in-New.is ∙ equation.expr_of-New i c.in-New.at c.in-New.callee c.in-New.args) (λ i r. ap (λ (v : Expr). inner_expr (expr_of i v) r ++ inner_args (maybe_args_of (option_map (args_of i) c.in-New.args)) r) c.deref-in-New.ensures) (found_both c.in_ok-find_expr-in-New.ensures c.in_ok-find_args-in-New.ensures)
+find_expr-returns-in_ok-find_args-in-New t c = expr_is c.args.tree.now (λ i. model.New (out-NewExpression c.deref-new.result.now).at (expr_of i (out-NewExpression c.deref-new.result.now).callee) (maybe_args_of (option_map (args_of i) (out-NewExpression c.deref-new.result.now).args))) (λ i. ap (expr_of i) c.in-New.is ∙ (equation.expr_of-New i c.in-New.boxed ∙ ap (λ (z : NewExpression). model.New (out-NewExpression z).at (expr_of i (out-NewExpression z).callee) (maybe_args_of (option_map (args_of i) (out-NewExpression z).args))) (sym c.deref-new.ensures))) (λ i r. refl) (found_both c.in_ok-find_expr-in-New.ensures c.in_ok-find_args-in-New.ensures)
 
 pub find_expr-returns-in_ok-find_operands-in-Binary : goal.find_expr-returns-in_ok-find_operands-in-Binary
 find_expr-returns-in_ok-find_operands-in-Binary t c = expr_is c.args.tree.now (λ i. model.Binary (expr_of i c.in-Binary.first.value) (operands_of (map (operand_of i) c.in-Binary.rest.items))) (λ i. ap (expr_of i) c.in-Binary.is ∙ equation.expr_of-Binary i c.in-Binary.first c.in-Binary.rest) (λ i r. ap₂ (λ (v : Expr) (l : List Operand). inner_expr (expr_of i v) r ++ inner_operands (operands_of (map (operand_of i) l)) r) c.deref-in-Binary.ensures c.deref-in-Binary-2.ensures.value) (found_both c.in_ok-find_expr-in-Binary.ensures c.in_ok-find_operands-in-Binary.ensures)
@@ -176,13 +177,13 @@ pub find_prop-returns-in_ok-find_expr-in-Pair : goal.find_prop-returns-in_ok-fin
 find_prop-returns-in_ok-find_expr-in-Pair t c = prop_is c.args.prop.now (λ i. model.Pair (key_of i c.in-Pair.key) (expr_of i c.in-Pair.value)) (λ i. ap (prop_of i) c.in-Pair.is ∙ equation.prop_of-Pair i c.in-Pair.key c.in-Pair.value) (λ i r. refl) (found_both c.in_ok-find_key-in-Pair.ensures c.in_ok-find_expr-in-Pair.ensures)
 
 pub find_prop-returns-in_ok-find_nameless-in-Method : goal.find_prop-returns-in_ok-find_nameless-in-Method
-find_prop-returns-in_ok-find_nameless-in-Method t c = prop_is c.args.prop.now (λ i. model.Method (key_of i c.in-Method.key) (func_of i c.in-Method.func)) (λ i. ap (prop_of i) c.in-Method.is ∙ equation.prop_of-Method i c.in-Method.key c.in-Method.func) (λ i r. refl) (found_both c.in_ok-find_key-in-Method.ensures c.in_ok-find_nameless-in-Method.ensures)
+find_prop-returns-in_ok-find_nameless-in-Method t c = prop_is c.args.prop.now (λ i. model.Method (key_of i c.in-Method.key) (func_of i c.deref.result.now)) (λ i. ap (prop_of i) c.in-Method.is ∙ (equation.prop_of-Method i c.in-Method.key c.in-Method.func ∙ ap (λ (f : Func). model.Method (key_of i c.in-Method.key) (func_of i f)) (sym c.deref.ensures))) (λ i r. refl) (found_both c.in_ok-find_key-in-Method.ensures c.in_ok-find_nameless-in-Method.ensures)
 
 pub find_prop-returns-in_ok-find_nameless-in-Get : goal.find_prop-returns-in_ok-find_nameless-in-Get
-find_prop-returns-in_ok-find_nameless-in-Get t c = prop_is c.args.prop.now (λ i. model.Get (key_of i c.in-Get.key) (func_of i c.in-Get.func)) (λ i. ap (prop_of i) c.in-Get.is ∙ equation.prop_of-Get i c.in-Get.key c.in-Get.func) (λ i r. refl) (found_both c.in_ok-find_key-in-Get.ensures c.in_ok-find_nameless-in-Get.ensures)
+find_prop-returns-in_ok-find_nameless-in-Get t c = prop_is c.args.prop.now (λ i. model.Get (key_of i c.in-Get.key) (func_of i c.deref-in-Get.result.now)) (λ i. ap (prop_of i) c.in-Get.is ∙ (equation.prop_of-Get i c.in-Get.key c.in-Get.func ∙ ap (λ (f : Func). model.Get (key_of i c.in-Get.key) (func_of i f)) (sym c.deref-in-Get.ensures))) (λ i r. refl) (found_both c.in_ok-find_key-in-Get.ensures c.in_ok-find_nameless-in-Get.ensures)
 
 pub find_prop-returns-in_ok-find_nameless-in-Set : goal.find_prop-returns-in_ok-find_nameless-in-Set
-find_prop-returns-in_ok-find_nameless-in-Set t c = prop_is c.args.prop.now (λ i. model.Set (key_of i c.in-Set.key) (func_of i c.in-Set.func)) (λ i. ap (prop_of i) c.in-Set.is ∙ equation.prop_of-Set i c.in-Set.key c.in-Set.func) (λ i r. refl) (found_both c.in_ok-find_key-in-Set.ensures c.in_ok-find_nameless-in-Set.ensures)
+find_prop-returns-in_ok-find_nameless-in-Set t c = prop_is c.args.prop.now (λ i. model.Set (key_of i c.in-Set.key) (func_of i c.deref-in-Set.result.now)) (λ i. ap (prop_of i) c.in-Set.is ∙ (equation.prop_of-Set i c.in-Set.key c.in-Set.func ∙ ap (λ (f : Func). model.Set (key_of i c.in-Set.key) (func_of i f)) (sym c.deref-in-Set.ensures))) (λ i r. refl) (found_both c.in_ok-find_key-in-Set.ensures c.in_ok-find_nameless-in-Set.ensures)
 
 pub find_items-find_maybe-requires : goal.find_items-find_maybe-requires
 find_items-find_maybe-requires t c =

@@ -1,4 +1,5 @@
 use Rattle.std.proofs.Common.{List, Option, option_map, drop_of_length-le, refl, sym, ◌∙◌, ap}
+use Rattle.script_grammar.specs.declared.tree.Func.{Func}
 use Rattle.script_grammar.specs.declared.tree.Clause.{Clause}
 use Rattle.script_grammar.specs.declared.tree.Stmt.{Stmt}
 use Rattle.script_grammar.specs.Interpretation.{maybe_named}
@@ -94,13 +95,13 @@ pub find_stmt-returns-in_ok-find_expr-in-Throw : goal.find_stmt-returns-in_ok-fi
 find_stmt-returns-in_ok-find_expr-in-Throw t c = arm.stmt_at _ (λ i. model.Throw (expr_of i c.in-Throw.value) c.in-Throw.semi) (λ i. ap (stmt_of i) c.in-Throw.is ∙ equation.stmt_of-Throw i c.in-Throw.value c.in-Throw.semi) (record { all = plainly c.in_ok-find_expr-in-Throw.ensures })
 
 pub find_stmt-returns-in_ok-find_maybe-in-Return : goal.find_stmt-returns-in_ok-find_maybe-in-Return
-find_stmt-returns-in_ok-find_maybe-in-Return t c = arm.stmt_at _ (λ i. model.Return (maybe_expr_of (option_map (expr_of i) c.in-Return.value)) c.in-Return.semi) (λ i. ap (stmt_of i) c.in-Return.is ∙ equation.stmt_of-Return i c.in-Return.value c.in-Return.semi) (record { all = plainly c.in_ok-find_maybe-in-Return.ensures })
+find_stmt-returns-in_ok-find_maybe-in-Return t c = arm.stmt_at _ (λ i. model.Return (maybe_expr_of (option_map (expr_of i) c.in-Return.value)) c.in-Return.semi) (λ i. ap (stmt_of i) c.in-Return.is ∙ equation.stmt_of-Return i c.in-Return.semi c.in-Return.value) (record { all = plainly c.in_ok-find_maybe-in-Return.ensures })
 
 pub find_stmt-returns-in_ok-find_named-in-Func : goal.find_stmt-returns-in_ok-find_named-in-Func
-find_stmt-returns-in_ok-find_named-in-Func t c = arm.stmt_at _ (λ i. model.Declared (func_of i c.in-Func.func)) (λ i. ap (stmt_of i) c.in-Func.is ∙ equation.stmt_of-Func i c.in-Func.func) (record { all = plainly c.in_ok-find_named-in-Func.ensures })
+find_stmt-returns-in_ok-find_named-in-Func t c = arm.stmt_at _ (λ i. model.Declared (func_of i c.deref-in-Func.result.now)) (λ i. ap (stmt_of i) c.in-Func.is ∙ (equation.stmt_of-Func i c.in-Func.func ∙ ap (λ (f : Func). model.Declared (func_of i f)) (sym c.deref-in-Func.ensures))) (record { all = plainly c.in_ok-find_named-in-Func.ensures })
 
 pub find_stmt-returns-in_ok-find_else-in-If : goal.find_stmt-returns-in_ok-find_else-in-If
-find_stmt-returns-in_ok-find_else-in-If t c = arm.at_if _ c.in-If.test c.in-If.yes c.in-If.no c.deref-in-If.result.now c.in-If.is c.deref-in-If.ensures (record { all = both (before c.in_ok-find_expr-in-If.ensures c.in_ok-find_stmt-in-If.ensures.row.all) c.in_ok-find_else-in-If.ensures.all })
+find_stmt-returns-in_ok-find_else-in-If t c = arm.at_if _ c.in-If.boxed c.deref-statement.result.now c.in-If.is c.deref-statement.ensures (record { all = both (before c.in_ok-find_expr-in-If.ensures c.in_ok-find_stmt-in-If.ensures.row.all) c.in_ok-find_else-in-If.ensures.all })
 
 pub find_stmt-returns-in_ok-find_expr-in-Do : goal.find_stmt-returns-in_ok-find_expr-in-Do
 find_stmt-returns-in_ok-find_expr-in-Do t c = arm.at_do _ c.in-Do.body c.in-Do.test c.in-Do.semi c.deref-in-Do.result.now c.in-Do.is c.deref-in-Do.ensures (record { all = behind c.in_ok-find_stmt-in-Do.ensures.row.all c.in_ok-find_expr-in-Do.ensures })
@@ -109,16 +110,16 @@ pub find_stmt-returns-in_ok-find_stmt-in-While : goal.find_stmt-returns-in_ok-fi
 find_stmt-returns-in_ok-find_stmt-in-While t c = arm.at_while _ c.in-While.test c.in-While.body c.deref-in-While.result.now c.in-While.is c.deref-in-While.ensures (record { all = before c.in_ok-find_expr-in-While.ensures c.in_ok-find_stmt-in-While.ensures.row.all })
 
 pub find_stmt-returns-in_ok-find_for-in-For : goal.find_stmt-returns-in_ok-find_for-in-For
-find_stmt-returns-in_ok-find_for-in-For t c = arm.at_for _ c.in-For.init c.in-For.test c.in-For.update c.in-For.body c.deref-in-For.result.now c.in-For.is c.deref-in-For.ensures c.in_ok-find_for-in-For.ensures
+find_stmt-returns-in_ok-find_for-in-For t c = arm.at_for _ c.in-For.boxed c.deref-statement-in-For.result.now c.in-For.is c.deref-statement-in-For.ensures c.in_ok-find_for-in-For.ensures
 
 pub find_stmt-returns-in_ok-find_for_in-in-ForIn : goal.find_stmt-returns-in_ok-find_for_in-in-ForIn
-find_stmt-returns-in_ok-find_for_in-in-ForIn t c = arm.at_for_in _ c.in-ForIn.each c.in-ForIn.over c.in-ForIn.body c.deref-in-ForIn.result.now c.in-ForIn.is c.deref-in-ForIn.ensures c.in_ok-find_for_in-in-ForIn.ensures
+find_stmt-returns-in_ok-find_for_in-in-ForIn t c = arm.at_for_in _ c.in-ForIn.boxed c.deref-statement-in-ForIn.result.now c.in-ForIn.is c.deref-statement-in-ForIn.ensures c.in_ok-find_for_in-in-ForIn.ensures
 
 pub find_stmt-returns-in_ok-find_switch-in-Switch : goal.find_stmt-returns-in_ok-find_switch-in-Switch
-find_stmt-returns-in_ok-find_switch-in-Switch t c = arm.at_switch _ c.in-Switch.of c.in-Switch.clauses c.deref-in-Switch.result.now c.in-Switch.is c.deref-in-Switch.ensures.value (record { all = before c.in_ok-find_expr-in-Switch.ensures c.in_ok-find_switch-in-Switch.ensures.all })
+find_stmt-returns-in_ok-find_switch-in-Switch t c = arm.at_switch _ c.in-Switch.boxed c.deref-statement-in-Switch.result.now c.deref-in-Switch.result.now c.in-Switch.is c.deref-statement-in-Switch.ensures c.deref-in-Switch.ensures.value (record { all = before c.in_ok-find_expr-in-Switch.ensures c.in_ok-find_switch-in-Switch.ensures.all })
 
 pub find_stmt-returns-in_ok-find_stmt-in-Label : goal.find_stmt-returns-in_ok-find_stmt-in-Label
 find_stmt-returns-in_ok-find_stmt-in-Label t c = arm.at_label _ c.in-Label.name c.in-Label.body c.deref-in-Label.result.now c.in-Label.is c.deref-in-Label.ensures (record { all = c.in_ok-find_stmt-in-Label.ensures.row.all })
 
 pub find_stmt-returns-in_ok-find_handler-in-Try : goal.find_stmt-returns-in_ok-find_handler-in-Try
-find_stmt-returns-in_ok-find_handler-in-Try t c = arm.at_try _ c.in-Try.body c.in-Try.param c.in-Try.handler c.deref-in-Try.result.now c.deref-in-Try-2.result.now c.in-Try.is c.deref-in-Try.ensures.value c.deref-in-Try-2.ensures.value (record { all = both c.in_ok-find_block-in-Try.ensures.all c.in_ok-find_handler-in-Try.ensures.all })
+find_stmt-returns-in_ok-find_handler-in-Try t c = arm.at_try _ c.in-Try.boxed c.deref-statement-in-Try.result.now c.deref-in-Try.result.now c.deref-in-Try-2.result.now c.in-Try.is c.deref-statement-in-Try.ensures c.deref-in-Try.ensures.value c.deref-in-Try-2.ensures.value (record { all = both c.in_ok-find_block-in-Try.ensures.all c.in_ok-find_handler-in-Try.ensures.all })

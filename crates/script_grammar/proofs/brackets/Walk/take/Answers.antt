@@ -11,13 +11,13 @@ returns-in_ok-open-in-Opening c =
     taken-opening c.args.tokens.now c.args.token _ c.in-Opening.bracket c.args.self.now.partners.items new.partners.items (reverse c.args.self.now.stack.items) (reverse new.stack.items)
     c.requires.within c.in-Opening.ensures c.requires.so_far (ap (λ v. v.items) c.in_ok-open-in-Opening.ensures.partners) c.in_ok-open-in-Opening.ensures.stack
 
-pub returns-in-Some : goal.returns-in-Some
-returns-in-Some c =
+pub returns-in_ok-pair-in-Closing-2 : goal.returns-in_ok-pair-in-Closing-2
+returns-in_ok-pair-in-Closing-2 c =
     let old = c.args.self.now in let closed = c.close.new.self in let first = c.pair.new.self in let second = c.pair-in-Closing.new.self in
     taken-closing c.args.tokens.now c.args.token _ c.in-Closing.bracket c.in-Some.opener old.partners.items closed.partners.items first.partners.items second.partners.items
     (reverse old.stack.items) (reverse closed.stack.items) (reverse second.stack.items)
     c.requires.within c.in-Closing.ensures c.requires.so_far c.in-Some.ensures.stack (ap (λ v. v.items) c.in-Some.ensures.partners)
-    c.pair.ensures.partners c.pair-in-Closing.ensures.partners
+    c.in_ok-pair-in-Closing.ensures.partners c.in_ok-pair-in-Closing-2.ensures.partners
     (ap (λ v. reverse v.items) c.pair-in-Closing.ensures.stack ∙ ap (λ v. reverse v.items) c.pair.ensures.stack)
 
 pub returns-in_ok-open-in-Middle : goal.returns-in_ok-open-in-Middle
@@ -26,7 +26,7 @@ returns-in_ok-open-in-Middle c =
     taken-middle c.args.tokens.now c.args.token _ c.in-Some-close.opener old.partners.items closed.partners.items first.partners.items opened.partners.items
     (reverse old.stack.items) (reverse closed.stack.items) (reverse first.stack.items) (reverse opened.stack.items)
     c.requires.within c.in-Middle.ensures c.requires.so_far c.in-Some-close.ensures.stack (ap (λ v. v.items) c.in-Some-close.ensures.partners)
-    c.pair-in-Middle.ensures.partners (ap (λ v. reverse v.items) c.pair-in-Middle.ensures.stack)
+    c.in_ok-pair-in-Middle.ensures.partners (ap (λ v. reverse v.items) c.pair-in-Middle.ensures.stack)
     (ap (λ v. v.items) c.in_ok-open-in-Middle.ensures.partners) c.in_ok-open-in-Middle.ensures.stack
 
 pub returns-in_default : goal.returns-in_default

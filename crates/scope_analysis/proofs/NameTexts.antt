@@ -1,7 +1,7 @@
 -- Sets of texts, and names kept by them.
-use Rattle.std.proofs.Common.{◌≡◌, ℕ, ◌+◌, ◌<◌, Bool, true, false, ◌||◌, not, cond, bytes_eq, if◌then◌else◌, List, [], ◌∷◌, ◌++◌, map, take, get_or, length, Bor, refl, sym, ◌∙◌, ap, inl, inr, append_assoc}
+use Rattle.std.proofs.Common.{◌≡◌, ℕ, ◌+◌, ◌<◌, Bool, true, false, ◌||◌, not, cond, bytes_eq, if◌then◌else◌, List, [], ◌∷◌, ◌++◌, map, take, get_or, length, Option, Some, None, Bor, refl, sym, ◌∙◌, ap, ap₂, subst, inl, inr, append_assoc}
 use Rattle.std.proofs.lemmas.Bool.{cases_Bool}
-use Rattle.std.proofs.lemmas.List.{map-append, take_more, append-nil}
+use Rattle.std.proofs.lemmas.List.{map-append, take_more, append-nil, get_or_default}
 use Rattle.std.proofs.lemmas.List.Folds.{list_any-append}
 use Rattle.std.proofs.lemmas.Map.Text.{is_eq-slice_cmp}
 use Rattle.std.specs.Cmp.Lexicographic.{slice_cmp, bytes_decides, nat_list_eq_equiv}
@@ -11,6 +11,7 @@ use Rattle.std.specs.List.{list_any}
 use Rattle.std.specs.Ordering.{is_eq, nat_cmp, match_ordering}
 use Rattle.std.specs.BTreeSet.{insert_key}
 use Rattle.scope_analysis.specs.DeclaredNames.{Text, has_text, texts_without, first_ones_after}
+use Rattle.scope_analysis.specs.TextSets.{first_cell_of, first_of}
 
 abbrev read : List (Bor Text) → List Text
 read ks = map (λ (k : Bor Text). k.now) ks
@@ -119,3 +120,23 @@ kept_more f old new x fresh is_fresh grown = ap (map f) grown ∙ (map-append f 
 
 pub kept_same : (f : ℕ → Text) (old new : List ℕ) (x : ℕ) (fresh : Bool) → fresh ≡ false → new ≡ old → map f new ≡ map f old ++ cond fresh (f x ∷ []) []
 kept_same f old new x fresh is_stale same = ap (map f) same ∙ (sym (append-nil (map f old)) ∙ ap (λ (b : Bool). map f old ++ cond b (f x ∷ []) []) (sym is_stale))
+
+-- ---- first cells
+
+-- the atom in the first cell of a text
+pub stands_first : (cells : List (Option ℕ)) (t units : Text) (count cell first : ℕ) (e : Option ℕ) → units ≡ t → count ≡ length cells → cell ≡ first_cell_of units count → cell < count
+    → e ≡ get_or cells cell e → e ≡ Some first → first_of cells t ≡ Some first
+stands_first cells t units count cell first e u n is lt at some =
+    ap (λ (k : ℕ). get_or cells k None) (sym (is ∙ ap₂ first_cell_of u n))
+    ∙ (sym (at ∙ get_or_default cells cell e None (subst (λ (k : ℕ). cell < k) n lt)) ∙ some)
+
+-- where its first cell is taken, it can be put among the later ones
+pub still_free : (cells : List (Option ℕ)) (old new : Text → Bool) (t : Text) (first : ℕ) → first_of cells t ≡ Some first → ((q : Text) → new q ≡ (bytes_eq t q || old q))
+    → ((q : Text) → first_of cells q ≡ None → old q ≡ false) → (q : Text) → first_of cells q ≡ None → new q ≡ false
+still_free cells old new t first here grown taken q free = grown q ∙ (ap (λ (b : Bool). bytes_eq t q || b) (taken q free) ∙ (or_false (bytes_eq t q) ∙ other))
+  where
+    other : bytes_eq t q ≡ false
+    other = elim (cases_Bool (bytes_eq t q)) [
+      | inl e ↦ let same : t ≡ q = (bytes_decides t q).0 e in let clash : ◌≡◌ {A = Option ℕ} (Some first) None = sym here ∙ (ap (first_of cells) same ∙ free) in absurd (cc)
+      | inr n ↦ n
+    ]

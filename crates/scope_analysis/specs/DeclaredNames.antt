@@ -4,7 +4,10 @@ use Rattle.std.specs.Prelude.{ℕ, Bool, true, false, not, bytes_eq, if◌then�
 use Rattle.std.specs.List.{list_any}
 use Rattle.script_grammar.specs.declared.token.Decl.{Decl}
 use Rattle.script_grammar.specs.declared.token.Decl.TheVariants as decl
-use Rattle.script_grammar.specs.Tree.{Named, MaybeExpr, no_expr, some_expr, Function, function, Params, no_params, more_params, Binds, no_binds, more_binds, Init, BindsInit, Each, TargetEach, BindEach, Clauses, no_clauses, more_clauses, Stmt, Stmts, no_stmts, more_stmts, MaybeStmt, no_stmt, some_stmt, Block, Empty, Debugger, Binding, Value, If, Do, While, For, ForIn, Continue, Break, Return, Throw, Switch, Label, Try, Declared}
+use Rattle.script_grammar.specs.Tree.{Named, MaybeExpr, no_expr, some_expr, Function, function, Params, no_params, more_params, Binds}
+use Rattle.script_grammar.specs.Tree.{no_binds, more_binds, Init, BindsInit, Each, TargetEach, BindEach, Clauses, no_clauses, more_clauses}
+use Rattle.script_grammar.specs.Tree.{Stmt, Stmts, no_stmts, more_stmts, MaybeStmt, no_stmt, some_stmt, Block, Empty, Debugger, Binding}
+use Rattle.script_grammar.specs.Tree.{Value, If, Do, While, For, ForIn, Continue, Break, Return, Throw, Switch, Label, Try, Declared}
 use Rattle.stencil_data.specs.declared.scopes.BindKind.{BindKind}
 use Rattle.stencil_data.specs.declared.scopes.BindKind.TheVariants as bind
 

@@ -3,10 +3,20 @@
 use Rattle.std.specs.Prelude.{ℕ, ◌+◌, Bool, List, [], ◌∷◌, ◌++◌, Option, None, option_map}
 use Rattle.script_grammar.specs.declared.token.FuncForm.{FuncForm}
 use Rattle.script_grammar.specs.declared.token.FuncForm.TheVariants as form
-use Rattle.script_grammar.specs.Tree.{Named, Expr, This, Name, Null, True, False, Number, Str, Template, Array, Object, Func, Paren, Chain, New, Unary, Update, Binary, Cond, Assign, Comma, Exprs, no_exprs, more_exprs, MaybeExpr, no_expr, some_expr, MaybeArgs, no_args, some_args, Parts, no_parts, more_parts, Items, no_items, more_items, Operands, no_operands, more_operands, Tail, Dot, Index, Call, Tails, no_tails, more_tails, Key, WordKey, StrKey, NumberKey, ComputedKey, Prop, Short, Pair, Method, Get, Set, Props, no_props, more_props, Function, function, Params, no_params, more_params, Body, BracedBody, ShortBody, Binds, no_binds, more_binds, Init, NoInit, ValueInit, BindsInit, Each, TargetEach, BindEach, Clauses, no_clauses, more_clauses, Stmt, Stmts, no_stmts, more_stmts, MaybeStmt, no_stmt, some_stmt, Block, Empty, Debugger, Binding, Value, If, Do, While, For, ForIn, Continue, Break, Return, Throw, Switch, Label, Try, Declared}
+use Rattle.script_grammar.specs.Tree.{Named, Expr, This, Name, Null, True, False, Number, Str, Template, Array, Object, Func, Paren, Chain}
+use Rattle.script_grammar.specs.Tree.{New, Unary, Update, Binary, Cond, Assign, Comma, Exprs, no_exprs, more_exprs, MaybeExpr, no_expr}
+use Rattle.script_grammar.specs.Tree.{some_expr, MaybeArgs, no_args, some_args, Parts, no_parts, more_parts, Items, no_items, more_items}
+use Rattle.script_grammar.specs.Tree.{Operands, no_operands, more_operands, Tail, Dot, Index, Call, Tails, no_tails, more_tails, Key}
+use Rattle.script_grammar.specs.Tree.{WordKey, StrKey, NumberKey, ComputedKey, Prop, Short, Pair, Method, Get, Set, Props, no_props}
+use Rattle.script_grammar.specs.Tree.{more_props, Function, function, Params, no_params, more_params, Body, BracedBody, ShortBody, Binds}
+use Rattle.script_grammar.specs.Tree.{no_binds, more_binds, Init, NoInit, ValueInit, BindsInit, Each, TargetEach, BindEach, Clauses}
+use Rattle.script_grammar.specs.Tree.{no_clauses, more_clauses, Stmt, Stmts, no_stmts, more_stmts, MaybeStmt, no_stmt, some_stmt, Block}
+use Rattle.script_grammar.specs.Tree.{Empty, Debugger, Binding, Value, If, Do, While, For, ForIn, Continue, Break, Return, Throw, Switch}
+use Rattle.script_grammar.specs.Tree.{Label, Try, Declared}
 use Rattle.stencil_data.specs.declared.functions.FuncKind.{FuncKind}
 use Rattle.stencil_data.specs.declared.functions.FuncKind.TheVariants as func
-use Rattle.scope_analysis.specs.DeclaredNames.{Text, Declaration, function_name, lexical_names, clauses_lexical_names, top_lexical_names, init_lexical_names, each_lexical_names, has_initializer}
+use Rattle.scope_analysis.specs.DeclaredNames.{Text, Declaration, function_name, lexical_names, clauses_lexical_names, top_lexical_names}
+use Rattle.scope_analysis.specs.DeclaredNames.{init_lexical_names, each_lexical_names, has_initializer}
 use Rattle.scope_analysis.specs.Scopes.{scope_count, catch_names, count_stmt, count_stmts, callee_names, body_var_names}
 
 -- a function, how it is written, its name, and the numbers of the scopes around it in its function, innermost first
@@ -144,7 +154,8 @@ abbrev mutual
   inner_stmt (Return value semi) next around = inner_maybe value around
   inner_stmt (Throw value semi) next around = inner_expr value around
   inner_stmt (Switch of clauses) next around =
-      inner_expr of around ++ inner_clauses clauses (next + scope_count (clauses_lexical_names clauses)) (enclosed (clauses_lexical_names clauses) next around)
+      inner_expr of around ++ inner_clauses clauses (next + scope_count (clauses_lexical_names clauses))
+      (enclosed (clauses_lexical_names clauses) next around)
   inner_stmt (Label name body) next around = inner_stmt body next around
   inner_stmt (Try body param handler) next around =
       inner_stmts body (next + scope_count (lexical_names body)) (enclosed (lexical_names body) next around)
@@ -176,7 +187,8 @@ abbrev pub inner_body : Bool → Body → ℕ → List ℕ → List Inner
 inner_body initialized (ShortBody value) next around = inner_expr value around
 inner_body initialized (BracedBody items) next around =
     inner_stmts items (next + scope_count (body_var_names initialized items) + scope_count (top_lexical_names items))
-    (enclosed (top_lexical_names items) (next + scope_count (body_var_names initialized items)) (enclosed (body_var_names initialized items) next around))
+    (enclosed (top_lexical_names items) (next + scope_count (body_var_names initialized items))
+    (enclosed (body_var_names initialized items) next around))
 
 -- the scopes around a function's parameters: its own, and that of its name
 abbrev pub params_around : FuncKind → Option Text → List ℕ

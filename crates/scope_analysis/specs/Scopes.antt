@@ -5,7 +5,10 @@
 use Rattle.std.specs.Prelude.{ℕ, ◌+◌, Bool, if◌then◌else◌, List, [], ◌∷◌, ◌++◌, map, Option, Some, None}
 use Rattle.script_grammar.specs.declared.token.FuncForm.{FuncForm}
 use Rattle.script_grammar.specs.Kinds.{is_arrow_form}
-use Rattle.script_grammar.specs.Tree.{Named, MaybeExpr, Function, function, Params, Body, BracedBody, ShortBody, Init, Each, Clauses, no_clauses, more_clauses, Stmt, Stmts, no_stmts, more_stmts, MaybeStmt, no_stmt, some_stmt, Expr, Block, Empty, Debugger, Binding, Value, If, Do, While, For, ForIn, Continue, Break, Return, Throw, Switch, Label, Try, Declared}
+use Rattle.script_grammar.specs.Tree.{Named, MaybeExpr, Function, function, Params, Body, BracedBody, ShortBody, Init, Each, Clauses}
+use Rattle.script_grammar.specs.Tree.{no_clauses, more_clauses, Stmt, Stmts, no_stmts, more_stmts, MaybeStmt, no_stmt, some_stmt, Expr}
+use Rattle.script_grammar.specs.Tree.{Block, Empty, Debugger, Binding, Value, If, Do, While, For, ForIn, Continue, Break, Return, Throw}
+use Rattle.script_grammar.specs.Tree.{Switch, Label, Try, Declared}
 use Rattle.stencil_data.specs.declared.chains.LinkName.{LinkName}
 use Rattle.stencil_data.specs.declared.functions.FuncKind.{FuncKind}
 use Rattle.stencil_data.specs.declared.functions.FuncKind.TheVariants as func
@@ -15,8 +18,11 @@ use Rattle.stencil_data.specs.declared.scopes.ScopeKind.TheVariants as scope
 use Rattle.stencil_data.specs.declared.scopes.Slot.{Slot}
 use Rattle.stencil_data.specs.Named.{NamedScope}
 use Rattle.stencil_data.specs.Slots.{Unplaced, slots, frame_after, env_slots}
-use Rattle.scope_analysis.specs.DeclaredNames.{Text, has_text, texts_without, texts_of, Declaration, declaration, declarations, name_list, lexical_names, clauses_lexical_names, top_lexical_names, init_lexical_names, each_lexical_names, top_var_names, param_names, has_initializer}
-use Rattle.scope_analysis.specs.Uses.{Uses, uses_both, uses_without, uses_expr, uses_maybe, uses_init, uses_each, uses_stmt, uses_stmts, uses_clauses, uses_params, uses_body, body_vars, beside_params, this_text, arguments_text}
+use Rattle.scope_analysis.specs.DeclaredNames.{Text, has_text, texts_without, texts_of, Declaration, declaration, declarations, name_list}
+use Rattle.scope_analysis.specs.DeclaredNames.{lexical_names, clauses_lexical_names, top_lexical_names, init_lexical_names}
+use Rattle.scope_analysis.specs.DeclaredNames.{each_lexical_names, top_var_names, param_names, has_initializer}
+use Rattle.scope_analysis.specs.Uses.{Uses, uses_both, uses_without, uses_expr, uses_maybe, uses_init, uses_each, uses_stmt, uses_stmts}
+use Rattle.scope_analysis.specs.Uses.{uses_clauses, uses_params, uses_body, body_vars, beside_params, this_text, arguments_text}
 
 -- ---- one scope
 
@@ -90,7 +96,8 @@ abbrev mutual
   count_stmt (Switch of clauses) = scope_count (clauses_lexical_names clauses) + count_clauses clauses
   count_stmt (Label name body) = count_stmt body
   count_stmt (Try body param handler) =
-      scope_count (lexical_names body) + count_stmts body + (scope_count (catch_names param) + (scope_count (lexical_names handler) + count_stmts handler))
+      scope_count (lexical_names body) + count_stmts body +
+      (scope_count (catch_names param) + (scope_count (lexical_names handler) + count_stmts handler))
   count_stmt (Declared f) = 0
 
   pub count_stmts : Stmts → ℕ
@@ -130,13 +137,15 @@ abbrev mutual
   scopes_stmt (If test then_stmt else_stmt) w = scopes_stmt then_stmt w ++ scopes_else else_stmt (behind (count_stmt then_stmt) w)
   scopes_stmt (Do body test semi) w = scopes_stmt body w
   scopes_stmt (While test body) w = scopes_stmt body w
-  scopes_stmt (For init test update body) w = scope_around scope.Lexical (init_lexical_names init) (for_inner init test update body) (scopes_stmt body) w
+  scopes_stmt (For init test update body) w = scope_around scope.Lexical (init_lexical_names init) (for_inner init test update body)
+      (scopes_stmt body) w
   scopes_stmt (ForIn each over body) w = scope_around scope.Lexical (each_lexical_names each) (for_in_inner each over body) (scopes_stmt body) w
   scopes_stmt (Continue at label semi) w = []
   scopes_stmt (Break at label semi) w = []
   scopes_stmt (Return value semi) w = []
   scopes_stmt (Throw value semi) w = []
-  scopes_stmt (Switch of clauses) w = scope_around scope.Lexical (clauses_lexical_names clauses) (uses_clauses clauses).inner (scopes_clauses clauses) w
+  scopes_stmt (Switch of clauses) w = scope_around scope.Lexical (clauses_lexical_names clauses) (uses_clauses clauses).inner
+      (scopes_clauses clauses) w
   scopes_stmt (Label name body) w = scopes_stmt body w
   scopes_stmt (Try body param handler) w =
       scope_around scope.Lexical (lexical_names body) (block_inner body) (scopes_stmts body) w

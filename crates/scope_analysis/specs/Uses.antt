@@ -3,8 +3,19 @@
 use Rattle.std.specs.Prelude.{Bool, true, false, codes, if◌then◌else◌, List, [], ◌∷◌, ◌++◌}
 use Rattle.script_grammar.specs.declared.token.FuncForm.{FuncForm}
 use Rattle.script_grammar.specs.Kinds.{is_arrow_form}
-use Rattle.script_grammar.specs.Tree.{Expr, This, Name, Null, True, False, Number, Str, Template, Array, Object, Func, Paren, Chain, New, Unary, Update, Binary, Cond, Assign, Comma, Exprs, no_exprs, more_exprs, MaybeExpr, no_expr, some_expr, MaybeArgs, no_args, some_args, Parts, no_parts, more_parts, Items, no_items, more_items, Operands, no_operands, more_operands, Tail, Dot, Index, Call, Tails, no_tails, more_tails, Key, WordKey, StrKey, NumberKey, ComputedKey, Prop, Short, Pair, Method, Get, Set, Props, no_props, more_props, Function, function, Params, no_params, more_params, Body, BracedBody, ShortBody, Binds, no_binds, more_binds, Init, NoInit, ValueInit, BindsInit, Each, TargetEach, BindEach, Clauses, no_clauses, more_clauses, Stmt, Stmts, no_stmts, more_stmts, MaybeStmt, no_stmt, some_stmt, Block, Empty, Debugger, Binding, Value, If, Do, While, For, ForIn, Continue, Break, Return, Throw, Switch, Label, Try, Declared}
-use Rattle.scope_analysis.specs.DeclaredNames.{Text, texts_without, texts_of, name_list, function_name, lexical_names, clauses_lexical_names, top_lexical_names, init_lexical_names, each_lexical_names, top_var_names, param_names, has_initializer}
+use Rattle.script_grammar.specs.Tree.{Expr, This, Name, Null, True, False, Number, Str, Template, Array, Object, Func, Paren, Chain, New}
+use Rattle.script_grammar.specs.Tree.{Unary, Update, Binary, Cond, Assign, Comma, Exprs, no_exprs, more_exprs, MaybeExpr, no_expr}
+use Rattle.script_grammar.specs.Tree.{some_expr, MaybeArgs, no_args, some_args, Parts, no_parts, more_parts, Items, no_items, more_items}
+use Rattle.script_grammar.specs.Tree.{Operands, no_operands, more_operands, Tail, Dot, Index, Call, Tails, no_tails, more_tails, Key}
+use Rattle.script_grammar.specs.Tree.{WordKey, StrKey, NumberKey, ComputedKey, Prop, Short, Pair, Method, Get, Set, Props, no_props}
+use Rattle.script_grammar.specs.Tree.{more_props, Function, function, Params, no_params, more_params, Body, BracedBody, ShortBody, Binds}
+use Rattle.script_grammar.specs.Tree.{no_binds, more_binds, Init, NoInit, ValueInit, BindsInit, Each, TargetEach, BindEach, Clauses}
+use Rattle.script_grammar.specs.Tree.{no_clauses, more_clauses, Stmt, Stmts, no_stmts, more_stmts, MaybeStmt, no_stmt, some_stmt, Block}
+use Rattle.script_grammar.specs.Tree.{Empty, Debugger, Binding, Value, If, Do, While, For, ForIn, Continue, Break, Return, Throw, Switch}
+use Rattle.script_grammar.specs.Tree.{Label, Try, Declared}
+use Rattle.scope_analysis.specs.DeclaredNames.{Text, texts_without, texts_of, name_list, function_name, lexical_names}
+use Rattle.scope_analysis.specs.DeclaredNames.{clauses_lexical_names, top_lexical_names, init_lexical_names, each_lexical_names}
+use Rattle.scope_analysis.specs.DeclaredNames.{top_var_names, param_names, has_initializer}
 
 -- the names used by a part itself, and those that functions in it use and do not bind
 pub record Uses : Type 0 where
@@ -126,7 +137,8 @@ abbrev mutual
   -- what a function uses and does not bind
   pub uses_function : Function → Uses
   uses_function (function form start end name params comma bare body) =
-      uses_inside (uses_without (param_names params ++ beside_params (has_initializer params) body ++ bound_by_form form) (uses_both (uses_params params) (uses_body (has_initializer params) body)))
+      uses_inside (uses_without (param_names params ++ beside_params (has_initializer params) body ++ bound_by_form form)
+      (uses_both (uses_params params) (uses_body (has_initializer params) body)))
 
   -- the initializers of parameters
   pub uses_params : Params → Uses
@@ -167,7 +179,8 @@ abbrev mutual
   uses_stmt (Do body test semi) = uses_both (uses_stmt body) (uses_expr test)
   uses_stmt (While test body) = uses_both (uses_expr test) (uses_stmt body)
   uses_stmt (For init test update body) =
-      uses_without (texts_of (init_lexical_names init)) (uses_both (uses_init init) (uses_both (uses_maybe test) (uses_both (uses_maybe update) (uses_stmt body))))
+      uses_without (texts_of (init_lexical_names init))
+      (uses_both (uses_init init) (uses_both (uses_maybe test) (uses_both (uses_maybe update) (uses_stmt body))))
   uses_stmt (ForIn each over body) =
       uses_without (texts_of (each_lexical_names each)) (uses_both (uses_each each) (uses_both (uses_expr over) (uses_stmt body)))
   uses_stmt (Continue at label semi) = no_uses
@@ -177,7 +190,8 @@ abbrev mutual
   uses_stmt (Switch of clauses) = uses_both (uses_expr of) (uses_without (texts_of (clauses_lexical_names clauses)) (uses_clauses clauses))
   uses_stmt (Label name body) = uses_stmt body
   uses_stmt (Try body param handler) =
-      uses_both (uses_without (texts_of (lexical_names body)) (uses_stmts body)) (uses_without (name_list param) (uses_without (texts_of (lexical_names handler)) (uses_stmts handler)))
+      uses_both (uses_without (texts_of (lexical_names body)) (uses_stmts body))
+      (uses_without (name_list param) (uses_without (texts_of (lexical_names handler)) (uses_stmts handler)))
   uses_stmt (Declared f) = uses_function f
 
   pub uses_stmts : Stmts → Uses

@@ -25,23 +25,28 @@ pub record Added (texts : List (List ℕ)) (closed : List ClosedName) (old new :
   pub left : named_left texts closed to ≡ closed_from (length new) later
 
 -- the same, where these scopes fit and their closed names are the next that are left, whatever scopes are after them
-pub record Adds (texts : List (List ℕ)) (closed : List ClosedName) (old : List ScopeView) (from : ℕ) (new : List ScopeView) (to : ℕ) (part : List NamedScope) : Type 0 where
-  pub adds : (later : List NamedScope) → ScopesFit part → length old + length part < 2 ^ 32 → named_left texts closed from ≡ closed_from (length old) (part ++ later) → Added texts closed old new to part later
+pub record Adds (texts : List (List ℕ)) (closed : List ClosedName) (old : List ScopeView) (from : ℕ) (new : List ScopeView) (to : ℕ)
+    (part : List NamedScope) : Type 0 where
+  pub adds : (later : List NamedScope) → ScopesFit part → length old + length part < 2 ^ 32
+      → named_left texts closed from ≡ closed_from (length old) (part ++ later) → Added texts closed old new to part later
 
 -- Where these scopes stand, n of them were added.
-pub record Scoped (texts : List (List ℕ)) (closed : List ClosedName) (around : ScopePosition) (old : List ScopeView) (from : ℕ) (new : List ScopeView) (to : ℕ) (count : ℕ) (part : Within → List NamedScope) : Type 0 where
+pub record Scoped (texts : List (List ℕ)) (closed : List ClosedName) (around : ScopePosition) (old : List ScopeView) (from : ℕ)
+    (new : List ScopeView) (to : ℕ) (count : ℕ) (part : Within → List NamedScope) : Type 0 where
   pub counted : length new ≡ length old + count
   pub added : Adds texts closed old from new to (part (within around (length old)))
 
 -- with what is added inside, this scope and that is added
-pub record Opens (texts : List (List ℕ)) (closed : List ClosedName) (old : List ScopeView) (from : ℕ) (new : List ScopeView) (to : ℕ) (kind : ScopeKind) (ds : List Declaration) (around inside : ScopePosition) : Type 0 where
+pub record Opens (texts : List (List ℕ)) (closed : List ClosedName) (old : List ScopeView) (from : ℕ) (new : List ScopeView) (to : ℕ)
+    (kind : ScopeKind) (ds : List Declaration) (around inside : ScopePosition) : Type 0 where
   pub opened : length new ≡ length old + 1
   pub opens : (inner : List Text) (content : Within → List NamedScope) (final : List ScopeView) (last : ℕ)
       → Adds texts closed new to final last (content (within inside (length new)))
       → Adds texts closed old from final last (scope_and kind ds inner content (within around (length old)))
 
 -- the same, where the scope is left out if nothing is declared
-pub record OpensAny (texts : List (List ℕ)) (closed : List ClosedName) (old : List ScopeView) (from : ℕ) (new : List ScopeView) (to : ℕ) (kind : ScopeKind) (ds : List Declaration) (around inside : ScopePosition) : Type 0 where
+pub record OpensAny (texts : List (List ℕ)) (closed : List ClosedName) (old : List ScopeView) (from : ℕ) (new : List ScopeView) (to : ℕ)
+    (kind : ScopeKind) (ds : List Declaration) (around inside : ScopePosition) : Type 0 where
   pub opened : length new ≡ length old + scope_count ds
   pub opens : (inner : List Text) (content : Within → List NamedScope) (final : List ScopeView) (last : ℕ)
       → Adds texts closed new to final last (content (within inside (length new)))

@@ -1,6 +1,7 @@
 //! The scopes of a function.
 
-ghost use Rattle.std.specs.Prelude.{◌≡◌, ℕ, ◌++◌, ◌||◌, ◌∷◌, [], ◌^◌, ◌<◌, Bool, true, List, Option, map, option_map, length, bytes_eq, if◌then◌else◌, OnOk, IfOk};
+ghost use Rattle.std.specs.Prelude.{◌≡◌, ℕ, ◌++◌, ◌||◌, ◌∷◌, [], ◌^◌, ◌<◌, Bool, true, List, Option, map, option_map, length, bytes_eq};
+ghost use Rattle.std.specs.Prelude.{if◌then◌else◌, OnOk, IfOk};
 ghost use Rattle.script_grammar.specs.declared.tree.Func.{out-Func};
 ghost use Rattle.script_grammar.specs.Interpretation.{Interpretation, text_of};
 ghost use Rattle.script_grammar.specs.Kinds.{is_arrow_form};
@@ -39,7 +40,8 @@ pub struct OwnUses {
 }
 
 fn push_param_names(params: &[Param], atoms: &mut Vec<u32>) -> Result<(), AllocError>
-    ensures { OnOk result ((i : Interpretation) → map (text_of i) atoms.new.items ≡ map (text_of i) atoms.old.items ++ defined.param_names (params_of (map (param_of i) params.now))) }
+    ensures { OnOk result ((i : Interpretation) → map (text_of i) atoms.new.items
+        ≡ map (text_of i) atoms.old.items ++ defined.param_names (params_of (map (param_of i) params.now))) }
 {
     for param in params {
         atoms.push(param.name.atom)?;
@@ -112,7 +114,8 @@ fn push_if(
     atom: u32,
     names: &mut Vec<DeclaredName>,
 ) -> Result<(), AllocError>
-    ensures { OnOk result ((texts : List (List ℕ)) → declarations_of texts names.new.items ≡ declarations_of texts names.old.items ++ (if bound then defined.declaration kind (text_at texts atom) ∷ [] else [])) }
+    ensures { OnOk result ((texts : List (List ℕ)) → declarations_of texts names.new.items
+        ≡ declarations_of texts names.old.items ++ (if bound then defined.declaration kind (text_at texts atom) ∷ [] else [])) }
 {
     if bound {
         names.push(DeclaredName { atom, kind })?;
@@ -128,7 +131,11 @@ fn push_specials(
     own: OwnUses,
     names: &mut Vec<DeclaredName>,
 ) -> Result<(), AllocError>
-    ensures { OnOk result (KnowsNames known.now.texts.now → declarations_of known.now.texts.now names.new.items ≡ declarations_of known.now.texts.now names.old.items ++ specials form (own.arguments || has_closed number arguments_text (map (named_closed known.now.texts.now) known.now.closed.now)) (own.this || has_closed number this_text (map (named_closed known.now.texts.now) known.now.closed.now))) }
+    ensures { OnOk result (KnowsNames known.now.texts.now
+        → declarations_of known.now.texts.now names.new.items
+        ≡ declarations_of known.now.texts.now names.old.items
+        ++ specials form (own.arguments || has_closed number arguments_text (map (named_closed known.now.texts.now) known.now.closed.now))
+        (own.this || has_closed number this_text (map (named_closed known.now.texts.now) known.now.closed.now))) }
 {
     if is_arrow(form) {
         return Ok(());
@@ -151,7 +158,8 @@ fn vars_beside(
     initialized: bool,
     body: &FuncBody,
 ) -> Result<Vec<u32>, AllocError>
-    ensures { IfOk result (λ vars. (bodies : ℕ → Stmts) (b : model.Body) → body_of (under known.now.texts.now bodies) body.now ≡ Some b → map (text_at known.now.texts.now) vars.items ≡ beside_params initialized b) }
+    ensures { IfOk result (λ vars. (bodies : ℕ → Stmts) (b : model.Body) → body_of (under known.now.texts.now bodies) body.now ≡ Some b
+        → map (text_at known.now.texts.now) vars.items ≡ beside_params initialized b) }
 {
     if initialized {
         return Ok(Vec::new(known.alloc));
@@ -173,7 +181,10 @@ fn own_names(
     initialized: bool,
     body: &FuncBody,
 ) -> Result<Vec<DeclaredName>, AllocError>
-    ensures { IfOk result (λ names. (bodies : ℕ → Stmts) (b : model.Body) → body_of (under known.now.texts.now bodies) body.now ≡ Some b → let ps = defined.param_names (params_of (map (param_of (under known.now.texts.now bodies)) params.now)) in declarations_of known.now.texts.now names.items ≡ declarations bind_kind.Param ps ++ declarations bind_kind.Var (texts_without ps (beside_params initialized b))) }
+    ensures { IfOk result (λ names. (bodies : ℕ → Stmts) (b : model.Body) → body_of (under known.now.texts.now bodies) body.now ≡ Some b
+        → let ps = defined.param_names (params_of (map
+        (param_of (under known.now.texts.now bodies)) params.now)) in declarations_of known.now.texts.now names.items
+        ≡ declarations bind_kind.Param ps ++ declarations bind_kind.Var (texts_without ps (beside_params initialized b))) }
 {
     let mut atoms = Vec::new(known.alloc);
     push_param_names(params, &mut atoms)?;
@@ -187,7 +198,8 @@ fn own_names(
 
 // The name of a function expression.
 fn callee(alloc: Global, kind: FuncKind, name: Option<u32>) -> Result<Vec<DeclaredName>, AllocError>
-    ensures { IfOk result (λ names. (texts : List (List ℕ)) → declarations_of texts names.items ≡ callee_names kind (option_map (text_at texts) name)) }
+    ensures { IfOk result (λ names. (texts : List (List ℕ))
+        → declarations_of texts names.items ≡ callee_names kind (option_map (text_at texts) name)) }
 {
     let mut names = Vec::new(alloc);
     if let (FuncKind::Expression, Some(atom)) = (kind, name) {
@@ -201,7 +213,9 @@ fn callee(alloc: Global, kind: FuncKind, name: Option<u32>) -> Result<Vec<Declar
 
 // The var names of a body.
 fn vars_of(known: &ScopeContext, items: &[Stmt]) -> Result<Vec<DeclaredName>, AllocError>
-    ensures { IfOk result (λ names. (bodies : ℕ → Stmts) → declarations_of known.now.texts.now names.items ≡ declarations bind_kind.Var (defined.top_var_names (stmts_of (map (stmt_of (under known.now.texts.now bodies)) items.now)))) }
+    ensures { IfOk result (λ names. (bodies : ℕ → Stmts)
+        → declarations_of known.now.texts.now names.items
+        ≡ declarations bind_kind.Var (defined.top_var_names (stmts_of (map (stmt_of (under known.now.texts.now bodies)) items.now)))) }
 {
     let vars = top_vars(known.alloc, known.texts, items)?;
     let mut names = Vec::new(known.alloc);
@@ -215,7 +229,9 @@ fn body_vars(
     initialized: bool,
     items: &[Stmt],
 ) -> Result<Vec<DeclaredName>, AllocError>
-    ensures { IfOk result (λ names. (bodies : ℕ → Stmts) → declarations_of known.now.texts.now names.items ≡ body_var_names initialized (stmts_of (map (stmt_of (under known.now.texts.now bodies)) items.now))) }
+    ensures { IfOk result (λ names. (bodies : ℕ → Stmts)
+        → declarations_of known.now.texts.now names.items
+        ≡ body_var_names initialized (stmts_of (map (stmt_of (under known.now.texts.now bodies)) items.now))) }
 {
     if initialized {
         Ok(vars_of(known, items)?)
@@ -232,7 +248,10 @@ fn open_vars(
     items: &[Stmt],
     around: ScopePosition,
 ) -> Result<ScopePosition, AllocError>
-    ensures { IfOk result (λ inside. (bodies : ℕ → Stmts) → OpensAny known.now.texts.now known.now.closed.now made.old.scopes.items made.old.closed made.new.scopes.items made.new.closed scope_kind.FunctionBodyVar (body_var_names initialized (stmts_of (map (stmt_of (under known.now.texts.now bodies)) items.now))) around inside) }
+    ensures { IfOk result (λ inside. (bodies : ℕ → Stmts)
+        → OpensAny known.now.texts.now known.now.closed.now made.old.scopes.items made.old.closed made.new.scopes.items made.new.closed
+        scope_kind.FunctionBodyVar (body_var_names initialized
+        (stmts_of (map (stmt_of (under known.now.texts.now bodies)) items.now))) around inside) }
 {
     let names = body_vars(known, initialized, items)?;
     let inside = open_scope(known, made, ScopeKind::FunctionBodyVar, &names, around)?;
@@ -246,7 +265,10 @@ fn open_lexical(
     items: &[Stmt],
     around: ScopePosition,
 ) -> Result<ScopePosition, AllocError>
-    ensures { IfOk result (λ inside. (bodies : ℕ → Stmts) → OpensAny known.now.texts.now known.now.closed.now made.old.scopes.items made.old.closed made.new.scopes.items made.new.closed scope_kind.FunctionLexical (defined.top_lexical_names (stmts_of (map (stmt_of (under known.now.texts.now bodies)) items.now))) around inside) }
+    ensures { IfOk result (λ inside. (bodies : ℕ → Stmts)
+        → OpensAny known.now.texts.now known.now.closed.now made.old.scopes.items made.old.closed made.new.scopes.items made.new.closed
+        scope_kind.FunctionLexical (defined.top_lexical_names
+        (stmts_of (map (stmt_of (under known.now.texts.now bodies)) items.now))) around inside) }
 {
     let mut names = Vec::new(known.alloc);
     push_top_lexical_names(items, &mut names)?;
@@ -262,7 +284,10 @@ fn add_braced(
     items: &[Stmt],
     around: ScopePosition,
 ) -> Result<(), AllocError>
-    ensures { OnOk result ((bodies : ℕ → Stmts) → Adds known.now.texts.now known.now.closed.now made.old.scopes.items made.old.closed made.new.scopes.items made.new.closed (scopes_body initialized (model.BracedBody (stmts_of (map (stmt_of (under known.now.texts.now bodies)) items.now))) (within around (length made.old.scopes.items)))) }
+    ensures { OnOk result ((bodies : ℕ → Stmts)
+        → Adds known.now.texts.now known.now.closed.now made.old.scopes.items made.old.closed made.new.scopes.items made.new.closed
+        (scopes_body initialized (model.BracedBody (stmts_of (map (stmt_of (under known.now.texts.now bodies)) items.now)))
+        (within around (length made.old.scopes.items)))) }
 {
     let vars = open_vars(known, made, initialized, items, around)?;
     let lexical = open_lexical(known, made, items, vars)?;
@@ -278,7 +303,9 @@ fn add_body(
     body: &FuncBody,
     around: ScopePosition,
 ) -> Result<(), AllocError>
-    ensures { OnOk result ((bodies : ℕ → Stmts) (b : model.Body) → body_of (under known.now.texts.now bodies) body.now ≡ Some b → Adds known.now.texts.now known.now.closed.now made.old.scopes.items made.old.closed made.new.scopes.items made.new.closed (scopes_body initialized b (within around (length made.old.scopes.items)))) }
+    ensures { OnOk result ((bodies : ℕ → Stmts) (b : model.Body) → body_of (under known.now.texts.now bodies) body.now ≡ Some b
+        → Adds known.now.texts.now known.now.closed.now made.old.scopes.items made.old.closed made.new.scopes.items made.new.closed
+        (scopes_body initialized b (within around (length made.old.scopes.items)))) }
 {
     match body {
         FuncBody::Braced(items) => Ok(add_braced(known, made, initialized, items, around)?),
@@ -299,7 +326,10 @@ pub fn scopes_using(
     texts: &[Text],
     own: OwnUses,
 ) -> Result<Vec<ScopeData>, AllocError>
-    ensures { IfOk result (λ scopes. (bodies : ℕ → Stmts) (b : model.Body) → HasBody (under texts.now bodies) func.now b → KnowsNames texts.now → UsesItself own (params_in (under texts.now bodies) func.now) b → AreScopes texts.now closed.now scopes.items (function_scopes kind (option_map (text_at texts.now) name) (func_of (under texts.now bodies) func.now))) }
+    ensures { IfOk result (λ scopes. (bodies : ℕ → Stmts) (b : model.Body) → HasBody (under texts.now bodies) func.now b
+        → KnowsNames texts.now → UsesItself own (params_in (under texts.now bodies) func.now) b
+        → AreScopes texts.now closed.now scopes.items (function_scopes kind (option_map (text_at texts.now) name)
+        (func_of (under texts.now bodies) func.now))) }
 {
     let known = ScopeContext {
         alloc,

@@ -10,7 +10,9 @@
 //! place of the first binding of a name on a chain.
 #![tactic(auto)]
 
+mod digests;
 mod functions;
+mod later_texts;
 mod names;
 mod place;
 mod resolving;

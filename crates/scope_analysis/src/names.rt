@@ -11,7 +11,10 @@ ghost use Rattle.scope_analysis.specs.Kept.{declarations_in};
 ghost use Rattle.scope_analysis.specs.Scopes.{catch_names};
 
 use script_grammar::token::Decl;
-use script_grammar::tree::{Bind, Clause, Each, Func, Ident, Init, Stmt};
+use script_grammar::tree::{
+    Bind, Clause, Each, ForInStatement, ForStatement, Func, Ident, IfStatement, Init, Stmt,
+    TryStatement,
+};
 use std::alloc::AllocError;
 use stencil_data::BindKind;
 
@@ -28,7 +31,8 @@ fn push_binds(
     binds: &[Bind],
     names: &mut Vec<DeclaredName>,
 ) -> Result<(), AllocError>
-    ensures { OnOk result ((i : Interpretation) → declarations_in i names.new.items ≡ declarations_in i names.old.items ++ defined.declarations kind (defined.bound_names (binds_of (map (bind_of i) binds.now)))) }
+    ensures { OnOk result ((i : Interpretation) → declarations_in i names.new.items
+        ≡ declarations_in i names.old.items ++ defined.declarations kind (defined.bound_names (binds_of (map (bind_of i) binds.now)))) }
 {
     for bind in binds {
         names.push(DeclaredName {
@@ -45,7 +49,8 @@ fn push_lexical_binds(
     binds: &[Bind],
     names: &mut Vec<DeclaredName>,
 ) -> Result<(), AllocError>
-    ensures { OnOk result ((i : Interpretation) → declarations_in i names.new.items ≡ declarations_in i names.old.items ++ defined.lexical_binds decl (binds_of (map (bind_of i) binds.now))) }
+    ensures { OnOk result ((i : Interpretation) → declarations_in i names.new.items
+        ≡ declarations_in i names.old.items ++ defined.lexical_binds decl (binds_of (map (bind_of i) binds.now))) }
 {
     match decl {
         Decl::Var => Ok(()),
@@ -56,7 +61,8 @@ fn push_lexical_binds(
 
 // Appends the texts of names.
 fn push_bound(binds: &[Bind], atoms: &mut Vec<u32>) -> Result<(), AllocError>
-    ensures { OnOk result ((i : Interpretation) → map (text_of i) atoms.new.items ≡ map (text_of i) atoms.old.items ++ defined.bound_names (binds_of (map (bind_of i) binds.now))) }
+    ensures { OnOk result ((i : Interpretation) → map (text_of i) atoms.new.items
+        ≡ map (text_of i) atoms.old.items ++ defined.bound_names (binds_of (map (bind_of i) binds.now))) }
 {
     for bind in binds {
         atoms.push(bind.name.atom)?;
@@ -66,7 +72,8 @@ fn push_bound(binds: &[Bind], atoms: &mut Vec<u32>) -> Result<(), AllocError>
 
 // Appends the names of `var`.
 fn push_var_binds(decl: Decl, binds: &[Bind], atoms: &mut Vec<u32>) -> Result<(), AllocError>
-    ensures { OnOk result ((i : Interpretation) → map (text_of i) atoms.new.items ≡ map (text_of i) atoms.old.items ++ defined.var_binds decl (binds_of (map (bind_of i) binds.now))) }
+    ensures { OnOk result ((i : Interpretation) → map (text_of i) atoms.new.items
+        ≡ map (text_of i) atoms.old.items ++ defined.var_binds decl (binds_of (map (bind_of i) binds.now))) }
 {
     match decl {
         Decl::Var => push_bound(binds, atoms),
@@ -77,7 +84,8 @@ fn push_var_binds(decl: Decl, binds: &[Bind], atoms: &mut Vec<u32>) -> Result<()
 
 // Appends the var names of the head of a `for`.
 fn push_init_vars(init: &Init, atoms: &mut Vec<u32>) -> Result<(), AllocError>
-    ensures { OnOk result ((i : Interpretation) → map (text_of i) atoms.new.items ≡ map (text_of i) atoms.old.items ++ defined.init_var_names (init_of i init.now)) }
+    ensures { OnOk result ((i : Interpretation) → map (text_of i) atoms.new.items
+        ≡ map (text_of i) atoms.old.items ++ defined.init_var_names (init_of i init.now)) }
 {
     match init {
         Init::Nothing => Ok(()),
@@ -88,7 +96,8 @@ fn push_init_vars(init: &Init, atoms: &mut Vec<u32>) -> Result<(), AllocError>
 
 // Appends the var name of the head of a `for` with `in`.
 fn push_each_var(each: &Each, atoms: &mut Vec<u32>) -> Result<(), AllocError>
-    ensures { OnOk result ((i : Interpretation) → map (text_of i) atoms.new.items ≡ map (text_of i) atoms.old.items ++ defined.each_var_names (each_of i each.now)) }
+    ensures { OnOk result ((i : Interpretation) → map (text_of i) atoms.new.items
+        ≡ map (text_of i) atoms.old.items ++ defined.each_var_names (each_of i each.now)) }
 {
     match each {
         Each::Target(_) => Ok(()),
@@ -97,7 +106,8 @@ fn push_each_var(each: &Each, atoms: &mut Vec<u32>) -> Result<(), AllocError>
 }
 
 fn push_each_bind(decl: Decl, name: Ident, atoms: &mut Vec<u32>) -> Result<(), AllocError>
-    ensures { OnOk result ((i : Interpretation) → map (text_of i) atoms.new.items ≡ map (text_of i) atoms.old.items ++ defined.each_var_names (model.BindEach decl (named i name))) }
+    ensures { OnOk result ((i : Interpretation) → map (text_of i) atoms.new.items
+        ≡ map (text_of i) atoms.old.items ++ defined.each_var_names (model.BindEach decl (named i name))) }
 {
     match decl {
         Decl::Var => {
@@ -112,7 +122,8 @@ fn push_each_bind(decl: Decl, name: Ident, atoms: &mut Vec<u32>) -> Result<(), A
 /// Appends the var names of a statement, at any depth, functions left out.
 #[cycle(var_names)]
 pub fn push_var_names(stmt: &Stmt, atoms: &mut Vec<u32>) -> Result<(), AllocError>
-    ensures { OnOk result ((i : Interpretation) → map (text_of i) atoms.new.items ≡ map (text_of i) atoms.old.items ++ defined.var_names_in (stmt_of i stmt.now)) }
+    ensures { OnOk result ((i : Interpretation) → map (text_of i) atoms.new.items
+        ≡ map (text_of i) atoms.old.items ++ defined.var_names_in (stmt_of i stmt.now)) }
 {
     match stmt {
         Stmt::Block(items) => push_all_var_names(items, atoms),
@@ -120,32 +131,36 @@ pub fn push_var_names(stmt: &Stmt, atoms: &mut Vec<u32>) -> Result<(), AllocErro
         Stmt::Debugger { .. } => Ok(()),
         Stmt::Binds { decl, binds, .. } => push_var_binds(*decl, binds, atoms),
         Stmt::Value { .. } => Ok(()),
-        Stmt::If { yes, no, .. } => {
-            push_var_names(yes, atoms)?;
-            push_else_var_names(no, atoms)?;
+        Stmt::If(boxed) => {
+            let statement: &IfStatement = boxed;
+            push_var_names(&statement.yes, atoms)?;
+            push_else_var_names(&statement.no, atoms)?;
             Ok(())
         }
         Stmt::Do { body, .. } => push_var_names(body, atoms),
         Stmt::While { body, .. } => push_var_names(body, atoms),
-        Stmt::For { init, body, .. } => {
-            push_init_vars(init, atoms)?;
-            push_var_names(body, atoms)?;
+        Stmt::For(boxed) => {
+            let statement: &ForStatement = boxed;
+            push_init_vars(&statement.init, atoms)?;
+            push_var_names(&statement.body, atoms)?;
             Ok(())
         }
-        Stmt::ForIn { each, body, .. } => {
-            push_each_var(each, atoms)?;
-            push_var_names(body, atoms)?;
+        Stmt::ForIn(boxed) => {
+            let statement: &ForInStatement = boxed;
+            push_each_var(&statement.each, atoms)?;
+            push_var_names(&statement.body, atoms)?;
             Ok(())
         }
         Stmt::Continue { .. } => Ok(()),
         Stmt::Break { .. } => Ok(()),
         Stmt::Return { .. } => Ok(()),
         Stmt::Throw { .. } => Ok(()),
-        Stmt::Switch { clauses, .. } => push_clauses_var_names(clauses, atoms),
+        Stmt::Switch(boxed) => push_clauses_var_names(&boxed.clauses, atoms),
         Stmt::Label { body, .. } => push_var_names(body, atoms),
-        Stmt::Try { body, handler, .. } => {
-            push_all_var_names(body, atoms)?;
-            push_all_var_names(handler, atoms)?;
+        Stmt::Try(boxed) => {
+            let statement: &TryStatement = boxed;
+            push_all_var_names(&statement.body, atoms)?;
+            push_all_var_names(&statement.handler, atoms)?;
             Ok(())
         }
         Stmt::Func(_) => Ok(()),
@@ -154,7 +169,8 @@ pub fn push_var_names(stmt: &Stmt, atoms: &mut Vec<u32>) -> Result<(), AllocErro
 
 #[cycle(var_names)]
 fn push_all_var_names(items: &[Stmt], atoms: &mut Vec<u32>) -> Result<(), AllocError>
-    ensures { OnOk result ((i : Interpretation) → map (text_of i) atoms.new.items ≡ map (text_of i) atoms.old.items ++ defined.var_names (stmts_of (map (stmt_of i) items.now))) }
+    ensures { OnOk result ((i : Interpretation) → map (text_of i) atoms.new.items
+        ≡ map (text_of i) atoms.old.items ++ defined.var_names (stmts_of (map (stmt_of i) items.now))) }
 {
     for item in items {
         push_var_names(item, atoms)?;
@@ -164,7 +180,8 @@ fn push_all_var_names(items: &[Stmt], atoms: &mut Vec<u32>) -> Result<(), AllocE
 
 #[cycle(var_names)]
 fn push_else_var_names(no: &Option<Box<Stmt>>, atoms: &mut Vec<u32>) -> Result<(), AllocError>
-    ensures { OnOk result ((i : Interpretation) → map (text_of i) atoms.new.items ≡ map (text_of i) atoms.old.items ++ defined.else_var_names (maybe_stmt_of (option_map (λ boxed. stmt_of i boxed.value) no.now))) }
+    ensures { OnOk result ((i : Interpretation) → map (text_of i) atoms.new.items
+        ≡ map (text_of i) atoms.old.items ++ defined.else_var_names (maybe_stmt_of (option_map (λ boxed. stmt_of i boxed.value) no.now))) }
 {
     match no {
         None => Ok(()),
@@ -174,7 +191,8 @@ fn push_else_var_names(no: &Option<Box<Stmt>>, atoms: &mut Vec<u32>) -> Result<(
 
 #[cycle(var_names)]
 fn push_clauses_var_names(clauses: &[Clause], atoms: &mut Vec<u32>) -> Result<(), AllocError>
-    ensures { OnOk result ((i : Interpretation) → map (text_of i) atoms.new.items ≡ map (text_of i) atoms.old.items ++ defined.clauses_var_names (clauses_of (map (clause_of i) clauses.now))) }
+    ensures { OnOk result ((i : Interpretation) → map (text_of i) atoms.new.items
+        ≡ map (text_of i) atoms.old.items ++ defined.clauses_var_names (clauses_of (map (clause_of i) clauses.now))) }
 {
     for clause in clauses {
         push_all_var_names(&clause.items, atoms)?;
@@ -184,7 +202,9 @@ fn push_clauses_var_names(clauses: &[Clause], atoms: &mut Vec<u32>) -> Result<()
 
 // Appends the name of a function that is declared in a block.
 fn push_function_name(func: &Func, names: &mut Vec<DeclaredName>) -> Result<(), AllocError>
-    ensures { OnOk result ((i : Interpretation) → declarations_in i names.new.items ≡ declarations_in i names.old.items ++ defined.declarations bind_kind.Function (defined.name_list (defined.function_name (func_of i func.now)))) }
+    ensures { OnOk result ((i : Interpretation) → declarations_in i names.new.items
+        ≡ declarations_in i names.old.items ++ defined.declarations bind_kind.Function
+        (defined.name_list (defined.function_name (func_of i func.now)))) }
 {
     match func.name {
         Some(name) => {
@@ -200,7 +220,8 @@ fn push_function_name(func: &Func, names: &mut Vec<DeclaredName>) -> Result<(), 
 
 // Appends the lexical names of one statement of a block.
 fn push_lexical_name(stmt: &Stmt, names: &mut Vec<DeclaredName>) -> Result<(), AllocError>
-    ensures { OnOk result ((i : Interpretation) → declarations_in i names.new.items ≡ declarations_in i names.old.items ++ defined.lexical_name (stmt_of i stmt.now)) }
+    ensures { OnOk result ((i : Interpretation) → declarations_in i names.new.items
+        ≡ declarations_in i names.old.items ++ defined.lexical_name (stmt_of i stmt.now)) }
 {
     match stmt {
         Stmt::Binds { decl, binds, .. } => push_lexical_binds(*decl, binds, names),
@@ -211,7 +232,8 @@ fn push_lexical_name(stmt: &Stmt, names: &mut Vec<DeclaredName>) -> Result<(), A
 
 /// Appends the lexical names of a block.
 pub fn push_lexical_names(items: &[Stmt], names: &mut Vec<DeclaredName>) -> Result<(), AllocError>
-    ensures { OnOk result ((i : Interpretation) → declarations_in i names.new.items ≡ declarations_in i names.old.items ++ defined.lexical_names (stmts_of (map (stmt_of i) items.now))) }
+    ensures { OnOk result ((i : Interpretation) → declarations_in i names.new.items
+        ≡ declarations_in i names.old.items ++ defined.lexical_names (stmts_of (map (stmt_of i) items.now))) }
 {
     for item in items {
         push_lexical_name(item, names)?;
@@ -224,7 +246,8 @@ pub fn push_clauses_lexical_names(
     clauses: &[Clause],
     names: &mut Vec<DeclaredName>,
 ) -> Result<(), AllocError>
-    ensures { OnOk result ((i : Interpretation) → declarations_in i names.new.items ≡ declarations_in i names.old.items ++ defined.clauses_lexical_names (clauses_of (map (clause_of i) clauses.now))) }
+    ensures { OnOk result ((i : Interpretation) → declarations_in i names.new.items
+        ≡ declarations_in i names.old.items ++ defined.clauses_lexical_names (clauses_of (map (clause_of i) clauses.now))) }
 {
     for clause in clauses {
         push_lexical_names(&clause.items, names)?;
@@ -234,7 +257,8 @@ pub fn push_clauses_lexical_names(
 
 // Appends the lexical names of one statement at the top of a script or function body.
 fn push_top_lexical_name(stmt: &Stmt, names: &mut Vec<DeclaredName>) -> Result<(), AllocError>
-    ensures { OnOk result ((i : Interpretation) → declarations_in i names.new.items ≡ declarations_in i names.old.items ++ defined.top_lexical_name (stmt_of i stmt.now)) }
+    ensures { OnOk result ((i : Interpretation) → declarations_in i names.new.items
+        ≡ declarations_in i names.old.items ++ defined.top_lexical_name (stmt_of i stmt.now)) }
 {
     match stmt {
         Stmt::Binds { decl, binds, .. } => push_lexical_binds(*decl, binds, names),
@@ -247,7 +271,8 @@ pub fn push_top_lexical_names(
     items: &[Stmt],
     names: &mut Vec<DeclaredName>,
 ) -> Result<(), AllocError>
-    ensures { OnOk result ((i : Interpretation) → declarations_in i names.new.items ≡ declarations_in i names.old.items ++ defined.top_lexical_names (stmts_of (map (stmt_of i) items.now))) }
+    ensures { OnOk result ((i : Interpretation) → declarations_in i names.new.items
+        ≡ declarations_in i names.old.items ++ defined.top_lexical_names (stmts_of (map (stmt_of i) items.now))) }
 {
     for item in items {
         push_top_lexical_name(item, names)?;
@@ -257,7 +282,8 @@ pub fn push_top_lexical_names(
 
 /// Appends the lexical names of the head of a `for`.
 pub fn push_init_lexical_names(init: &Init, names: &mut Vec<DeclaredName>) -> Result<(), AllocError>
-    ensures { OnOk result ((i : Interpretation) → declarations_in i names.new.items ≡ declarations_in i names.old.items ++ defined.init_lexical_names (init_of i init.now)) }
+    ensures { OnOk result ((i : Interpretation) → declarations_in i names.new.items
+        ≡ declarations_in i names.old.items ++ defined.init_lexical_names (init_of i init.now)) }
 {
     match init {
         Init::Nothing => Ok(()),
@@ -267,7 +293,8 @@ pub fn push_init_lexical_names(init: &Init, names: &mut Vec<DeclaredName>) -> Re
 }
 
 fn push_name(kind: BindKind, name: Ident, names: &mut Vec<DeclaredName>) -> Result<(), AllocError>
-    ensures { OnOk result ((i : Interpretation) → declarations_in i names.new.items ≡ declarations_in i names.old.items ++ defined.declaration kind (text_of i name.atom) ∷ []) }
+    ensures { OnOk result ((i : Interpretation) → declarations_in i names.new.items
+        ≡ declarations_in i names.old.items ++ defined.declaration kind (text_of i name.atom) ∷ []) }
 {
     names.push(DeclaredName {
         atom: name.atom,
@@ -277,7 +304,8 @@ fn push_name(kind: BindKind, name: Ident, names: &mut Vec<DeclaredName>) -> Resu
 }
 
 fn push_each_name(decl: Decl, name: Ident, names: &mut Vec<DeclaredName>) -> Result<(), AllocError>
-    ensures { OnOk result ((i : Interpretation) → declarations_in i names.new.items ≡ declarations_in i names.old.items ++ defined.each_lexical_names (model.BindEach decl (named i name))) }
+    ensures { OnOk result ((i : Interpretation) → declarations_in i names.new.items
+        ≡ declarations_in i names.old.items ++ defined.each_lexical_names (model.BindEach decl (named i name))) }
 {
     match decl {
         Decl::Var => Ok(()),
@@ -288,7 +316,8 @@ fn push_each_name(decl: Decl, name: Ident, names: &mut Vec<DeclaredName>) -> Res
 
 /// Appends the lexical name of the head of a `for` with `in`.
 pub fn push_each_lexical_names(each: &Each, names: &mut Vec<DeclaredName>) -> Result<(), AllocError>
-    ensures { OnOk result ((i : Interpretation) → declarations_in i names.new.items ≡ declarations_in i names.old.items ++ defined.each_lexical_names (each_of i each.now)) }
+    ensures { OnOk result ((i : Interpretation) → declarations_in i names.new.items
+        ≡ declarations_in i names.old.items ++ defined.each_lexical_names (each_of i each.now)) }
 {
     match each {
         Each::Target(_) => Ok(()),
@@ -301,7 +330,8 @@ pub fn push_catch_name(
     param: Option<Ident>,
     names: &mut Vec<DeclaredName>,
 ) -> Result<(), AllocError>
-    ensures { OnOk result ((i : Interpretation) → declarations_in i names.new.items ≡ declarations_in i names.old.items ++ catch_names (maybe_named i param)) }
+    ensures { OnOk result ((i : Interpretation) → declarations_in i names.new.items
+        ≡ declarations_in i names.old.items ++ catch_names (maybe_named i param)) }
 {
     match param {
         Some(name) => push_name(BindKind::Catch, name, names),

@@ -104,7 +104,8 @@ fn own_slot(kind: BindKind, next: NextSlots) -> Slot
 }
 
 fn slot_of(kind: BindKind, closed: bool, next: NextSlots) -> Slot
-    ensures { let wanted = defined.slot_of scope_kind.Lexical next.env next.arg next.frame (record { kind = kind; closed = closed }) in SlotFits wanted → result ≡ wanted }
+    ensures { let wanted = defined.slot_of scope_kind.Lexical next.env next.arg next.frame
+        (record { kind = kind; closed = closed }) in SlotFits wanted → result ≡ wanted }
 {
     if closed {
         Slot::Env(narrow(next.env))
@@ -157,7 +158,10 @@ pub fn place(
     from: usize,
     names: &[DeclaredName],
 ) -> Result<Placed, AllocError>
-    ensures { IfOk result (λ made. (inner : List ModelText) (later : List NamedScope) → Ready known.now.texts.now known.now.closed.now number inner later 0 0 frame from (declarations_of known.now.texts.now names.now) → Going known.now.texts.now known.now.closed.now number inner later frame (declarations_of known.now.texts.now names.now) (stands.named_bindings known.now.texts.now made.bindings.items) made.next.env made.next.arg made.next.frame made.closed []) }
+    ensures { IfOk result (λ made. (inner : List ModelText) (later : List NamedScope)
+        → Ready known.now.texts.now known.now.closed.now number inner later 0 0 frame from (declarations_of known.now.texts.now names.now)
+        → Going known.now.texts.now known.now.closed.now number inner later frame (declarations_of known.now.texts.now names.now)
+        (stands.named_bindings known.now.texts.now made.bindings.items) made.next.env made.next.arg made.next.frame made.closed []) }
 {
     let mut bindings = Vec::new(known.alloc);
     let mut next = NextSlots {

@@ -10,7 +10,8 @@ ghost use Rattle.stencil_data.specs.declared.scopes.ScopeKind.TheVariants as sco
 ghost use Rattle.scope_analysis.specs.DeclaredNames.{lexical_names, clauses_lexical_names, init_lexical_names, each_lexical_names};
 ghost use Rattle.scope_analysis.specs.Kept.{declarations_of, under};
 ghost use Rattle.scope_analysis.specs.Scopes as defined;
-ghost use Rattle.scope_analysis.specs.Scopes.{scope_count, catch_names, block_inner, count_stmt, count_stmts, count_else, count_clauses, scopes_stmt, scopes_stmts, scopes_else, scopes_clauses, scope_around};
+ghost use Rattle.scope_analysis.specs.Scopes.{scope_count, catch_names, block_inner, count_stmt, count_stmts, count_else, count_clauses};
+ghost use Rattle.scope_analysis.specs.Scopes.{scopes_stmt, scopes_stmts, scopes_else, scopes_clauses, scope_around};
 ghost use Rattle.scope_analysis.specs.Uses.{uses_clauses};
 ghost use Rattle.scope_analysis.specs.Walked.{Scoped, Opens, OpensAny};
 
@@ -19,7 +20,9 @@ use crate::names::{
     push_init_lexical_names, push_lexical_names,
 };
 use crate::place::{Placed, ScopeContext, narrow, place};
-use script_grammar::tree::{Clause, Each, Ident, Init, Stmt};
+use script_grammar::tree::{
+    Clause, Each, ForInStatement, ForStatement, Ident, IfStatement, Init, Stmt, TryStatement,
+};
 use std::alloc::AllocError;
 use stencil_data::{ScopeData, ScopeKind};
 
@@ -46,7 +49,9 @@ pub fn push_scope(
     around: ScopePosition,
 ) -> Result<ScopePosition, AllocError>
     requires { is_global kind ≡ false }
-    ensures { IfOk result (λ inside. Opens known.now.texts.now known.now.closed.now made.old.scopes.items made.old.closed made.new.scopes.items made.new.closed kind (declarations_of known.now.texts.now names.now) around inside) }
+    ensures { IfOk result
+        (λ inside. Opens known.now.texts.now known.now.closed.now made.old.scopes.items made.old.closed made.new.scopes.items
+        made.new.closed kind (declarations_of known.now.texts.now names.now) around inside) }
 {
     let number = made.scopes.len();
     let Placed {
@@ -76,7 +81,9 @@ pub fn open_scope(
     around: ScopePosition,
 ) -> Result<ScopePosition, AllocError>
     requires { is_global kind ≡ false }
-    ensures { IfOk result (λ inside. OpensAny known.now.texts.now known.now.closed.now made.old.scopes.items made.old.closed made.new.scopes.items made.new.closed kind (declarations_of known.now.texts.now names.now) around inside) }
+    ensures { IfOk result
+        (λ inside. OpensAny known.now.texts.now known.now.closed.now made.old.scopes.items made.old.closed made.new.scopes.items
+        made.new.closed kind (declarations_of known.now.texts.now names.now) around inside) }
 {
     if names.is_empty() {
         return Ok(around);
@@ -92,7 +99,9 @@ fn open_block(
     items: &[Stmt],
     around: ScopePosition,
 ) -> Result<ScopePosition, AllocError>
-    ensures { IfOk result (λ inside. (bodies : ℕ → Stmts) → OpensAny known.now.texts.now known.now.closed.now made.old.scopes.items made.old.closed made.new.scopes.items made.new.closed scope_kind.Lexical (lexical_names (stmts_of (map (stmt_of (under known.now.texts.now bodies)) items.now))) around inside) }
+    ensures { IfOk result (λ inside. (bodies : ℕ → Stmts)
+        → OpensAny known.now.texts.now known.now.closed.now made.old.scopes.items made.old.closed made.new.scopes.items made.new.closed
+        scope_kind.Lexical (lexical_names (stmts_of (map (stmt_of (under known.now.texts.now bodies)) items.now))) around inside) }
 {
     let mut names = Vec::new(known.alloc);
     push_lexical_names(items, &mut names)?;
@@ -107,7 +116,9 @@ fn open_switch(
     clauses: &[Clause],
     around: ScopePosition,
 ) -> Result<ScopePosition, AllocError>
-    ensures { IfOk result (λ inside. (bodies : ℕ → Stmts) → OpensAny known.now.texts.now known.now.closed.now made.old.scopes.items made.old.closed made.new.scopes.items made.new.closed scope_kind.Lexical (clauses_lexical_names (clauses_of (map (clause_of (under known.now.texts.now bodies)) clauses.now))) around inside) }
+    ensures { IfOk result (λ inside. (bodies : ℕ → Stmts)
+        → OpensAny known.now.texts.now known.now.closed.now made.old.scopes.items made.old.closed made.new.scopes.items made.new.closed
+        scope_kind.Lexical (clauses_lexical_names (clauses_of (map (clause_of (under known.now.texts.now bodies)) clauses.now))) around inside) }
 {
     let mut names = Vec::new(known.alloc);
     push_clauses_lexical_names(clauses, &mut names)?;
@@ -122,7 +133,9 @@ fn open_init(
     init: &Init,
     around: ScopePosition,
 ) -> Result<ScopePosition, AllocError>
-    ensures { IfOk result (λ inside. (bodies : ℕ → Stmts) → OpensAny known.now.texts.now known.now.closed.now made.old.scopes.items made.old.closed made.new.scopes.items made.new.closed scope_kind.Lexical (init_lexical_names (init_of (under known.now.texts.now bodies) init.now)) around inside) }
+    ensures { IfOk result (λ inside. (bodies : ℕ → Stmts)
+        → OpensAny known.now.texts.now known.now.closed.now made.old.scopes.items made.old.closed made.new.scopes.items made.new.closed
+        scope_kind.Lexical (init_lexical_names (init_of (under known.now.texts.now bodies) init.now)) around inside) }
 {
     let mut names = Vec::new(known.alloc);
     push_init_lexical_names(init, &mut names)?;
@@ -137,7 +150,9 @@ fn open_each(
     each: &Each,
     around: ScopePosition,
 ) -> Result<ScopePosition, AllocError>
-    ensures { IfOk result (λ inside. (bodies : ℕ → Stmts) → OpensAny known.now.texts.now known.now.closed.now made.old.scopes.items made.old.closed made.new.scopes.items made.new.closed scope_kind.Lexical (each_lexical_names (each_of (under known.now.texts.now bodies) each.now)) around inside) }
+    ensures { IfOk result (λ inside. (bodies : ℕ → Stmts)
+        → OpensAny known.now.texts.now known.now.closed.now made.old.scopes.items made.old.closed made.new.scopes.items made.new.closed
+        scope_kind.Lexical (each_lexical_names (each_of (under known.now.texts.now bodies) each.now)) around inside) }
 {
     let mut names = Vec::new(known.alloc);
     push_each_lexical_names(each, &mut names)?;
@@ -152,7 +167,9 @@ fn open_catch(
     param: Option<Ident>,
     around: ScopePosition,
 ) -> Result<ScopePosition, AllocError>
-    ensures { IfOk result (λ inside. (bodies : ℕ → Stmts) → OpensAny known.now.texts.now known.now.closed.now made.old.scopes.items made.old.closed made.new.scopes.items made.new.closed scope_kind.SimpleCatch (catch_names (maybe_named (under known.now.texts.now bodies) param)) around inside) }
+    ensures { IfOk result (λ inside. (bodies : ℕ → Stmts)
+        → OpensAny known.now.texts.now known.now.closed.now made.old.scopes.items made.old.closed made.new.scopes.items made.new.closed
+        scope_kind.SimpleCatch (catch_names (maybe_named (under known.now.texts.now bodies) param)) around inside) }
 {
     let mut names = Vec::new(known.alloc);
     push_catch_name(param, &mut names)?;
@@ -168,37 +185,40 @@ fn add_stmt(
     stmt: &Stmt,
     around: ScopePosition,
 ) -> Result<(), AllocError>
-    ensures { OnOk result ((bodies : ℕ → Stmts) → Scoped known.now.texts.now known.now.closed.now around made.old.scopes.items made.old.closed made.new.scopes.items made.new.closed (count_stmt (stmt_of (under known.now.texts.now bodies) stmt.now)) (scopes_stmt (stmt_of (under known.now.texts.now bodies) stmt.now))) }
+    ensures { OnOk result ((bodies : ℕ → Stmts)
+        → Scoped known.now.texts.now known.now.closed.now around made.old.scopes.items made.old.closed made.new.scopes.items
+        made.new.closed (count_stmt (stmt_of (under known.now.texts.now bodies) stmt.now))
+        (scopes_stmt (stmt_of (under known.now.texts.now bodies) stmt.now))) }
 {
     match stmt {
         Stmt::Block(items) => Ok(add_block(known, made, items, around)?),
-        Stmt::If { yes, no, .. } => {
-            add_stmt(known, made, yes, around)?;
-            add_else(known, made, no, around)?;
+        Stmt::If(boxed) => {
+            let statement: &IfStatement = boxed;
+            add_stmt(known, made, &statement.yes, around)?;
+            add_else(known, made, &statement.no, around)?;
             Ok(())
         }
         Stmt::Do { body, .. } => Ok(add_stmt(known, made, body, around)?),
         Stmt::While { body, .. } => Ok(add_stmt(known, made, body, around)?),
-        Stmt::For { init, body, .. } => {
-            let inside = open_init(known, made, init, around)?;
-            add_stmt(known, made, body, inside)?;
+        Stmt::For(boxed) => {
+            let statement: &ForStatement = boxed;
+            let inside = open_init(known, made, &statement.init, around)?;
+            add_stmt(known, made, &statement.body, inside)?;
             Ok(())
         }
-        Stmt::ForIn { each, body, .. } => {
-            let inside = open_each(known, made, each, around)?;
-            add_stmt(known, made, body, inside)?;
+        Stmt::ForIn(boxed) => {
+            let statement: &ForInStatement = boxed;
+            let inside = open_each(known, made, &statement.each, around)?;
+            add_stmt(known, made, &statement.body, inside)?;
             Ok(())
         }
-        Stmt::Switch { clauses, .. } => Ok(add_switch(known, made, clauses, around)?),
+        Stmt::Switch(boxed) => Ok(add_switch(known, made, &boxed.clauses, around)?),
         Stmt::Label { body, .. } => Ok(add_stmt(known, made, body, around)?),
-        Stmt::Try {
-            body,
-            param,
-            handler,
-        } => {
-            add_block(known, made, body, around)?;
-            let inside = open_catch(known, made, *param, around)?;
-            add_block(known, made, handler, inside)?;
+        Stmt::Try(boxed) => {
+            let statement: &TryStatement = boxed;
+            add_block(known, made, &statement.body, around)?;
+            let inside = open_catch(known, made, statement.param, around)?;
+            add_block(known, made, &statement.handler, inside)?;
             Ok(())
         }
         Stmt::Empty => Ok(()),
@@ -220,7 +240,10 @@ fn add_else(
     no: &Option<Box<Stmt>>,
     around: ScopePosition,
 ) -> Result<(), AllocError>
-    ensures { OnOk result ((bodies : ℕ → Stmts) → Scoped known.now.texts.now known.now.closed.now around made.old.scopes.items made.old.closed made.new.scopes.items made.new.closed (count_else (maybe_stmt_of (option_map (λ boxed. stmt_of (under known.now.texts.now bodies) boxed.value) no.now))) (scopes_else (maybe_stmt_of (option_map (λ boxed. stmt_of (under known.now.texts.now bodies) boxed.value) no.now)))) }
+    ensures { OnOk result ((bodies : ℕ → Stmts)
+        → Scoped known.now.texts.now known.now.closed.now around made.old.scopes.items made.old.closed made.new.scopes.items
+        made.new.closed (count_else (maybe_stmt_of (option_map (λ boxed. stmt_of (under known.now.texts.now bodies) boxed.value) no.now)))
+        (scopes_else (maybe_stmt_of (option_map (λ boxed. stmt_of (under known.now.texts.now bodies) boxed.value) no.now)))) }
 {
     match no {
         None => Ok(()),
@@ -236,7 +259,10 @@ fn add_block(
     items: &[Stmt],
     around: ScopePosition,
 ) -> Result<(), AllocError>
-    ensures { OnOk result ((bodies : ℕ → Stmts) → let m = stmts_of (map (stmt_of (under known.now.texts.now bodies)) items.now) in Scoped known.now.texts.now known.now.closed.now around made.old.scopes.items made.old.closed made.new.scopes.items made.new.closed (scope_count (lexical_names m) + count_stmts m) (scope_around scope_kind.Lexical (lexical_names m) (block_inner m) (scopes_stmts m))) }
+    ensures { OnOk result ((bodies : ℕ → Stmts) → let m = stmts_of
+        (map (stmt_of (under known.now.texts.now bodies)) items.now) in Scoped known.now.texts.now known.now.closed.now around
+        made.old.scopes.items made.old.closed made.new.scopes.items made.new.closed (scope_count (lexical_names m) + count_stmts m)
+        (scope_around scope_kind.Lexical (lexical_names m) (block_inner m) (scopes_stmts m))) }
 {
     let inside = open_block(known, made, items, around)?;
     add_stmts(known, made, items, inside)?;
@@ -251,7 +277,11 @@ fn add_switch(
     clauses: &[Clause],
     around: ScopePosition,
 ) -> Result<(), AllocError>
-    ensures { OnOk result ((bodies : ℕ → Stmts) → let m = clauses_of (map (clause_of (under known.now.texts.now bodies)) clauses.now) in Scoped known.now.texts.now known.now.closed.now around made.old.scopes.items made.old.closed made.new.scopes.items made.new.closed (scope_count (clauses_lexical_names m) + count_clauses m) (scope_around scope_kind.Lexical (clauses_lexical_names m) (uses_clauses m).inner (scopes_clauses m))) }
+    ensures { OnOk result ((bodies : ℕ → Stmts) → let m = clauses_of
+        (map (clause_of (under known.now.texts.now bodies)) clauses.now) in Scoped known.now.texts.now known.now.closed.now around
+        made.old.scopes.items made.old.closed made.new.scopes.items made.new.closed
+        (scope_count (clauses_lexical_names m) + count_clauses m)
+        (scope_around scope_kind.Lexical (clauses_lexical_names m) (uses_clauses m).inner (scopes_clauses m))) }
 {
     let inside = open_switch(known, made, clauses, around)?;
     add_clauses(known, made, clauses, inside)?;
@@ -266,7 +296,10 @@ pub fn add_stmts(
     items: &[Stmt],
     around: ScopePosition,
 ) -> Result<(), AllocError>
-    ensures { OnOk result ((bodies : ℕ → Stmts) → Scoped known.now.texts.now known.now.closed.now around made.old.scopes.items made.old.closed made.new.scopes.items made.new.closed (count_stmts (stmts_of (map (stmt_of (under known.now.texts.now bodies)) items.now))) (scopes_stmts (stmts_of (map (stmt_of (under known.now.texts.now bodies)) items.now)))) }
+    ensures { OnOk result ((bodies : ℕ → Stmts)
+        → Scoped known.now.texts.now known.now.closed.now around made.old.scopes.items made.old.closed made.new.scopes.items
+        made.new.closed (count_stmts (stmts_of (map (stmt_of (under known.now.texts.now bodies)) items.now)))
+        (scopes_stmts (stmts_of (map (stmt_of (under known.now.texts.now bodies)) items.now)))) }
 {
     for item in items {
         add_stmt(known, made, item, around)?;
@@ -282,7 +315,10 @@ fn add_clauses(
     clauses: &[Clause],
     around: ScopePosition,
 ) -> Result<(), AllocError>
-    ensures { OnOk result ((bodies : ℕ → Stmts) → Scoped known.now.texts.now known.now.closed.now around made.old.scopes.items made.old.closed made.new.scopes.items made.new.closed (count_clauses (clauses_of (map (clause_of (under known.now.texts.now bodies)) clauses.now))) (scopes_clauses (clauses_of (map (clause_of (under known.now.texts.now bodies)) clauses.now)))) }
+    ensures { OnOk result ((bodies : ℕ → Stmts)
+        → Scoped known.now.texts.now known.now.closed.now around made.old.scopes.items made.old.closed made.new.scopes.items
+        made.new.closed (count_clauses (clauses_of (map (clause_of (under known.now.texts.now bodies)) clauses.now)))
+        (scopes_clauses (clauses_of (map (clause_of (under known.now.texts.now bodies)) clauses.now)))) }
 {
     for clause in clauses {
         add_stmts(known, made, &clause.items, around)?;

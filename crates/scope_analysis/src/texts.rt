@@ -26,8 +26,9 @@ pub fn first_ones(alloc: Global, texts: &[Text], atoms: &[u32]) -> Result<Vec<u3
 
 // The texts of these names.
 fn text_set<'a>(alloc: Global, texts: &'a [Text], atoms: &[u32]) -> Result<TextSet<'a>, AllocError>
-    ensures has { IfOk result (λ some. (q : ModelText) → has texts.now some.cells.items some.others q ≡ has_text (map (text_at texts.now) atoms.now) q) }
-    ensures place { IfOk result (λ some. HasPlace some.cells.items some.others) }
+    ensures has { IfOk result (λ some. (q : ModelText) → has texts.now some.cells.items some.later.cells.items some.later.others q
+        ≡ has_text (map (text_at texts.now) atoms.now) q) }
+    ensures place { IfOk result (λ some. HasPlace texts.now some.cells.items some.later.cells.items some.later.others) }
 {
     let mut some = TextSet::with_room(alloc, atoms.len())?;
     for atom in atoms {
@@ -43,7 +44,8 @@ pub fn without(
     gone: &[u32],
     atoms: &[u32],
 ) -> Result<Vec<u32>, AllocError>
-    ensures { IfOk result (λ kept. map (text_at texts.now) kept.items ≡ texts_without (map (text_at texts.now) gone.now) (map (text_at texts.now) atoms.now)) }
+    ensures { IfOk result (λ kept. map (text_at texts.now) kept.items
+        ≡ texts_without (map (text_at texts.now) gone.now) (map (text_at texts.now) atoms.now)) }
 {
     let some = text_set(alloc, texts, gone)?;
     let mut kept = Vec::new(alloc);

@@ -24,7 +24,8 @@ use stencil_data::{BindKind, Binding, ClosedName, ScopeData, ScopeKind, Slot, Te
 
 // Appends the name of a declared function.
 fn push_declared_name(stmt: &Stmt, atoms: &mut Vec<u32>) -> Result<(), AllocError>
-    ensures { OnOk result ((i : Interpretation) → map (text_of i) atoms.new.items ≡ map (text_of i) atoms.old.items ++ declared_name (stmt_of i stmt.now)) }
+    ensures { OnOk result ((i : Interpretation) → map (text_of i) atoms.new.items
+        ≡ map (text_of i) atoms.old.items ++ declared_name (stmt_of i stmt.now)) }
 {
     match stmt {
         Stmt::Func(func) => push_own_name(func, atoms),
@@ -33,7 +34,8 @@ fn push_declared_name(stmt: &Stmt, atoms: &mut Vec<u32>) -> Result<(), AllocErro
 }
 
 fn push_own_name(func: &Func, atoms: &mut Vec<u32>) -> Result<(), AllocError>
-    ensures { OnOk result ((i : Interpretation) → map (text_of i) atoms.new.items ≡ map (text_of i) atoms.old.items ++ names.name_list (names.function_name (func_of i func.now))) }
+    ensures { OnOk result ((i : Interpretation) → map (text_of i) atoms.new.items
+        ≡ map (text_of i) atoms.old.items ++ names.name_list (names.function_name (func_of i func.now))) }
 {
     match func.name {
         Some(name) => {
@@ -46,7 +48,8 @@ fn push_own_name(func: &Func, atoms: &mut Vec<u32>) -> Result<(), AllocError>
 
 // Appends the var names at the top.
 fn push_top_var_names(items: &[Stmt], atoms: &mut Vec<u32>) -> Result<(), AllocError>
-    ensures { OnOk result ((i : Interpretation) → map (text_of i) atoms.new.items ≡ map (text_of i) atoms.old.items ++ all_top_var_names (stmts_of (map (stmt_of i) items.now))) }
+    ensures { OnOk result ((i : Interpretation) → map (text_of i) atoms.new.items
+        ≡ map (text_of i) atoms.old.items ++ all_top_var_names (stmts_of (map (stmt_of i) items.now))) }
 {
     for item in items {
         push_declared_name(item, atoms)?;
@@ -57,7 +60,8 @@ fn push_top_var_names(items: &[Stmt], atoms: &mut Vec<u32>) -> Result<(), AllocE
 
 /// The var names at the top, each once.
 pub fn top_vars(alloc: Global, texts: &[Text], items: &[Stmt]) -> Result<Vec<u32>, AllocError>
-    ensures { IfOk result (λ vars. (bodies : ℕ → Stmts) → map (text_at texts.now) vars.items ≡ top_var_names (stmts_of (map (stmt_of (under texts.now bodies)) items.now))) }
+    ensures { IfOk result (λ vars. (bodies : ℕ → Stmts)
+        → map (text_at texts.now) vars.items ≡ top_var_names (stmts_of (map (stmt_of (under texts.now bodies)) items.now))) }
 {
     let mut atoms = Vec::new(alloc);
     push_top_var_names(items, &mut atoms)?;
@@ -71,7 +75,8 @@ pub fn push_all(
     atoms: &[u32],
     names: &mut Vec<DeclaredName>,
 ) -> Result<(), AllocError>
-    ensures { OnOk result ((texts : List (List ℕ)) → declarations_of texts names.new.items ≡ declarations_of texts names.old.items ++ declarations kind (map (text_at texts) atoms.now)) }
+    ensures { OnOk result ((texts : List (List ℕ)) → declarations_of texts names.new.items
+        ≡ declarations_of texts names.old.items ++ declarations kind (map (text_at texts) atoms.now)) }
 {
     for atom in atoms {
         names.push(DeclaredName { atom: *atom, kind })?;
@@ -85,7 +90,8 @@ fn global_names(
     texts: &[Text],
     items: &[Stmt],
 ) -> Result<Vec<DeclaredName>, AllocError>
-    ensures { IfOk result (λ names. (bodies : ℕ → Stmts) → declarations_of texts.now names.items ≡ defined.global_names (stmts_of (map (stmt_of (under texts.now bodies)) items.now))) }
+    ensures { IfOk result (λ names. (bodies : ℕ → Stmts)
+        → declarations_of texts.now names.items ≡ defined.global_names (stmts_of (map (stmt_of (under texts.now bodies)) items.now))) }
 {
     let vars = top_vars(alloc, texts, items)?;
     let mut names = Vec::new(alloc);
@@ -127,7 +133,9 @@ pub fn top_scopes(
     closed: &[ClosedName],
     texts: &[Text],
 ) -> Result<Vec<ScopeData>, AllocError>
-    ensures { IfOk result (λ scopes. (bodies : ℕ → Stmts) → AreScopes texts.now (inside_global closed.now) scopes.items (defined.script_scopes (stmts_of (map (stmt_of (under texts.now bodies)) items.now)))) }
+    ensures { IfOk result (λ scopes. (bodies : ℕ → Stmts)
+        → AreScopes texts.now (inside_global closed.now) scopes.items
+        (defined.script_scopes (stmts_of (map (stmt_of (under texts.now bodies)) items.now)))) }
 {
     let inner = closed_inside(alloc, closed)?;
     let names = global_names(alloc, texts, items)?;

@@ -19,5 +19,10 @@ impl<N: Sources> Model for Pass<N> {
 
     ghost Value = { PassView };
 
-    ghost view = { λ p. record { file = p.file; cells = map (λ n. n.cell) p.notes.items; known = map (λ n. n.known) p.notes.items; own = p.own.items } };
+    ghost view = { λ p. record {
+      file = p.file;
+      cells = map (λ n. n.cell) p.notes.items;
+      known = map (λ n. n.known) p.notes.items;
+      own = p.own.items;
+    } };
 }

@@ -17,13 +17,24 @@ abbrev pub binding_by : List ℕ → Binding → Binding
 binding_by atoms binding = record { atom = atom_by atoms binding.atom; kind = binding.kind; slot = binding.slot }
 
 abbrev pub scope_by : List ℕ → ScopeView → ScopeView
-scope_by atoms scope = record { kind = scope.kind; parent = scope.parent; bindings = map (binding_by atoms) scope.bindings; env_slots = scope.env_slots }
+scope_by atoms scope = record {
+  kind = scope.kind;
+  parent = scope.parent;
+  bindings = map (binding_by atoms) scope.bindings;
+  env_slots = scope.env_slots;
+}
 
 abbrev pub closed_by : List ℕ → ClosedName → ClosedName
 closed_by atoms name = record { scope = name.scope; atom = atom_by atoms name.atom }
 
 abbrev pub record_by : List ℕ → RecordView → RecordView
-record_by atoms lazy = record { extent = lazy.extent; kind = lazy.kind; name = option_map (atom_by atoms) lazy.name; inner = lazy.inner; closed = map (closed_by atoms) lazy.closed }
+record_by atoms lazy = record {
+  extent = lazy.extent;
+  kind = lazy.kind;
+  name = option_map (atom_by atoms) lazy.name;
+  inner = lazy.inner;
+  closed = map (closed_by atoms) lazy.closed;
+}
 
 -- each of these texts stands in the other list at the place that is its atom there
 abbrev pub AreAtoms : List (List ℕ) → List (List ℕ) → List ℕ → Type 0

@@ -45,7 +45,8 @@ with_function numbered number f merged = record merged {
 
 -- whatever the parts stand for, the merged stencil stands for, none of its functions being compiled
 abbrev pub BeginsBy : {Code : Type 0} → (List (List ℕ) → List ℕ → Code → Type 0) → (List ℕ → Code → Code) → InitialView → MergedView → Type 0
-BeginsBy {Code} shows numbered parts merged = (named : NamedInitial Code) → InitialStandsFor shows parts named → MergedStandsFor shows merged (all_lazy numbered named)
+BeginsBy {Code} shows numbered parts merged =
+    (named : NamedInitial Code) → InitialStandsFor shows parts named → MergedStandsFor shows merged (all_lazy numbered named)
 
 -- whatever the old one stands for, the new one does
 abbrev pub KeepsBy : {Code : Type 0} → (List (List ℕ) → List ℕ → Code → Type 0) → MergedView → MergedView → Type 0
@@ -53,9 +54,11 @@ KeepsBy {Code} shows old new = (named : NamedMerged Code) → MergedStandsFor sh
 
 -- whatever the old one stands for, and whatever the function of this number stands for by its own texts, the new one stands
 -- for the script in which this function is compiled too
-abbrev pub AddsBy : {Code : Type 0} → (List (List ℕ) → List ℕ → Code → Type 0) → (List ℕ → Code → Code) → ℕ → FunctionView → List (List ℕ) → MergedView → MergedView → Type 0
+abbrev pub AddsBy : {Code : Type 0} → (List (List ℕ) → List ℕ → Code → Type 0) → (List ℕ → Code → Code)
+    → ℕ → FunctionView → List (List ℕ) → MergedView → MergedView → Type 0
 AddsBy {Code} shows numbered number stencil texts old new =
-    (named : NamedMerged Code) (f : NamedFunction Code) → MergedStandsFor shows old named → FunctionStandsFor shows texts stencil f → MergedStandsFor shows new (with_function numbered number f named)
+    (named : NamedMerged Code) (f : NamedFunction Code) → MergedStandsFor shows old named → FunctionStandsFor shows texts stencil f
+    → MergedStandsFor shows new (with_function numbered number f named)
 
 -- ---- the same by both readings of code: as any list of instructions with their offsets, and as commands with distances
 

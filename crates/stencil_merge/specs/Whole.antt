@@ -20,7 +20,8 @@ first_of number (n ∷ ns) (f ∷ fs) = if nat_eq n number then Some f else firs
 
 -- Of each function from this number on, given the numbers of those directly in it: what the first of its number was compiled
 -- to, if there is one.
-abbrev pub entries_from : {Code : Type 0} → (List ℕ → Code → Code) → List ℕ → List (NamedFunction Code) → ℕ → List (List ℕ) → List (Option (NamedFunction Code))
+abbrev pub entries_from : {Code : Type 0} → (List ℕ → Code → Code) → List ℕ → List (NamedFunction Code) → ℕ → List (List ℕ)
+    → List (Option (NamedFunction Code))
 entries_from numbered ns fs number [] = []
 entries_from numbered ns fs number (inner ∷ rest) =
     option_map (λ f. with_code f (numbered inner f.code)) (first_of number ns fs) ∷ entries_from numbered ns fs (number + 1) rest
@@ -45,9 +46,11 @@ EachStands shows [] (f ∷ fs) = ⊥
 EachStands shows (c ∷ cs) [] = ⊥
 EachStands shows (c ∷ cs) (f ∷ fs) = FunctionStandsFor shows c.texts.items c.stencil f × EachStands shows cs fs
 
-abbrev pub MergesBy : {Code : Type 0} → (List (List ℕ) → List ℕ → Code → Type 0) → (List ℕ → Code → Code) → InitialView → List CompiledAlone → MergedView → Type 0
+abbrev pub MergesBy : {Code : Type 0} → (List (List ℕ) → List ℕ → Code → Type 0) → (List ℕ → Code → Code)
+    → InitialView → List CompiledAlone → MergedView → Type 0
 MergesBy {Code} shows numbered parts functions merged =
-    (named : NamedInitial Code) (fs : List (NamedFunction Code)) → InitialStandsFor shows parts named → EachStands shows functions fs → MergedStandsFor shows merged (merged_of numbered named (numbers_of functions) fs)
+    (named : NamedInitial Code) (fs : List (NamedFunction Code)) → InitialStandsFor shows parts named → EachStands shows functions fs
+    → MergedStandsFor shows merged (merged_of numbered named (numbers_of functions) fs)
 
 -- whatever the parts and the functions stand for, the merged stencil stands for the script in which these are compiled
 pub record Merges (parts : InitialView) (functions : List CompiledAlone) (merged : MergedView) : Type 0 where

@@ -1,12 +1,51 @@
 //! Texts of one list as atoms of another.
 
-ghost use Rattle.std.specs.Prelude.{◌≡◌, ◌+◌, ◌-◌, ◌^◌, ◌<◌, ◌≤◌, length, slice_index_or, IfOk};
-ghost use Rattle.parser_atoms.specs.Places.{AreWithoutEquals};
+ghost use Rattle.std.specs.Prelude.{◌≡◌, ◌+◌, ◌-◌, ◌^◌, ◌<◌, ◌≤◌, length, slice_get, slice_index_or, IfOk, IfSome, OnErr, Some};
+ghost use Rattle.parser_atoms.specs.Places.{AreWithoutEquals, Interns};
 ghost use Rattle.stencil_merge.specs.Atoms.{atom_by, AreAtoms, TakesIn};
 
 use parser_atoms::Atoms;
 use std::alloc::{AllocError, Global};
 use stencil_data::Text;
+
+// How many texts every list begins with: the words that the compiler knows, as `arguments`.
+const KNOWN_WORDS: usize = 7;
+
+// The atom of a text, where it is this place, which is among the first ones.
+fn atom_standing(atoms: &Atoms, units: &[u16], place: usize) -> Option<u32>
+    requires { length atoms.now < 2 ^ 32 - 1 }
+    ensures { IfSome result (λ atom. slice_get atoms.now atom ≡ Some units.now) }
+{
+    if KNOWN_WORDS <= place || atoms.len() <= place {
+        return None;
+    }
+    let text = atoms.text(place as u32);
+    if text.units() == units {
+        Some(place as u32)
+    } else {
+        None
+    }
+}
+
+// The atom of a text, which is interned. Its place in its own list is tried first, since the known words have one place in all lists.
+fn intern_text(
+    alloc: Global,
+    atoms: &mut Atoms,
+    units: &[u16],
+    place: usize,
+) -> Result<u32, AllocError>
+    requires few { length atoms.old < 2 ^ 32 - 1 }
+    requires apart { AreWithoutEquals atoms.old }
+    ensures ok { IfOk result (Interns atoms.old atoms.new units.now) }
+    ensures err { OnErr result (atoms.new ≡ atoms.old) }
+    ensures apart { AreWithoutEquals atoms.new }
+{
+    if let Some(atom) = atom_standing(atoms, units, place) {
+        return Ok(atom);
+    }
+    let atom = atoms.intern(alloc, units)?;
+    Ok(atom)
+}
 
 /// Interns each of these texts, and answers their atoms. After an error some of them may be there.
 pub(crate) fn intern_all(
@@ -22,7 +61,7 @@ pub(crate) fn intern_all(
 {
     let mut numbers = Vec::with_capacity(alloc, texts.len())?;
     for text in texts {
-        let number = atoms.intern(alloc, text.units())?;
+        let number = intern_text(alloc, atoms, text.units(), numbers.len())?;
         numbers.push(number)?;
     }
     Ok(numbers)

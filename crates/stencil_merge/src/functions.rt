@@ -20,7 +20,8 @@ fn mark(flags: &mut [bool], number: u32)
 
 // Marks the functions of these numbers.
 fn mark_all(flags: &mut [bool], numbers: &[u32])
-    ensures { (k : ℕ) → k < length flags.old → slice_index_or flags.new k false ≡ (slice_index_or flags.old k false || list_any (λ n. nat_eq n (k + 1)) numbers.now) }
+    ensures { (k : ℕ) → k < length flags.old
+        → slice_index_or flags.new k false ≡ (slice_index_or flags.old k false || list_any (λ n. nat_eq n (k + 1)) numbers.now) }
 {
     for number in numbers {
         mark(flags, *number);
@@ -30,7 +31,8 @@ fn mark_all(flags: &mut [bool], numbers: &[u32])
 // Of each function, whether it is directly in another one.
 fn are_inside(alloc: Global, records: &[LazyRecord]) -> Result<Vec<bool>, AllocError>
     ensures count { IfOk result (λ flags. length flags.items ≡ length records.now) }
-    ensures flags { IfOk result (λ flags. (k : ℕ) → k < length records.now → slice_index_or flags.items k false ≡ is_inside (inner_of records.now) (k + 1)) }
+    ensures flags { IfOk result (λ flags. (k : ℕ) → k < length records.now
+        → slice_index_or flags.items k false ≡ is_inside (inner_of records.now) (k + 1)) }
 {
     let mut flags = vec![in alloc; false; records.len()]?;
     for lazy in records {

@@ -34,7 +34,8 @@ impl Model for Merger {
 
     ghost view = { λ merger. record { texts = merger.texts; top = merger.top; records = merger.records.items; entries = merger.entries.items } };
 
-    ghost invariant = { λ merger. IsMerging (record { texts = merger.texts; top = merger.top; records = merger.records.items; entries = merger.entries.items }) };
+    ghost invariant = { λ merger.
+        IsMerging (record { texts = merger.texts; top = merger.top; records = merger.records.items; entries = merger.entries.items }) };
 }
 
 // The parts of a script whose texts have these atoms, none of its functions being compiled.

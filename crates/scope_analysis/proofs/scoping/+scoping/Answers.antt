@@ -4,6 +4,11 @@ use Rattle.std.specs.declared.alloc.Global.{Global}
 use Rattle.std.specs.declared.boxed.Box.{Box}
 use Rattle.script_grammar.specs.declared.tree.Stmt.{Stmt}
 use Rattle.script_grammar.specs.declared.tree.Clause.{Clause}
+use Rattle.script_grammar.specs.declared.tree.ForInStatement.{ForInStatement, out-ForInStatement}
+use Rattle.script_grammar.specs.declared.tree.ForStatement.{ForStatement}
+use Rattle.script_grammar.specs.declared.tree.IfStatement.{IfStatement}
+use Rattle.script_grammar.specs.declared.tree.SwitchStatement.{SwitchStatement, out-SwitchStatement}
+use Rattle.script_grammar.specs.declared.tree.TryStatement.{TryStatement, out-TryStatement}
 use Rattle.script_grammar.specs.Interpretation.{Interpretation, named, maybe_named}
 use Rattle.script_grammar.specs.Tree.{Stmts}
 use Rattle.script_grammar.specs.Tree as model
@@ -70,16 +75,16 @@ pub add_stmt-returns-in_ok-add_else-in-If : goal.add_stmt-returns-in_ok-add_else
 add_stmt-returns-in_ok-add_else-in-If t c = λ bodies.
     let i : Interpretation = under c.args.known.now.texts.now bodies in
     scoped_at c.args.known.now.texts.now c.args.known.now.closed.now c.args.around c.args.made.now.scopes.items c.add_else.new.made.scopes.items c.args.made.now.closed c.add_else.new.made.closed
-    (model.If (expr_of i c.in-If.test) (stmt_of i c.deref-in-If.result.now) (maybe_stmt_of (option_map (λ (boxed : Box Stmt Global). stmt_of i boxed.value) c.in-If.no))) (stmt_of i c.args.stmt.now)
-    (ap (λ (s : Stmt). model.If (expr_of i c.in-If.test) (stmt_of i s) (maybe_stmt_of (option_map (λ (boxed : Box Stmt Global). stmt_of i boxed.value) c.in-If.no))) c.deref-in-If.ensures ∙ sym (ap (stmt_of i) c.in-If.is ∙ stmt_of-If i c.in-If.test c.in-If.yes c.in-If.no))
-    (scoped_both c.args.known.now.texts.now c.args.known.now.closed.now c.args.around c.args.made.now.scopes.items c.add_stmt.new.made.scopes.items c.add_else.new.made.scopes.items c.args.made.now.closed c.add_stmt.new.made.closed c.add_else.new.made.closed (count_stmt (stmt_of i c.deref-in-If.result.now)) (count_else (maybe_stmt_of (option_map (λ (boxed : Box Stmt Global). stmt_of i boxed.value) c.in-If.no))) (scopes_stmt (stmt_of i c.deref-in-If.result.now)) (scopes_else (maybe_stmt_of (option_map (λ (boxed : Box Stmt Global). stmt_of i boxed.value) c.in-If.no))) (c.in_ok-add_stmt-in-If.ensures bodies) (c.in_ok-add_else-in-If.ensures bodies))
+    (model.If (expr_of i c.deref-statement.result.now.test) (stmt_of i c.deref-statement.result.now.yes) (maybe_stmt_of (option_map (λ (boxed : Box Stmt Global). stmt_of i boxed.value) c.deref-statement.result.now.no))) (stmt_of i c.args.stmt.now)
+    (ap (λ (z : IfStatement). model.If (expr_of i z.test) (stmt_of i z.yes) (maybe_stmt_of (option_map (λ boxed. stmt_of i boxed.value) z.no))) c.deref-statement.ensures ∙ sym (ap (stmt_of i) c.in-If.is ∙ stmt_of-If i c.in-If.boxed))
+    (scoped_both c.args.known.now.texts.now c.args.known.now.closed.now c.args.around c.args.made.now.scopes.items c.add_stmt.new.made.scopes.items c.add_else.new.made.scopes.items c.args.made.now.closed c.add_stmt.new.made.closed c.add_else.new.made.closed (count_stmt (stmt_of i c.deref-statement.result.now.yes)) (count_else (maybe_stmt_of (option_map (λ (boxed : Box Stmt Global). stmt_of i boxed.value) c.deref-statement.result.now.no))) (scopes_stmt (stmt_of i c.deref-statement.result.now.yes)) (scopes_else (maybe_stmt_of (option_map (λ (boxed : Box Stmt Global). stmt_of i boxed.value) c.deref-statement.result.now.no))) (c.in_ok-add_stmt-in-If.ensures bodies) (c.in_ok-add_else-in-If.ensures bodies))
 
 pub add_stmt-returns-in_ok-add_stmt-in-Do : goal.add_stmt-returns-in_ok-add_stmt-in-Do
 add_stmt-returns-in_ok-add_stmt-in-Do t c = λ bodies.
     let i : Interpretation = under c.args.known.now.texts.now bodies in
     scoped_at c.args.known.now.texts.now c.args.known.now.closed.now c.args.around c.args.made.now.scopes.items c.add_stmt-in-Do.new.made.scopes.items c.args.made.now.closed c.add_stmt-in-Do.new.made.closed
     (model.Do (stmt_of i c.deref-in-Do.result.now) (expr_of i c.in-Do.test) c.in-Do.semi) (stmt_of i c.args.stmt.now)
-    (ap (λ (s : Stmt). model.Do (stmt_of i s) (expr_of i c.in-Do.test) c.in-Do.semi) c.deref-in-Do.ensures ∙ sym (ap (stmt_of i) c.in-Do.is ∙ stmt_of-Do i c.in-Do.body c.in-Do.test c.in-Do.semi))
+    (ap (λ (s : Stmt). model.Do (stmt_of i s) (expr_of i c.in-Do.test) c.in-Do.semi) c.deref-in-Do.ensures ∙ sym (ap (stmt_of i) c.in-Do.is ∙ stmt_of-Do i c.in-Do.semi c.in-Do.body c.in-Do.test))
     (c.in_ok-add_stmt-in-Do.ensures bodies)
 
 pub add_stmt-returns-in_ok-add_stmt-in-While : goal.add_stmt-returns-in_ok-add_stmt-in-While
@@ -94,24 +99,24 @@ pub add_stmt-returns-in_ok-add_stmt-in-For : goal.add_stmt-returns-in_ok-add_stm
 add_stmt-returns-in_ok-add_stmt-in-For t c = λ bodies.
     let i : Interpretation = under c.args.known.now.texts.now bodies in
     scoped_at c.args.known.now.texts.now c.args.known.now.closed.now c.args.around c.args.made.now.scopes.items c.add_stmt-in-For.new.made.scopes.items c.args.made.now.closed c.add_stmt-in-For.new.made.closed
-    (model.For (init_of i c.in-For.init) (maybe_expr_of (option_map (expr_of i) c.in-For.test)) (maybe_expr_of (option_map (expr_of i) c.in-For.update)) (stmt_of i c.deref-in-For.result.now)) (stmt_of i c.args.stmt.now)
-    (ap (λ (s : Stmt). model.For (init_of i c.in-For.init) (maybe_expr_of (option_map (expr_of i) c.in-For.test)) (maybe_expr_of (option_map (expr_of i) c.in-For.update)) (stmt_of i s)) c.deref-in-For.ensures ∙ sym (ap (stmt_of i) c.in-For.is ∙ stmt_of-For i c.in-For.init c.in-For.test c.in-For.update c.in-For.body))
-    (scoped_inside c.args.known.now.texts.now c.args.known.now.closed.now c.args.around c.in_ok-inside-in-For.inside c.args.made.now.scopes.items c.open_init.new.made.scopes.items c.add_stmt-in-For.new.made.scopes.items c.args.made.now.closed c.open_init.new.made.closed c.add_stmt-in-For.new.made.closed (count_stmt (stmt_of i c.deref-in-For.result.now)) scope_kind.Lexical (init_lexical_names (init_of i c.in-For.init)) (for_inner (init_of i c.in-For.init) (maybe_expr_of (option_map (expr_of i) c.in-For.test)) (maybe_expr_of (option_map (expr_of i) c.in-For.update)) (stmt_of i c.deref-in-For.result.now)) (scopes_stmt (stmt_of i c.deref-in-For.result.now)) (c.in_ok-inside-in-For.ensures bodies) (c.in_ok-add_stmt-in-For.ensures bodies))
+    (model.For (init_of i c.deref-statement-in-For.result.now.init) (maybe_expr_of (option_map (expr_of i) c.deref-statement-in-For.result.now.test)) (maybe_expr_of (option_map (expr_of i) c.deref-statement-in-For.result.now.update)) (stmt_of i c.deref-statement-in-For.result.now.body)) (stmt_of i c.args.stmt.now)
+    (ap (λ (z : ForStatement). model.For (init_of i z.init) (maybe_expr_of (option_map (expr_of i) z.test)) (maybe_expr_of (option_map (expr_of i) z.update)) (stmt_of i z.body)) c.deref-statement-in-For.ensures ∙ sym (ap (stmt_of i) c.in-For.is ∙ stmt_of-For i c.in-For.boxed))
+    (scoped_inside c.args.known.now.texts.now c.args.known.now.closed.now c.args.around c.in_ok-inside-in-For.inside c.args.made.now.scopes.items c.open_init.new.made.scopes.items c.add_stmt-in-For.new.made.scopes.items c.args.made.now.closed c.open_init.new.made.closed c.add_stmt-in-For.new.made.closed (count_stmt (stmt_of i c.deref-statement-in-For.result.now.body)) scope_kind.Lexical (init_lexical_names (init_of i c.deref-statement-in-For.result.now.init)) (for_inner (init_of i c.deref-statement-in-For.result.now.init) (maybe_expr_of (option_map (expr_of i) c.deref-statement-in-For.result.now.test)) (maybe_expr_of (option_map (expr_of i) c.deref-statement-in-For.result.now.update)) (stmt_of i c.deref-statement-in-For.result.now.body)) (scopes_stmt (stmt_of i c.deref-statement-in-For.result.now.body)) (c.in_ok-inside-in-For.ensures bodies) (c.in_ok-add_stmt-in-For.ensures bodies))
 
 pub add_stmt-returns-in_ok-add_stmt-in-ForIn : goal.add_stmt-returns-in_ok-add_stmt-in-ForIn
 add_stmt-returns-in_ok-add_stmt-in-ForIn t c = λ bodies.
     let i : Interpretation = under c.args.known.now.texts.now bodies in
     scoped_at c.args.known.now.texts.now c.args.known.now.closed.now c.args.around c.args.made.now.scopes.items c.add_stmt-in-ForIn.new.made.scopes.items c.args.made.now.closed c.add_stmt-in-ForIn.new.made.closed
-    (model.ForIn (each_of i c.in-ForIn.each) (expr_of i c.in-ForIn.over) (stmt_of i c.deref-in-ForIn.result.now)) (stmt_of i c.args.stmt.now)
-    (ap (λ (s : Stmt). model.ForIn (each_of i c.in-ForIn.each) (expr_of i c.in-ForIn.over) (stmt_of i s)) c.deref-in-ForIn.ensures ∙ sym (ap (stmt_of i) c.in-ForIn.is ∙ stmt_of-ForIn i c.in-ForIn.each c.in-ForIn.over c.in-ForIn.body))
-    (scoped_inside c.args.known.now.texts.now c.args.known.now.closed.now c.args.around c.in_ok-inside-in-ForIn.inside c.args.made.now.scopes.items c.open_each.new.made.scopes.items c.add_stmt-in-ForIn.new.made.scopes.items c.args.made.now.closed c.open_each.new.made.closed c.add_stmt-in-ForIn.new.made.closed (count_stmt (stmt_of i c.deref-in-ForIn.result.now)) scope_kind.Lexical (each_lexical_names (each_of i c.in-ForIn.each)) (for_in_inner (each_of i c.in-ForIn.each) (expr_of i c.in-ForIn.over) (stmt_of i c.deref-in-ForIn.result.now)) (scopes_stmt (stmt_of i c.deref-in-ForIn.result.now)) (c.in_ok-inside-in-ForIn.ensures bodies) (c.in_ok-add_stmt-in-ForIn.ensures bodies))
+    (model.ForIn (each_of i (out-ForInStatement c.deref-statement-in-ForIn.result.now).each) (expr_of i (out-ForInStatement c.deref-statement-in-ForIn.result.now).over) (stmt_of i (out-ForInStatement c.deref-statement-in-ForIn.result.now).body)) (stmt_of i c.args.stmt.now)
+    (ap (λ (z : ForInStatement). model.ForIn (each_of i (out-ForInStatement z).each) (expr_of i (out-ForInStatement z).over) (stmt_of i (out-ForInStatement z).body)) c.deref-statement-in-ForIn.ensures ∙ sym (ap (stmt_of i) c.in-ForIn.is ∙ stmt_of-ForIn i c.in-ForIn.boxed))
+    (scoped_inside c.args.known.now.texts.now c.args.known.now.closed.now c.args.around c.in_ok-inside-in-ForIn.inside c.args.made.now.scopes.items c.open_each.new.made.scopes.items c.add_stmt-in-ForIn.new.made.scopes.items c.args.made.now.closed c.open_each.new.made.closed c.add_stmt-in-ForIn.new.made.closed (count_stmt (stmt_of i (out-ForInStatement c.deref-statement-in-ForIn.result.now).body)) scope_kind.Lexical (each_lexical_names (each_of i (out-ForInStatement c.deref-statement-in-ForIn.result.now).each)) (for_in_inner (each_of i (out-ForInStatement c.deref-statement-in-ForIn.result.now).each) (expr_of i (out-ForInStatement c.deref-statement-in-ForIn.result.now).over) (stmt_of i (out-ForInStatement c.deref-statement-in-ForIn.result.now).body)) (scopes_stmt (stmt_of i (out-ForInStatement c.deref-statement-in-ForIn.result.now).body)) (c.in_ok-inside-in-ForIn.ensures bodies) (c.in_ok-add_stmt-in-ForIn.ensures bodies))
 
 pub add_stmt-returns-in_ok-add_switch-in-Switch : goal.add_stmt-returns-in_ok-add_switch-in-Switch
 add_stmt-returns-in_ok-add_switch-in-Switch t c = λ bodies.
     let i : Interpretation = under c.args.known.now.texts.now bodies in
     scoped_at c.args.known.now.texts.now c.args.known.now.closed.now c.args.around c.args.made.now.scopes.items c.add_switch.new.made.scopes.items c.args.made.now.closed c.add_switch.new.made.closed
-    (model.Switch (expr_of i c.in-Switch.of) (clauses_of (map (clause_of i) c.deref-in-Switch.result.now))) (stmt_of i c.args.stmt.now)
-    (ap (λ (xs : List Clause). model.Switch (expr_of i c.in-Switch.of) (clauses_of (map (clause_of i) xs))) c.deref-in-Switch.ensures.value ∙ sym (ap (stmt_of i) c.in-Switch.is ∙ stmt_of-Switch i c.in-Switch.of c.in-Switch.clauses))
+    (model.Switch (expr_of i (out-SwitchStatement c.deref-in-Switch.result.now).of) (clauses_of (map (clause_of i) c.deref-in-Switch-2.result.now))) (stmt_of i c.args.stmt.now)
+    (ap (λ (xs : List Clause). model.Switch (expr_of i (out-SwitchStatement c.deref-in-Switch.result.now).of) (clauses_of (map (clause_of i) xs))) c.deref-in-Switch-2.ensures.value ∙ (ap (λ (z : SwitchStatement). model.Switch (expr_of i (out-SwitchStatement z).of) (clauses_of (map (clause_of i) (out-SwitchStatement z).clauses.items))) c.deref-in-Switch.ensures ∙ sym (ap (stmt_of i) c.in-Switch.is ∙ stmt_of-Switch i c.in-Switch.boxed)))
     (c.in_ok-add_switch-in-Switch.ensures bodies)
 
 pub add_stmt-returns-in_ok-add_stmt-in-Label : goal.add_stmt-returns-in_ok-add_stmt-in-Label
@@ -126,9 +131,9 @@ pub add_stmt-returns-in_ok-add_block-in-Try-2 : goal.add_stmt-returns-in_ok-add_
 add_stmt-returns-in_ok-add_block-in-Try-2 t c = λ bodies.
     let i : Interpretation = under c.args.known.now.texts.now bodies in
     scoped_at c.args.known.now.texts.now c.args.known.now.closed.now c.args.around c.args.made.now.scopes.items c.add_block-in-Try-2.new.made.scopes.items c.args.made.now.closed c.add_block-in-Try-2.new.made.closed
-    (model.Try (stmts_of (map (stmt_of i) c.deref-in-Try.result.now)) (maybe_named i c.in-Try.param) (stmts_of (map (stmt_of i) c.deref-in-Try-2.result.now))) (stmt_of i c.args.stmt.now)
-    (ap (λ (xs : List Stmt). model.Try (stmts_of (map (stmt_of i) xs)) (maybe_named i c.in-Try.param) (stmts_of (map (stmt_of i) c.deref-in-Try-2.result.now))) c.deref-in-Try.ensures.value ∙ (ap (λ (xs : List Stmt). model.Try (stmts_of (map (stmt_of i) c.in-Try.body.items)) (maybe_named i c.in-Try.param) (stmts_of (map (stmt_of i) xs))) c.deref-in-Try-2.ensures.value ∙ sym (ap (stmt_of i) c.in-Try.is ∙ stmt_of-Try i c.in-Try.body c.in-Try.param c.in-Try.handler)))
-    (scoped_both c.args.known.now.texts.now c.args.known.now.closed.now c.args.around c.args.made.now.scopes.items c.add_block-in-Try.new.made.scopes.items c.add_block-in-Try-2.new.made.scopes.items c.args.made.now.closed c.add_block-in-Try.new.made.closed c.add_block-in-Try-2.new.made.closed (scope_count (lexical_names (stmts_of (map (stmt_of i) c.deref-in-Try.result.now))) + count_stmts (stmts_of (map (stmt_of i) c.deref-in-Try.result.now))) (scope_count (catch_names (maybe_named i c.in-Try.param)) + (scope_count (lexical_names (stmts_of (map (stmt_of i) c.deref-in-Try-2.result.now))) + count_stmts (stmts_of (map (stmt_of i) c.deref-in-Try-2.result.now)))) (scope_around scope_kind.Lexical (lexical_names (stmts_of (map (stmt_of i) c.deref-in-Try.result.now))) (block_inner (stmts_of (map (stmt_of i) c.deref-in-Try.result.now))) (scopes_stmts (stmts_of (map (stmt_of i) c.deref-in-Try.result.now)))) (scope_around scope_kind.SimpleCatch (catch_names (maybe_named i c.in-Try.param)) (catch_inner (stmts_of (map (stmt_of i) c.deref-in-Try-2.result.now))) (scope_around scope_kind.Lexical (lexical_names (stmts_of (map (stmt_of i) c.deref-in-Try-2.result.now))) (block_inner (stmts_of (map (stmt_of i) c.deref-in-Try-2.result.now))) (scopes_stmts (stmts_of (map (stmt_of i) c.deref-in-Try-2.result.now))))) (c.in_ok-add_block-in-Try.ensures bodies) (scoped_inside c.args.known.now.texts.now c.args.known.now.closed.now c.args.around c.in_ok-inside-in-Try.inside c.add_block-in-Try.new.made.scopes.items c.open_catch.new.made.scopes.items c.add_block-in-Try-2.new.made.scopes.items c.add_block-in-Try.new.made.closed c.open_catch.new.made.closed c.add_block-in-Try-2.new.made.closed (scope_count (lexical_names (stmts_of (map (stmt_of i) c.deref-in-Try-2.result.now))) + count_stmts (stmts_of (map (stmt_of i) c.deref-in-Try-2.result.now))) scope_kind.SimpleCatch (catch_names (maybe_named i c.in-Try.param)) (catch_inner (stmts_of (map (stmt_of i) c.deref-in-Try-2.result.now))) (scope_around scope_kind.Lexical (lexical_names (stmts_of (map (stmt_of i) c.deref-in-Try-2.result.now))) (block_inner (stmts_of (map (stmt_of i) c.deref-in-Try-2.result.now))) (scopes_stmts (stmts_of (map (stmt_of i) c.deref-in-Try-2.result.now)))) (c.in_ok-inside-in-Try.ensures bodies) (c.in_ok-add_block-in-Try-2.ensures bodies)))
+    (model.Try (stmts_of (map (stmt_of i) c.deref-in-Try.result.now)) (maybe_named i (out-TryStatement c.deref-statement-in-Try.result.now).param) (stmts_of (map (stmt_of i) c.deref-in-Try-2.result.now))) (stmt_of i c.args.stmt.now)
+    (ap (λ (xs : List Stmt). model.Try (stmts_of (map (stmt_of i) xs)) (maybe_named i (out-TryStatement c.deref-statement-in-Try.result.now).param) (stmts_of (map (stmt_of i) c.deref-in-Try-2.result.now))) c.deref-in-Try.ensures.value ∙ (ap (λ (xs : List Stmt). model.Try (stmts_of (map (stmt_of i) (out-TryStatement c.deref-statement-in-Try.result.now).body.items)) (maybe_named i (out-TryStatement c.deref-statement-in-Try.result.now).param) (stmts_of (map (stmt_of i) xs))) c.deref-in-Try-2.ensures.value ∙ (ap (λ (z : TryStatement). model.Try (stmts_of (map (stmt_of i) (out-TryStatement z).body.items)) (maybe_named i (out-TryStatement z).param) (stmts_of (map (stmt_of i) (out-TryStatement z).handler.items))) c.deref-statement-in-Try.ensures ∙ sym (ap (stmt_of i) c.in-Try.is ∙ stmt_of-Try i c.in-Try.boxed))))
+    (scoped_both c.args.known.now.texts.now c.args.known.now.closed.now c.args.around c.args.made.now.scopes.items c.add_block-in-Try.new.made.scopes.items c.add_block-in-Try-2.new.made.scopes.items c.args.made.now.closed c.add_block-in-Try.new.made.closed c.add_block-in-Try-2.new.made.closed (scope_count (lexical_names (stmts_of (map (stmt_of i) c.deref-in-Try.result.now))) + count_stmts (stmts_of (map (stmt_of i) c.deref-in-Try.result.now))) (scope_count (catch_names (maybe_named i (out-TryStatement c.deref-statement-in-Try.result.now).param)) + (scope_count (lexical_names (stmts_of (map (stmt_of i) c.deref-in-Try-2.result.now))) + count_stmts (stmts_of (map (stmt_of i) c.deref-in-Try-2.result.now)))) (scope_around scope_kind.Lexical (lexical_names (stmts_of (map (stmt_of i) c.deref-in-Try.result.now))) (block_inner (stmts_of (map (stmt_of i) c.deref-in-Try.result.now))) (scopes_stmts (stmts_of (map (stmt_of i) c.deref-in-Try.result.now)))) (scope_around scope_kind.SimpleCatch (catch_names (maybe_named i (out-TryStatement c.deref-statement-in-Try.result.now).param)) (catch_inner (stmts_of (map (stmt_of i) c.deref-in-Try-2.result.now))) (scope_around scope_kind.Lexical (lexical_names (stmts_of (map (stmt_of i) c.deref-in-Try-2.result.now))) (block_inner (stmts_of (map (stmt_of i) c.deref-in-Try-2.result.now))) (scopes_stmts (stmts_of (map (stmt_of i) c.deref-in-Try-2.result.now))))) (c.in_ok-add_block-in-Try.ensures bodies) (scoped_inside c.args.known.now.texts.now c.args.known.now.closed.now c.args.around c.in_ok-inside-in-Try.inside c.add_block-in-Try.new.made.scopes.items c.open_catch.new.made.scopes.items c.add_block-in-Try-2.new.made.scopes.items c.add_block-in-Try.new.made.closed c.open_catch.new.made.closed c.add_block-in-Try-2.new.made.closed (scope_count (lexical_names (stmts_of (map (stmt_of i) c.deref-in-Try-2.result.now))) + count_stmts (stmts_of (map (stmt_of i) c.deref-in-Try-2.result.now))) scope_kind.SimpleCatch (catch_names (maybe_named i (out-TryStatement c.deref-statement-in-Try.result.now).param)) (catch_inner (stmts_of (map (stmt_of i) c.deref-in-Try-2.result.now))) (scope_around scope_kind.Lexical (lexical_names (stmts_of (map (stmt_of i) c.deref-in-Try-2.result.now))) (block_inner (stmts_of (map (stmt_of i) c.deref-in-Try-2.result.now))) (scopes_stmts (stmts_of (map (stmt_of i) c.deref-in-Try-2.result.now)))) (c.in_ok-inside-in-Try.ensures bodies) (c.in_ok-add_block-in-Try-2.ensures bodies)))
 
 pub add_stmt-returns-in-Empty : goal.add_stmt-returns-in-Empty
 add_stmt-returns-in-Empty t c = λ bodies.
@@ -176,7 +181,7 @@ pub add_stmt-returns-in-Return : goal.add_stmt-returns-in-Return
 add_stmt-returns-in-Return t c = λ bodies.
     let i : Interpretation = under c.args.known.now.texts.now bodies in
     scoped_at c.args.known.now.texts.now c.args.known.now.closed.now c.args.around c.args.made.now.scopes.items c.args.made.now.scopes.items c.args.made.now.closed c.args.made.now.closed
-    _ (stmt_of i c.args.stmt.now) (sym (ap (stmt_of i) c.in-Return.is ∙ stmt_of-Return i c.in-Return.value c.in-Return.semi))
+    _ (stmt_of i c.args.stmt.now) (sym (ap (stmt_of i) c.in-Return.is ∙ stmt_of-Return i c.in-Return.semi c.in-Return.value))
     (scoped_none c.args.known.now.texts.now c.args.known.now.closed.now c.args.around c.args.made.now.scopes.items c.args.made.now.closed)
 
 pub add_stmt-returns-in-Throw : goal.add_stmt-returns-in-Throw

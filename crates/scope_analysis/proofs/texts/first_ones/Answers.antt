@@ -1,9 +1,16 @@
 use Rattle.std.proofs.Common.{◌≡◌, ℕ, ◌<◌, ◌+◌, ◌++◌, ◌∷◌, [], Bool, List, length, map, take, drop, get_or, suc, cond, not, ◌||◌, bytes_eq, ap, sym, ◌∙◌, arith, drop-cons}
 use Rattle.stencil_data.specs.StandsFor.{text_at}
-use Rattle.scope_analysis.specs.DeclaredNames.{Text, first_ones_after}
+use Rattle.scope_analysis.specs.DeclaredNames.{Text, first_ones, first_ones_after}
 use Rattle.scope_analysis.proofs.NameTexts.{first_turn, has_more, kept_more, kept_same}
 use Rattle.scope_analysis.proofs.texts.first_ones.Goals as goal
 use Rattle.scope_analysis.proofs.texts.first_ones.Goals.{then-branch+in_ok-push, else-branch}
+
+pub loop-atom-init : goal.loop-atom-init
+loop-atom-init c =
+    let f : ℕ → Text = text_at c.args.texts.now in (
+      c.in_ok-seen.ensures.place c.args.texts.now,
+      (c.in_ok-seen.ensures.has c.args.texts.now, ap (λ (xs : List ℕ). map f xs ++ first_ones (map f c.args.atoms.now)) c.new-kept.ensures.items),
+    )
 
 pub loop-atom-preserved : goal.loop-atom-preserved
 loop-atom-preserved c =

@@ -6,6 +6,6 @@ use Rattle.scope_analysis.proofs.texts.first_ones.Given as goal
 
 abbrev pub invariant-loop-atom : goal.invariant-loop-atom
 invariant-loop-atom l =
-    HasPlace l.seen.cells.items l.seen.others
-    × (((q : Text) → has l.texts l.seen.cells.items l.seen.others q ≡ has_text (map (text_at l.texts) (take l.atom-index l.atoms)) q)
+    HasPlace l.texts l.seen.cells.items l.seen.later.cells.items l.seen.later.others
+    × (((q : Text) → has l.texts l.seen.cells.items l.seen.later.cells.items l.seen.later.others q ≡ has_text (map (text_at l.texts) (take l.atom-index l.atoms)) q)
     × (map (text_at l.texts) l.kept.items ++ first_ones_after (map (text_at l.texts) (take l.atom-index l.atoms)) (map (text_at l.texts) (drop l.atom-index l.atoms)) ≡ first_ones (map (text_at l.texts) l.atoms)))

@@ -1,7 +1,7 @@
 use Rattle.std.proofs.Common.{map, ap, ◌∙◌, not, Bor, List}
 use Rattle.scope_analysis.specs.DeclaredNames.{Text, has_text}
 use Rattle.scope_analysis.proofs.NameTexts.{has_contains, insert_has}
-use Rattle.scope_analysis.proofs.text_set.insert_text.Goals as goal
+use Rattle.scope_analysis.proofs.later_texts.insert_text.Goals as goal
 
 pub returns-clause-added : goal.returns-clause-added
 returns-clause-added c = c.in_ok-fresh.ensures.added ∙ ap not (has_contains c.args.seen.now.keys c.args.text)

@@ -1,6 +1,6 @@
 use Rattle.std.proofs.Common.{◌≡◌, take}
-use Rattle.scope_analysis.specs.TextSets.{digest_of}
-use Rattle.scope_analysis.proofs.text_set.digest.Given as goal
+use Rattle.parser_atoms.specs.Digest.{digest_of}
+use Rattle.scope_analysis.proofs.digests.digest.Given as goal
 
 abbrev pub invariant-loop-unit : goal.invariant-loop-unit
 invariant-loop-unit l = l.digest ≡ digest_of (take l.unit-index l.units)

@@ -1,5 +1,6 @@
 -- The listing of a merged stencil in pieces, one after another. This project's own choice.
-use Rattle.std.specs.Prelude.{◌≡◌, ℕ, zero, suc, ◌+◌, ◌-◌, ◌<◌, ◌≤◌, List, [], ◌∷◌, ◌++◌, length, map, drop, flat_map, min, Option, Some, None, slice_get}
+use Rattle.std.specs.Prelude.{◌≡◌, ℕ, zero, suc, ◌+◌, ◌-◌, ◌<◌, ◌≤◌, List, [], ◌∷◌, ◌++◌, length, map, drop, flat_map, min, Option, Some}
+use Rattle.std.specs.Prelude.{None, slice_get}
 use Rattle.stencil_data.specs.declared.stencils.Entry.{Entry}
 use Rattle.stencil_data.specs.declared.stencils.Entry.TheVariants as entry
 use Rattle.stencil_data.specs.MergedView.{MergedView}
@@ -27,7 +28,8 @@ script_count merged = min (length merged.records) (length merged.entries) + 1
 abbrev pub from_script : Listing → MergedView → ℕ → List ℕ
 from_script listing merged zero = text_of (lines_of listing) (listed_stencil merged)
 from_script listing merged (suc number) =
-    scripts_from (lines_of listing) (suc number) (map (named_record merged.texts) (drop number merged.records)) (map (listed_entry merged.texts) (drop number merged.entries))
+    scripts_from (lines_of listing) (suc number) (map (named_record merged.texts) (drop number merged.records))
+    (map (listed_entry merged.texts) (drop number merged.entries))
 
 -- ---- inside the code of one script
 
@@ -70,7 +72,8 @@ left_in texts (Some part) at turn = listing (listed_from texts at (left_from par
 -- what is listed from a place on
 abbrev pub from_place : Listing → MergedView → Place → List ℕ
 from_place listing merged (place.Before number) = from_script listing merged number
-from_place listing merged (place.Within number at turn) = left_in merged.texts (part_at merged number) at turn ++ from_script listing merged (suc number)
+from_place listing merged (place.Within number at turn) = left_in merged.texts (part_at merged number) at turn
+    ++ from_script listing merged (suc number)
 
 -- a compiled script whose code has at least n bytes
 abbrev pub HasCode : Option FunctionView → ℕ → Type 0
@@ -85,14 +88,18 @@ Walks (Some part) at turn at' turn' = (turn ≤ turn') × (turn' ≤ length part
 -- There is a piece from the one place to the other: it has whole scripts, or some lines of one script's code.
 abbrev pub IsPiece : Listing → MergedView → Place → Place → Type 0
 IsPiece listing merged (place.Before number) (place.Before number') = (number ≤ number') × (number' ≤ script_count merged)
-IsPiece listing merged (place.Before number) (place.Within number' at turn) = (listing ≡ of.Code) × (number ≡ number') × (at ≡ 0) × (turn ≡ 0) × (number < script_count merged) × HasCode (part_at merged number) 0
-IsPiece listing merged (place.Within number at turn) (place.Before number') = (listing ≡ of.Code) × (suc number ≡ number') × HasCode (part_at merged number) turn
-IsPiece listing merged (place.Within number at turn) (place.Within number' at' turn') = (listing ≡ of.Code) × (number ≡ number') × Walks (part_at merged number) at turn at' turn'
+IsPiece listing merged (place.Before number) (place.Within number' at turn) = (listing ≡ of.Code) × (number ≡ number') × (at ≡ 0)
+    × (turn ≡ 0) × (number < script_count merged) × HasCode (part_at merged number) 0
+IsPiece listing merged (place.Within number at turn) (place.Before number') = (listing ≡ of.Code) × (suc number ≡ number')
+    × HasCode (part_at merged number) turn
+IsPiece listing merged (place.Within number at turn) (place.Within number' at' turn') = (listing ≡ of.Code) × (number ≡ number')
+    × Walks (part_at merged number) at turn at' turn'
 
 -- these pieces lead from the one place to the other
 abbrev pub Lead : Listing → MergedView → Place → List Piece → Place → Type 0
 Lead listing merged from [] to = from ≡ to
-Lead listing merged from (piece ∷ pieces) to = (from ≡ piece.from) × IsPiece listing merged piece.from piece.to × Lead listing merged piece.to pieces to
+Lead listing merged from (piece ∷ pieces) to = (from ≡ piece.from) × IsPiece listing merged piece.from piece.to
+    × Lead listing merged piece.to pieces to
 
 -- they are all of the listing
 abbrev pub ArePieces : Listing → MergedView → List Piece → Type 0

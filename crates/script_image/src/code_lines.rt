@@ -10,7 +10,7 @@ ghost use Rattle.script_image.specs.ReadLines.{read_as, read_operand};
 ghost use Rattle.script_image.specs.Pieces.{left_from, walked};
 
 use crate::chunk::{Chunk, flush, put, put_byte};
-use crate::names::name_of;
+use crate::names::op_name;
 use crate::quoted::{append_decimal, append_range, put_decimal, put_padded, put_quoted, text_at};
 use bytecode_buf::{Instr, Shape, decode_at};
 use std::alloc::AllocError;
@@ -56,7 +56,8 @@ fn put_operand(
     instr: Instr,
     texts: &[Text],
 ) -> Result<(), AllocError>
-    ensures { OnOk result (out.new.items ++ chunk.new.items ≡ (out.old.items ++ chunk.old.items) ++ lines.operand_text (read_operand texts.now at shape instr)) }
+    ensures { OnOk result (out.new.items ++ chunk.new.items
+        ≡ (out.old.items ++ chunk.old.items) ++ lines.operand_text (read_operand texts.now at shape instr)) }
 {
     match shape {
         Shape::Nothing => (),
@@ -90,7 +91,7 @@ fn put_line(
     put(out, chunk, b"  ")?;
     put_padded(out, chunk, at as u64)?;
     put_byte(out, chunk, b' ')?;
-    put(out, chunk, name_of(instr.op).as_bytes())?;
+    put(out, chunk, op_name(instr.op).as_bytes())?;
     put_operand(out, chunk, at, instr.op.row().shape, instr, texts)?;
     put_byte(out, chunk, b'\n')
 }
@@ -107,7 +108,9 @@ fn put_instructions(
     end: usize,
 ) -> Result<(), AllocError>
     requires ends { (turn ≤ end) × (end ≤ length code.now) }
-    ensures { OnOk result ((out.new.items ++ chunk.new.items) ++ lines.listing (command.listed_from texts.now (walked code.now from (end - turn)) (left_from code.now (walked code.now from (end - turn)) end))
+    ensures { OnOk result ((out.new.items ++ chunk.new.items)
+        ++ lines.listing (command.listed_from texts.now (walked code.now from (end - turn))
+        (left_from code.now (walked code.now from (end - turn)) end))
         ≡ (out.old.items ++ chunk.old.items) ++ lines.listing (command.listed_from texts.now from (left_from code.now from turn))) }
 {
     let mut at = from;
@@ -134,7 +137,8 @@ pub(crate) fn append_instructions(
     end: usize,
 ) -> Result<(), AllocError>
     requires ends { (turn ≤ end) × (end ≤ length code.now) }
-    ensures { OnOk result (out.new.items ++ lines.listing (command.listed_from texts.now (walked code.now from (end - turn)) (left_from code.now (walked code.now from (end - turn)) end))
+    ensures { OnOk result (out.new.items ++ lines.listing
+        (command.listed_from texts.now (walked code.now from (end - turn)) (left_from code.now (walked code.now from (end - turn)) end))
         ≡ out.old.items ++ lines.listing (command.listed_from texts.now from (left_from code.now from turn))) }
 {
     let mut chunk = Chunk::new();
@@ -174,7 +178,8 @@ pub(crate) fn append_code_from(
     turn: usize,
 ) -> Result<(), AllocError>
     requires { turn ≤ length code.now }
-    ensures { OnOk result (out.new.items ≡ out.old.items ++ (lines.listing (command.listed_from texts.now from (left_from code.now from turn)) ++ flat_map lines.note_line notes.now)) }
+    ensures { OnOk result (out.new.items ≡ out.old.items
+        ++ (lines.listing (command.listed_from texts.now from (left_from code.now from turn)) ++ flat_map lines.note_line notes.now)) }
 {
     append_instructions(out, code, texts, from, turn, code.len())?;
     append_notes(out, notes)?;

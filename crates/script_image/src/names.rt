@@ -6,7 +6,7 @@ ghost use Rattle.script_image.specs.OpNames as names;
 use bytecode_buf::Op;
 
 /// The opcode's name.
-pub(crate) fn name_of(op: Op) -> &'static str
+pub fn op_name(op: Op) -> &'static str
     ensures { result.now ≡ names.name_of op }
 {
     match op {

@@ -62,7 +62,8 @@ fn append_line_of(
 ) -> Result<(), AllocError>
     requires there { number < script_count merged.now }
     requires code { HasCode (part_at merged.now number) 0 }
-    ensures { OnOk result (out.new.items ++ from_place Listing.Code merged.now (Place.Within number 0 0) ≡ out.old.items ++ from_script Listing.Code merged.now number) }
+    ensures { OnOk result (out.new.items ++ from_place Listing.Code merged.now (Place.Within number 0 0)
+        ≡ out.old.items ++ from_script Listing.Code merged.now number) }
 {
     match part_of(merged, number) {
         Some(script) => {
@@ -84,7 +85,8 @@ fn append_some(
     end: usize,
 ) -> Result<(), AllocError>
     requires { Walks (part_at merged.now number) at turn next end }
-    ensures { OnOk result (out.new.items ++ from_place Listing.Code merged.now (Place.Within number next end) ≡ out.old.items ++ from_place Listing.Code merged.now (Place.Within number at turn)) }
+    ensures { OnOk result (out.new.items ++ from_place Listing.Code merged.now (Place.Within number next end)
+        ≡ out.old.items ++ from_place Listing.Code merged.now (Place.Within number at turn)) }
 {
     match part_of(merged, number) {
         Some(script) => {
@@ -104,7 +106,8 @@ fn append_left(
     turn: usize,
 ) -> Result<(), AllocError>
     requires { HasCode (part_at merged.now number) turn }
-    ensures { OnOk result (out.new.items ++ from_script Listing.Code merged.now (number + 1) ≡ out.old.items ++ from_place Listing.Code merged.now (Place.Within number at turn)) }
+    ensures { OnOk result (out.new.items ++ from_script Listing.Code merged.now (number + 1)
+        ≡ out.old.items ++ from_place Listing.Code merged.now (Place.Within number at turn)) }
 {
     match part_of(merged, number) {
         Some(script) => {
@@ -152,7 +155,8 @@ pub fn piece_text(
 
 /// Appends the listing of the code of all scripts of a merged stencil.
 pub fn code_text(out: &mut Vec<u8>, merged: &MergedStencil) -> Result<(), AllocError>
-    ensures { OnOk result ((named : NamedMerged (List Listed)) → MergedStandsFor ShowsListed merged.now named → out.new.items ≡ out.old.items ++ lines.code_text named) }
+    ensures { OnOk result ((named : NamedMerged (List Listed)) → MergedStandsFor ShowsListed merged.now named
+        → out.new.items ≡ out.old.items ++ lines.code_text named) }
 {
     append_scripts(out, Listing::Code, merged, 0, count_of(merged))?;
     Ok(())
@@ -160,7 +164,8 @@ pub fn code_text(out: &mut Vec<u8>, merged: &MergedStencil) -> Result<(), AllocE
 
 /// Appends the listing of the scopes of all scripts of a merged stencil.
 pub fn scope_text(out: &mut Vec<u8>, merged: &MergedStencil) -> Result<(), AllocError>
-    ensures { OnOk result ((named : NamedMerged (List Listed)) → MergedStandsFor ShowsListed merged.now named → out.new.items ≡ out.old.items ++ lines.scope_text named) }
+    ensures { OnOk result ((named : NamedMerged (List Listed)) → MergedStandsFor ShowsListed merged.now named
+        → out.new.items ≡ out.old.items ++ lines.scope_text named) }
 {
     append_scripts(out, Listing::Scopes, merged, 0, count_of(merged))?;
     Ok(())

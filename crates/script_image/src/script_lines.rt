@@ -162,7 +162,8 @@ fn append_compiled(
     number: u64,
     script: &FunctionStencil,
 ) -> Result<(), AllocError>
-    ensures { OnOk result (out.new.items ≡ out.old.items ++ lines.function_line number (listed_script texts.now script.now) ++ lines_of listing (listed_script texts.now script.now)) }
+    ensures { OnOk result (out.new.items ≡ out.old.items ++ lines.function_line number (listed_script texts.now script.now)
+        ++ lines_of listing (listed_script texts.now script.now)) }
 {
     append_function_line(out, texts, number, script)?;
     append_lines(out, listing, texts, script)?;
@@ -178,7 +179,8 @@ fn append_function(
     lazy: &LazyRecord,
     entry: &Entry,
 ) -> Result<(), AllocError>
-    ensures { OnOk result (out.new.items ≡ out.old.items ++ lines.script_lines (lines_of listing) number (named_record texts.now lazy.now) (listed_entry texts.now entry.now)) }
+    ensures { OnOk result (out.new.items ≡ out.old.items
+        ++ lines.script_lines (lines_of listing) number (named_record texts.now lazy.now) (listed_entry texts.now entry.now)) }
 {
     match entry {
         Entry::Lazy => append_record(out, texts, number, lazy)?,
@@ -198,7 +200,8 @@ fn append_top_line(out: &mut Vec<u8>, top: &FunctionStencil) -> Result<(), Alloc
 
 /// Appends the lines of the file's own part.
 fn append_top(out: &mut Vec<u8>, listing: Listing, merged: &MergedStencil) -> Result<(), AllocError>
-    ensures { OnOk result (out.new.items ≡ out.old.items ++ lines.top_line merged.now.top.extent ++ lines_of listing (listed_script merged.now.texts merged.now.top)) }
+    ensures { OnOk result (out.new.items ≡ out.old.items ++ lines.top_line merged.now.top.extent
+        ++ lines_of listing (listed_script merged.now.texts merged.now.top)) }
 {
     append_top_line(out, &merged.top)?;
     append_lines(out, listing, &merged.texts, &merged.top)?;

@@ -10,7 +10,7 @@ _holzikra() {
     check) formats="human json github sarif" ;;
     code) formats="human plain json" ;;
     scopes) formats="human plain json dot" ;;
-    stats | verify) formats="human json" ;;
+    stats | verify | diff) formats="human json" ;;
     load) formats="human plain" ;;
     esac
     case "$before" in
@@ -22,7 +22,7 @@ _holzikra() {
     code:-*) mapfile -t COMPREPLY < <(compgen -W "--format --function --at --only --no-source $files" -- "$word") ;;
     scopes:-*) mapfile -t COMPREPLY < <(compgen -W "--format --function --at --only $files" -- "$word") ;;
     stats:-* | load:-* | verify:-*) mapfile -t COMPREPLY < <(compgen -W "--format $files" -- "$word") ;;
-    diff:-*) mapfile -t COMPREPLY < <(compgen -W "--stdin-name --help" -- "$word") ;;
+    diff:-*) mapfile -t COMPREPLY < <(compgen -W "--format --stdin-name --help" -- "$word") ;;
     report:-*) mapfile -t COMPREPLY < <(compgen -W "--output $files" -- "$word") ;;
     save:-*) mapfile -t COMPREPLY < <(compgen -W "--output --stdin-name --help" -- "$word") ;;
     explain:*) ;;

@@ -55,7 +55,7 @@ impl Change {
     }
 
     /// Whether there is anything to tell of it.
-    pub(crate) fn is_told(&self) -> bool {
+    pub fn is_told(&self) -> bool {
         self.old.is_none() || self.new.is_none() || !self.is_empty()
     }
 }

@@ -12,7 +12,6 @@ use Rattle.bytecode_buf.specs.Layout.{Numbered, instr_by}
 use Rattle.bytecode_buf.specs.Command.{Target, Listed, command_at, command_of, operand_at, operand_of, listed_from}
 use Rattle.script_image.specs.ReadLines as read
 use Rattle.script_image.proofs.CodeLoop.{ReadsNext, left_from}
-use Rattle.holzikra_objects.specs.Objects.{instruction_data}
 
 -- ---- an instruction as it is read is listed as its command at its place
 
@@ -48,15 +47,15 @@ listed_next texts code at turn instr r =
     next_is : instr.next ≡ at + width_of r.i.op
     next_is = ap (λ (x : Instr). x.next) r.is ∙ next_by (is_jump r.i.op) r.i.op r.i.a r.i.b (at + width_of r.i.op)
 
--- the value of the instruction that is read goes behind those in front of it
-pub value_next : (texts : List (List ℕ)) (code : List ℕ) (now new all : List Data) (at turn : ℕ) (instr : Instr) → ReadsNext code at turn instr → new ≡ now ++ instruction_data (read.read_as texts at instr) ∷ []
-    → now ++ map instruction_data (listed_from texts at (left_from code at turn)) ≡ all → new ++ map instruction_data (listed_from texts instr.next (left_from code instr.next (turn + 1))) ≡ all
-value_next texts code now new all at turn instr r new_is is =
-    ap (λ (l : List Data). l ++ map instruction_data (listed_from texts instr.next (left_from code instr.next (turn + 1)))) new_is
-    ∙ append_assoc now (instruction_data (read.read_as texts at instr) ∷ []) (map instruction_data (listed_from texts instr.next (left_from code instr.next (turn + 1))))
-    ∙ ap (λ (ls : List Listed). now ++ map instruction_data ls) (sym (listed_next texts code at turn instr r))
+-- what is made of the instruction that is read goes behind those in front of it
+pub value_next : (f : Listed → Data) (texts : List (List ℕ)) (code : List ℕ) (now new all : List Data) (at turn : ℕ) (instr : Instr) → ReadsNext code at turn instr → new ≡ now ++ f (read.read_as texts at instr) ∷ []
+    → now ++ map f (listed_from texts at (left_from code at turn)) ≡ all → new ++ map f (listed_from texts instr.next (left_from code instr.next (turn + 1))) ≡ all
+value_next f texts code now new all at turn instr r new_is is =
+    ap (λ (l : List Data). l ++ map f (listed_from texts instr.next (left_from code instr.next (turn + 1)))) new_is
+    ∙ append_assoc now (f (read.read_as texts at instr) ∷ []) (map f (listed_from texts instr.next (left_from code instr.next (turn + 1))))
+    ∙ ap (λ (ls : List Listed). now ++ map f ls) (sym (listed_next texts code at turn instr r))
     ∙ is
 
 -- nothing is left
-pub value_end : (texts : List (List ℕ)) (now all : List Data) (at : ℕ) (left : List Numbered) → left ≡ [] → now ++ map instruction_data (listed_from texts at left) ≡ all → now ≡ all
-value_end texts now all at left none is = sym (append-nil now) ∙ ap (λ (is : List Numbered). now ++ map instruction_data (listed_from texts at is)) (sym none) ∙ is
+pub value_end : (f : Listed → Data) (texts : List (List ℕ)) (now all : List Data) (at : ℕ) (left : List Numbered) → left ≡ [] → now ++ map f (listed_from texts at left) ≡ all → now ≡ all
+value_end f texts now all at left none is = sym (append-nil now) ∙ ap (λ (is : List Numbered). now ++ map f (listed_from texts at is)) (sym none) ∙ is

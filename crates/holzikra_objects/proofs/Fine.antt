@@ -1,12 +1,12 @@
 -- The value of a script has no float, and nests so little that a reader takes it.
 use Rattle.std.proofs.Common.{◌≡◌, ◌++◌, ℕ, suc, ◌+◌, ◌≤◌, Bool, true, false, ◌||◌, List, [], ◌∷◌, length, map, Option, Some, None, Ordering, Less, Equal, Greater, refl, ap, ap₂, subst, ◌∙◌, arith}
-use Rattle.std.specs.Prelude.{if◌then◌else◌, codes, encode_utf8_all}
+use Rattle.std.specs.Prelude.{if◌then◌else◌, codes, encode_utf8_all, slice_get}
 use Rattle.std.specs.Char.Utf16.{has_unpaired_surrogate, utf16_lossy_chars}
 use Rattle.std.specs.Cmp.Lexicographic.{slice_cmp}
 use Rattle.std.specs.Fmt.{decimal}
 use Rattle.std.specs.List.{AllByRecursion}
 use Rattle.std.specs.Ordering.{nat_cmp, match_ordering}
-use Rattle.serde_json.specs.Data.{Data, null, string, object, Members, no_members, member, put, depth, items_depth, members_depth}
+use Rattle.serde_json.specs.Data.{Data, null, boolean, string, object, Members, no_members, member, put, depth, items_depth, members_depth}
 use Rattle.serde_json.specs.View.{items_of}
 use Rattle.serde_json.specs.Written.{has_float, items_have_float, members_have_float}
 use Rattle.stencil_data.specs.declared.chains.LinkName.{LinkName}
@@ -26,9 +26,15 @@ use Rattle.serde_json.specs.Read.{read}
 use Rattle.script_image.specs.Listed.{ShowsListed, listed_stencil}
 use Rattle.script_image.proofs.Stands.{stencil_is}
 use Rattle.stencil_data.specs.MergedView.{MergedView}
-use Rattle.stencil_data.specs.StandsFor.{MergedStandsFor}
-use Rattle.holzikra_json.specs.Lines.{IsLine, whole, file_members}
+use Rattle.stencil_data.specs.StandsFor.{MergedStandsFor, text_at}
+use Rattle.holzikra_json.specs.Lines.{IsLine, whole, whole_or_null, file_members}
+use Rattle.holzikra_names.specs.declared.source.Spot.{Spot}
+use Rattle.holzikra_objects.specs.declared.notes.BindingNote.{BindingNote}
+use Rattle.holzikra_objects.specs.declared.notes.InstructionNote.{InstructionNote}
+use Rattle.holzikra_objects.specs.declared.notes.ScriptNotes.{ScriptNotes}
+use Rattle.holzikra_objects.specs.declared.notes.Users.{Users}
 use Rattle.holzikra_objects.specs.Objects as objects
+use Rattle.holzikra_objects.specs.Objects.{Shown}
 
 -- the value has no float and nests no deeper than n
 pub record IsFine (n : ℕ) (d : Data) : Type 0 where
@@ -149,28 +155,69 @@ fine_name : (name : Option (List ℕ)) → IsFine 2 (objects.name_data name)
 fine_name None = fine_null 2
 fine_name (Some units) = fine_text units
 
-fine_place : (offset : ℕ) → IsFine 1 (objects.place_data offset)
-fine_place offset = fine_only 0 (codes "offset") (whole offset) (fine_whole 0 offset)
+fine_spot : (n : ℕ) (spot : Option Spot) (ms : Members) → AreFine n ms → AreFine n (objects.spot_members spot ms)
+fine_spot n None ms fines = fines
+fine_spot n (Some s) ms fines =
+    (more n (codes "line") (whole s.line) (fine_whole n s.line) (more n (codes "column") (whole s.column) (fine_whole n s.column) (from n ms fines))).fine
+
+fine_place : (spot : Option Spot) (offset : ℕ) → IsFine 1 (objects.place_data spot offset)
+fine_place spot offset =
+    object_of 0 (more 0 (codes "offset") (whole offset) (fine_whole 0 offset) (from 0 (objects.spot_members spot no_members) (fine_spot 0 spot no_members (no_more 0))))
+
+-- ---- what is said of scripts, names and instructions
+
+fine_or_null : (n : ℕ) (k : Option ℕ) → IsFine n (whole_or_null k)
+fine_or_null n None = fine_null n
+fine_or_null n (Some k) = fine_whole n k
+
+fine_script_note : (note : Option ScriptNotes) (ms : Members) → AreFine 6 ms → AreFine 6 (objects.script_members note ms)
+fine_script_note None ms fines = fines
+fine_script_note (Some n) ms fines =
+    (more 6 (codes "depth") (whole_or_null n.depth) (fine_or_null 6 n.depth) (more 6 (codes "bytes") (whole_or_null n.bytes) (fine_or_null 6 n.bytes)
+    (more 6 (codes "around") (whole_or_null n.around) (fine_or_null 6 n.around) (from 6 ms fines)))).fine
+
+fine_users : (users : Option Users) (ms : Members) → AreFine 2 ms → AreFine 2 (objects.users_members users ms)
+fine_users None ms fines = fines
+fine_users (Some u) ms fines = fine_put 2 (codes "used_by") (objects.wholes u.numbers.items) ms (fine_wholes 1 u.numbers.items) fines
+
+fine_meant : (texts : List (List ℕ)) (b : BindingNote) → IsFine 3 (objects.meant_data texts b)
+fine_meant texts b =
+    object_of 2 (more 2 (codes "scope") (whole b.scope) (fine_whole 2 b.scope) (more 2 (codes "name") (objects.text_data (text_at texts b.atom)) (fine_text (text_at texts b.atom))
+    (more 2 (codes "function") (whole b.function) (fine_whole 2 b.function) (none 2))))
+
+fine_meant_members : (texts : List (List ℕ)) (b : Option BindingNote) (ms : Members) → AreFine 3 ms → AreFine 3 (objects.meant_members texts b ms)
+fine_meant_members texts None ms fines = fines
+fine_meant_members texts (Some b) ms fines = fine_put 3 (codes "binding") (objects.meant_data texts b) ms (fine_meant texts b) fines
+
+fine_reached : (reached : Bool) (ms : Members) → AreFine 3 ms → AreFine 3 (objects.reached_members reached ms)
+fine_reached true ms fines = fines
+fine_reached false ms fines = fine_put 3 (codes "reached") (boolean false) ms (record { exact = refl; flat = omega arith }) fines
+
+fine_note : (texts : List (List ℕ)) (note : Option InstructionNote) (ms : Members) → AreFine 3 ms → AreFine 3 (objects.note_members texts note ms)
+fine_note texts None ms fines = fines
+fine_note texts (Some n) ms fines = fine_reached n.reached (objects.meant_members texts n.binding ms) (fine_meant_members texts n.binding ms fines)
 
 -- ---- instructions and try notes
 
-fine_number : (op : Op) (n : ℕ) (ms : Members) → AreFine 2 ms → AreFine 2 (objects.number_members op n ms)
-fine_number op.Lambda n ms fines = fine_put 2 (codes "function") (whole n) ms (fine_whole 2 n) fines
-fine_number op.Double n ms fines = fine_put 2 (codes "bits") (string (decimal n)) ms (fine_string 2 (decimal n)) fines
-fine_number _ n ms fines = fine_put 2 (codes "number") (whole n) ms (fine_whole 2 n) fines
+fine_number : (op : Op) (n : ℕ) (ms : Members) → AreFine 3 ms → AreFine 3 (objects.number_members op n ms)
+fine_number op.Lambda n ms fines = fine_put 3 (codes "function") (whole n) ms (fine_whole 3 n) fines
+fine_number op.Double n ms fines = fine_put 3 (codes "bits") (string (decimal n)) ms (fine_string 3 (decimal n)) fines
+fine_number _ n ms fines = fine_put 3 (codes "number") (whole n) ms (fine_whole 3 n) fines
 
-fine_operand : (op : Op) (operand : Operand) (ms : Members) → AreFine 2 ms → AreFine 2 (objects.operand_members op operand ms)
+fine_operand : (op : Op) (operand : Operand) (ms : Members) → AreFine 3 ms → AreFine 3 (objects.operand_members op operand ms)
 fine_operand op Nothing ms fines = fines
 fine_operand op (Number n) ms fines = fine_number op n ms fines
-fine_operand op (Text text) ms fines = fine_put 2 (codes "text") (objects.text_data text) ms (fine_text text) fines
-fine_operand op (Aliased hops slot) ms fines = (more 2 (codes "slot") (whole slot) (fine_whole 2 slot) (more 2 (codes "hops") (whole hops) (fine_whole 2 hops) (from 2 ms fines))).fine
-fine_operand op (Distance distance) ms fines = fine_put 2 (codes "distance") (whole distance) ms (fine_whole 2 distance) fines
-fine_operand op (Target offset) ms fines = fine_put 2 (codes "to") (whole offset) ms (fine_whole 2 offset) fines
+fine_operand op (Text text) ms fines = fine_put 3 (codes "text") (objects.text_data text) ms (higher 2 3 (objects.text_data text) (omega arith) (fine_text text)) fines
+fine_operand op (Aliased hops slot) ms fines = (more 3 (codes "slot") (whole slot) (fine_whole 3 slot) (more 3 (codes "hops") (whole hops) (fine_whole 3 hops) (from 3 ms fines))).fine
+fine_operand op (Distance distance) ms fines = fine_put 3 (codes "distance") (whole distance) ms (fine_whole 3 distance) fines
+fine_operand op (Target offset) ms fines = fine_put 3 (codes "to") (whole offset) ms (fine_whole 3 offset) fines
 
-fine_instruction : (l : Listed) → IsFine 3 (objects.instruction_data l)
-fine_instruction l =
-    let c = more 2 (codes "op") (string (name_of l.command.op)) (fine_string 2 (name_of l.command.op)) (more 2 (codes "at") (whole l.at) (fine_whole 2 l.at) (none 2)) in
-    fine_object 2 (objects.operand_members l.command.op l.command.operand c.members) (fine_operand l.command.op l.command.operand c.members c.fine)
+fine_instruction : (texts : List (List ℕ)) (notes : List InstructionNote) (l : Listed) → IsFine 4 (objects.instruction_data texts notes l)
+fine_instruction texts notes l =
+    let c = more 3 (codes "op") (string (name_of l.command.op)) (fine_string 3 (name_of l.command.op)) (more 3 (codes "at") (whole l.at) (fine_whole 3 l.at) (none 3)) in
+    let noted = fine_note texts (slice_get notes l.at) c.members c.fine in
+    fine_object 3 (objects.operand_members l.command.op l.command.operand (objects.note_members texts (slice_get notes l.at) c.members))
+    (fine_operand l.command.op l.command.operand (objects.note_members texts (slice_get notes l.at) c.members) noted)
 
 fine_try : (t : TryNote) → IsFine 1 (objects.try_data t)
 fine_try t =
@@ -210,61 +257,74 @@ fine_scopes number (s ∷ ss) = (fine_scope number s, fine_scopes (number + 1) s
 
 -- ---- scripts
 
-fine_head : (number : ℕ) (kind : List ℕ) (name : Option (List ℕ)) (extent : Extent) → AreFine 6 (objects.head_members number kind name extent)
-fine_head number kind name extent =
-    (more 6 (codes "end") (objects.place_data extent.end) (higher 1 6 (objects.place_data extent.end) (omega arith) (fine_place extent.end))
-    (more 6 (codes "start") (objects.place_data extent.start) (higher 1 6 (objects.place_data extent.start) (omega arith) (fine_place extent.start))
+fine_head : (notes : List ScriptNotes) (number : ℕ) (kind : List ℕ) (name : Option (List ℕ)) (extent : Extent) → AreFine 6 (objects.head_members notes number kind name extent)
+fine_head notes number kind name extent =
+    let note = slice_get notes number in
+    (more 6 (codes "end") (objects.place_data (objects.end_of note) extent.end) (higher 1 6 (objects.place_data (objects.end_of note) extent.end) (omega arith) (fine_place (objects.end_of note) extent.end))
+    (more 6 (codes "start") (objects.place_data (objects.start_of note) extent.start) (higher 1 6 (objects.place_data (objects.start_of note) extent.start) (omega arith) (fine_place (objects.start_of note) extent.start))
     (more 6 (codes "name") (objects.name_data name) (higher 2 6 (objects.name_data name) (omega arith) (fine_name name))
     (more 6 (codes "kind") (string kind) (fine_string 6 kind)
-    (more 6 (codes "number") (whole number) (fine_whole 6 number) (none 6)))))).fine
+    (more 6 (codes "number") (whole number) (fine_whole 6 number) (from 6 (objects.script_members note no_members) (fine_script_note note no_members (no_more 6)))))))).fine
 
-fine_closed : (c : NamedClosed) → IsFine 3 (objects.closed_data c)
-fine_closed c = object_of 2 (more 2 (codes "name") (objects.text_data c.text) (fine_text c.text) (more 2 (codes "scope") (whole c.scope) (fine_whole 2 c.scope) (none 2)))
+fine_closed : (users : Option Users) (c : NamedClosed) → IsFine 3 (objects.closed_data users c)
+fine_closed users c =
+    object_of 2 (more 2 (codes "name") (objects.text_data c.text) (fine_text c.text) (more 2 (codes "scope") (whole c.scope) (fine_whole 2 c.scope)
+    (from 2 (objects.users_members users no_members) (fine_users users no_members (no_more 2)))))
 
-fine_record : (r : NamedRecord) (ms : Members) → AreFine 6 ms → AreFine 6 (objects.record_members r ms)
-fine_record r ms fines =
-    (more 6 (codes "closed") (objects.list (map objects.closed_data r.closed)) (higher 4 6 (objects.list (map objects.closed_data r.closed)) (omega arith) (fine_map 3 objects.closed_data fine_closed r.closed))
+fine_all_closed : (users : List Users) (k : ℕ) (cs : List NamedClosed) → AllByRecursion (IsFine 3) (objects.all_closed_data users k cs)
+fine_all_closed users k [] = tt
+fine_all_closed users k (c ∷ cs) = (fine_closed (slice_get users k) c, fine_all_closed users (k + 1) cs)
+
+fine_record : (users : List Users) (r : NamedRecord) (ms : Members) → AreFine 6 ms → AreFine 6 (objects.record_members users r ms)
+fine_record users r ms fines =
+    let closed = objects.list (objects.all_closed_data users 0 r.closed) in
+    (more 6 (codes "closed") closed (higher 4 6 closed (omega arith) (fine_list 3 (objects.all_closed_data users 0 r.closed) (fine_all_closed users 0 r.closed)))
     (more 6 (codes "inner") (objects.wholes r.inner) (fine_wholes 5 r.inner) (from 6 ms fines))).fine
 
-fine_part : (listing : Listing) (f : NamedFunction (List Listed)) (ms : Members) → AreFine 6 ms → AreFine 6 (objects.part_members listing f ms)
-fine_part of.Code f ms fines =
+fine_part : (listing : Listing) (texts : List (List ℕ)) (notes : List InstructionNote) (f : NamedFunction (List Listed)) (ms : Members) → AreFine 6 ms → AreFine 6 (objects.part_members listing texts notes f ms)
+fine_part of.Code texts notes f ms fines =
+    let code = objects.list (map (objects.instruction_data texts notes) f.code) in
     (more 6 (codes "tries") (objects.list (map objects.try_data f.notes)) (higher 2 6 (objects.list (map objects.try_data f.notes)) (omega arith) (fine_map 1 objects.try_data fine_try f.notes))
-    (more 6 (codes "code") (objects.list (map objects.instruction_data f.code)) (higher 4 6 (objects.list (map objects.instruction_data f.code)) (omega arith) (fine_map 3 objects.instruction_data fine_instruction f.code)) (from 6 ms fines))).fine
-fine_part of.Scopes f ms fines = fine_put 6 (codes "scopes") (objects.list (objects.scopes_data 0 f.scopes)) ms (fine_list 5 (objects.scopes_data 0 f.scopes) (fine_scopes 0 f.scopes)) fines
+    (more 6 (codes "code") code (higher 5 6 code (omega arith) (fine_map 4 (objects.instruction_data texts notes) (fine_instruction texts notes) f.code)) (from 6 ms fines))).fine
+fine_part of.Scopes texts notes f ms fines = fine_put 6 (codes "scopes") (objects.list (objects.scopes_data 0 f.scopes)) ms (fine_list 5 (objects.scopes_data 0 f.scopes) (fine_scopes 0 f.scopes)) fines
 
-fine_compiled : (listing : Listing) (f : NamedFunction (List Listed)) (ms : Members) → AreFine 6 ms → AreFine 6 (objects.compiled_members listing f ms)
-fine_compiled listing f ms fines =
+fine_compiled : (s : Shown) (number : ℕ) (f : NamedFunction (List Listed)) (ms : Members) → AreFine 6 ms → AreFine 6 (objects.compiled_members s number f ms)
+fine_compiled s number f ms fines =
     let c = more 6 (codes "params") (whole f.params) (fine_whole 6 f.params) (from 6 ms fines) in
-    fine_part listing f c.members c.fine
+    fine_part s.listing s.texts (objects.instructions_of (slice_get s.notes number)) f c.members c.fine
 
-fine_lazy : (number : ℕ) (r : NamedRecord) → AreFine 6 (objects.lazy_members number r)
-fine_lazy number r = fine_record r (objects.head_members number (objects.kind_name r.kind) r.name r.extent) (fine_head number (objects.kind_name r.kind) r.name r.extent)
+fine_lazy : (notes : List ScriptNotes) (number : ℕ) (r : NamedRecord) → AreFine 6 (objects.lazy_members notes number r)
+fine_lazy notes number r =
+    fine_record (objects.users_of (slice_get notes number)) r (objects.head_members notes number (objects.kind_name r.kind) r.name r.extent)
+    (fine_head notes number (objects.kind_name r.kind) r.name r.extent)
 
-fine_function : (listing : Listing) (number : ℕ) (r : NamedRecord) (e : Option (NamedFunction (List Listed))) → IsFine 7 (objects.function_data listing number r e)
-fine_function listing number r None = fine_object 6 (objects.lazy_members number r) (fine_lazy number r)
-fine_function listing number r (Some f) = fine_object 6 (objects.compiled_members listing f (objects.lazy_members number r)) (fine_compiled listing f (objects.lazy_members number r) (fine_lazy number r))
+fine_function : (s : Shown) (number : ℕ) (r : NamedRecord) (e : Option (NamedFunction (List Listed))) → IsFine 7 (objects.function_data s number r e)
+fine_function s number r None = fine_object 6 (objects.lazy_members s.notes number r) (fine_lazy s.notes number r)
+fine_function s number r (Some f) =
+    fine_object 6 (objects.compiled_members s number f (objects.lazy_members s.notes number r))
+    (fine_compiled s number f (objects.lazy_members s.notes number r) (fine_lazy s.notes number r))
 
-fine_functions : (listing : Listing) (number : ℕ) (rs : List NamedRecord) (es : List (Option (NamedFunction (List Listed)))) → AllByRecursion (IsFine 7) (objects.functions_data listing number rs es)
-fine_functions listing number [] es = tt
-fine_functions listing number (r ∷ rs) [] = tt
-fine_functions listing number (r ∷ rs) (e ∷ es) = (fine_function listing number r e, fine_functions listing (number + 1) rs es)
+fine_functions : (s : Shown) (number : ℕ) (rs : List NamedRecord) (es : List (Option (NamedFunction (List Listed)))) → AllByRecursion (IsFine 7) (objects.functions_data s number rs es)
+fine_functions s number [] es = tt
+fine_functions s number (r ∷ rs) [] = tt
+fine_functions s number (r ∷ rs) (e ∷ es) = (fine_function s number r e, fine_functions s (number + 1) rs es)
 
-fine_top : (listing : Listing) (f : NamedFunction (List Listed)) → IsFine 7 (objects.top_data listing f)
-fine_top listing f =
-    let head = objects.head_members 0 (codes "script") f.name f.extent in
-    fine_object 6 (objects.compiled_members listing f head) (fine_compiled listing f head (fine_head 0 (codes "script") f.name f.extent))
+fine_top : (s : Shown) (f : NamedFunction (List Listed)) → IsFine 7 (objects.top_data s f)
+fine_top s f =
+    let head = objects.head_members s.notes 0 (codes "script") f.name f.extent in
+    fine_object 6 (objects.compiled_members s 0 f head) (fine_compiled s 0 f head (fine_head s.notes 0 (codes "script") f.name f.extent))
 
-fine_scripts : (listing : Listing) (merged : NamedMerged (List Listed)) → AllByRecursion (IsFine 7) (objects.scripts_data listing merged)
-fine_scripts listing merged = (fine_top listing merged.top, fine_functions listing 1 merged.records merged.entries)
+fine_scripts : (s : Shown) (merged : NamedMerged (List Listed)) → AllByRecursion (IsFine 7) (objects.scripts_data s merged)
+fine_scripts s merged = (fine_top s merged.top, fine_functions s 1 merged.records merged.entries)
 
 fine_file : (name kind : List ℕ) → AreFine 8 (file_members name kind)
 fine_file name kind =
     (more 8 (codes "kind") (string kind) (fine_string 8 kind) (more 8 (codes "format") (string (codes "holzikra-1")) (fine_string 8 (codes "holzikra-1"))
     (more 8 (codes "file") (string name) (fine_string 8 name) (none 8)))).fine
 
-fine_script : (listing : Listing) (name : List ℕ) (bytes : ℕ) (merged : NamedMerged (List Listed)) → IsFine 9 (objects.script_data listing name bytes merged)
-fine_script listing name bytes merged =
-    object_of 8 (more 8 (codes "scripts") (objects.list (objects.scripts_data listing merged)) (fine_list 7 (objects.scripts_data listing merged) (fine_scripts listing merged))
+fine_script : (s : Shown) (name : List ℕ) (bytes : ℕ) (merged : NamedMerged (List Listed)) → IsFine 9 (objects.script_data s name bytes merged)
+fine_script s name bytes merged =
+    object_of 8 (more 8 (codes "scripts") (objects.list (objects.scripts_data s merged)) (fine_list 7 (objects.scripts_data s merged) (fine_scripts s merged))
     (more 8 (codes "functions") (whole (length merged.records)) (fine_whole 8 (length merged.records))
     (more 8 (codes "bytes") (whole bytes) (fine_whole 8 bytes) (from 8 (file_members name (codes "script")) (fine_file name (codes "script"))))))
 
@@ -279,8 +339,8 @@ exact_line d line fine is =
     }
 
 -- the line of a stencil is that of what it stands for
-pub script_line_is : (listing : Listing) (name : List ℕ) (bytes : ℕ) (merged : MergedView) (d : Data) (line : List ℕ) → d ≡ objects.script_data listing name bytes (listed_stencil merged) → IsLine d line
-    → (named : NamedMerged (List Listed)) → MergedStandsFor ShowsListed merged named → objects.IsLineOf (objects.script_data listing name bytes named) line
-script_line_is listing name bytes merged d line d_is is named stands =
-    let value_is : d ≡ objects.script_data listing name bytes named = d_is ∙ ap (objects.script_data listing name bytes) (stencil_is merged named stands) in
-    exact_line (objects.script_data listing name bytes named) line (fine_script listing name bytes named) (subst (λ (v : Data). IsLine v line) value_is is)
+pub script_line_is : (s : Shown) (name : List ℕ) (bytes : ℕ) (merged : MergedView) (d : Data) (line : List ℕ) → d ≡ objects.script_data s name bytes (listed_stencil merged) → IsLine d line
+    → (named : NamedMerged (List Listed)) → MergedStandsFor ShowsListed merged named → objects.IsLineOf (objects.script_data s name bytes named) line
+script_line_is s name bytes merged d line d_is is named stands =
+    let value_is : d ≡ objects.script_data s name bytes named = d_is ∙ ap (objects.script_data s name bytes) (stencil_is merged named stands) in
+    exact_line (objects.script_data s name bytes named) line (fine_script s name bytes named) (subst (λ (v : Data). IsLine v line) value_is is)

@@ -1,10 +1,11 @@
 -- What a script is as a value of JSON. The names of members are this project's own choice; a member is put in at the place that the order
 -- of the bytes of the names gives it.
-use Rattle.std.specs.Prelude.{◌≡◌, ◌++◌, ℕ, ◌+◌, List, [], ◌∷◌, length, map, Option, Some, None, option_map, unwrap_or, if◌then◌else◌, codes}
+use Rattle.std.specs.Prelude.{◌≡◌, ◌++◌, ℕ, ◌+◌, Bool, true, false, List, [], ◌∷◌, length, map, slice_get}
+use Rattle.std.specs.Prelude.{Option, Some, None, option_map, unwrap_or, if◌then◌else◌, codes}
 use Rattle.std.specs.Prelude.{encode_utf8_all}
 use Rattle.std.specs.Char.Utf16.{has_unpaired_surrogate, utf16_lossy_chars}
 use Rattle.std.specs.Fmt.{decimal}
-use Rattle.serde_json.specs.Data.{Data, Members, null, string, array, object, no_members, put}
+use Rattle.serde_json.specs.Data.{Data, Members, null, boolean, string, array, object, no_members, put}
 use Rattle.serde_json.specs.Read.{read}
 use Rattle.serde_json.specs.View.{items_of}
 use Rattle.serde_json.specs.Written.{compact_text}
@@ -16,6 +17,7 @@ use Rattle.stencil_data.specs.declared.scopes.Slot.{Slot}
 use Rattle.stencil_data.specs.declared.scopes.Slot.TheVariants as slot
 use Rattle.stencil_data.specs.declared.stencils.TryNote.{TryNote}
 use Rattle.stencil_data.specs.Named.{NamedScope, NamedFunction, NamedClosed, NamedRecord, NamedMerged}
+use Rattle.stencil_data.specs.StandsFor.{text_at}
 use Rattle.bytecode_buf.specs.declared.opcode.Op.{Op}
 use Rattle.bytecode_buf.specs.declared.opcode.Op.TheVariants as op
 use Rattle.bytecode_buf.specs.Command.{Operand, Nothing, Number, Text, Aliased, Distance, Target, Listed}
@@ -23,7 +25,12 @@ use Rattle.script_image.specs.OpNames.{name_of}
 use Rattle.script_image.specs.ScopeLines.{binding_name, scope_name}
 use Rattle.script_image.specs.declared.script_lines.Listing.{Listing}
 use Rattle.script_image.specs.declared.script_lines.Listing.TheVariants as of
-use Rattle.holzikra_json.specs.Lines.{whole, file_members}
+use Rattle.holzikra_json.specs.Lines.{whole, whole_or_null, file_members}
+use Rattle.holzikra_names.specs.declared.source.Spot.{Spot}
+use Rattle.holzikra_objects.specs.declared.notes.BindingNote.{BindingNote}
+use Rattle.holzikra_objects.specs.declared.notes.InstructionNote.{InstructionNote}
+use Rattle.holzikra_objects.specs.declared.notes.ScriptNotes.{ScriptNotes}
+use Rattle.holzikra_objects.specs.declared.notes.Users.{Users}
 
 abbrev pub list : List Data → Data
 list ds = array (items_of ds)
@@ -46,9 +53,63 @@ or_null d = unwrap_or d null
 abbrev pub name_data : Option (List ℕ) → Data
 name_data name = or_null (option_map text_data name)
 
+-- ---- notes: what is said beside the stencil. Each is a further member, of a name that no other member has.
+
+-- the line and the column of a place, where the source text is at hand
+abbrev pub spot_members : Option Spot → Members → Members
+spot_members None ms = ms
+spot_members (Some s) ms = put (codes "line") (whole s.line) (put (codes "column") (whole s.column) ms)
+
+abbrev pub start_of : Option ScriptNotes → Option Spot
+start_of None = None
+start_of (Some n) = n.start
+
+abbrev pub end_of : Option ScriptNotes → Option Spot
+end_of None = None
+end_of (Some n) = n.end
+
+abbrev pub users_of : Option ScriptNotes → List Users
+users_of None = []
+users_of (Some n) = n.users.items
+
+abbrev pub instructions_of : Option ScriptNotes → List InstructionNote
+instructions_of None = []
+instructions_of (Some n) = n.instructions.items
+
+-- the function around, the bytes of the code, and how deep its stack gets
+abbrev pub script_members : Option ScriptNotes → Members → Members
+script_members None ms = ms
+script_members (Some n) ms =
+    put (codes "depth") (whole_or_null n.depth)
+    (put (codes "bytes") (whole_or_null n.bytes) (put (codes "around") (whole_or_null n.around) ms))
+
+-- the functions that use a name
+abbrev pub users_members : Option Users → Members → Members
+users_members None ms = ms
+users_members (Some u) ms = put (codes "used_by") (wholes u.numbers.items) ms
+
+-- the binding that hops and a slot mean
+abbrev pub meant_data : List (List ℕ) → BindingNote → Data
+meant_data texts b =
+    object (put (codes "scope") (whole b.scope)
+    (put (codes "name") (text_data (text_at texts b.atom)) (put (codes "function") (whole b.function) no_members)))
+
+abbrev pub meant_members : List (List ℕ) → Option BindingNote → Members → Members
+meant_members texts None ms = ms
+meant_members texts (Some b) ms = put (codes "binding") (meant_data texts b) ms
+
+-- only that no path leads to an instruction is said
+abbrev pub reached_members : Bool → Members → Members
+reached_members true ms = ms
+reached_members false ms = put (codes "reached") (boolean false) ms
+
+abbrev pub note_members : List (List ℕ) → Option InstructionNote → Members → Members
+note_members texts None ms = ms
+note_members texts (Some n) ms = reached_members n.reached (meant_members texts n.binding ms)
+
 -- a place of the source text
-abbrev pub place_data : ℕ → Data
-place_data offset = only (codes "offset") (whole offset)
+abbrev pub place_data : Option Spot → ℕ → Data
+place_data spot offset = object (put (codes "offset") (whole offset) (spot_members spot no_members))
 
 -- ---- instructions
 
@@ -72,9 +133,11 @@ operand_members op (Aliased hops slot) ms = put_aliased hops slot ms
 operand_members op (Distance distance) ms = put (codes "distance") (whole distance) ms
 operand_members op (Target offset) ms = put (codes "to") (whole offset) ms
 
-abbrev pub instruction_data : Listed → Data
-instruction_data l =
-    object (operand_members l.command.op l.command.operand (put (codes "op") (string (name_of l.command.op)) (put (codes "at") (whole l.at) no_members)))
+-- with what is said of the instruction at its offset
+abbrev pub instruction_data : List (List ℕ) → List InstructionNote → Listed → Data
+instruction_data texts notes l =
+    object (operand_members l.command.op l.command.operand (note_members texts (slice_get notes l.at)
+    (put (codes "op") (string (name_of l.command.op)) (put (codes "at") (whole l.at) no_members))))
 
 abbrev pub try_data : TryNote → Data
 try_data t = object (put (codes "start") (whole t.start) (put (codes "end") (whole t.end) (put (codes "depth") (whole t.depth) no_members)))
@@ -115,57 +178,81 @@ kind_name kind.Method = codes "method"
 kind_name kind.Getter = codes "getter"
 kind_name kind.Setter = codes "setter"
 
+-- what is shown of a script: its code or its scopes, with the texts of its atoms, and what is said of itself and of each function
+pub record Shown : Type 0 where
+  pub listing : Listing
+  pub texts : List (List ℕ)
+  pub notes : List ScriptNotes
+
+abbrev pub shown : Listing → List (List ℕ) → List ScriptNotes → Shown
+shown listing texts notes = record { listing = listing; texts = texts; notes = notes }
+
 -- what the script and each function have
-abbrev pub head_members : ℕ → List ℕ → Option (List ℕ) → Extent → Members
-head_members number kind name extent =
-    put (codes "end") (place_data extent.end) (put (codes "start") (place_data extent.start) (put (codes "name") (name_data name)
-    (put (codes "kind") (string kind) (put (codes "number") (whole number) no_members))))
+abbrev pub head_members : List ScriptNotes → ℕ → List ℕ → Option (List ℕ) → Extent → Members
+head_members notes number kind name extent =
+    put (codes "end") (place_data (end_of (slice_get notes number)) extent.end)
+    (put (codes "start") (place_data (start_of (slice_get notes number)) extent.start) (put (codes "name") (name_data name)
+    (put (codes "kind") (string kind) (put (codes "number") (whole number) (script_members (slice_get notes number) no_members)))))
 
 -- what each function has
-abbrev pub closed_data : NamedClosed → Data
-closed_data c = object (put (codes "name") (text_data c.text) (put (codes "scope") (whole c.scope) no_members))
+abbrev pub closed_data : Option Users → NamedClosed → Data
+closed_data users c = object (put (codes "name") (text_data c.text) (put (codes "scope") (whole c.scope) (users_members users no_members)))
 
-abbrev pub record_members : NamedRecord → Members → Members
-record_members r ms = put (codes "closed") (list (map closed_data r.closed)) (put (codes "inner") (wholes r.inner) ms)
+abbrev pub all_closed_data : List Users → ℕ → List NamedClosed → List Data
+all_closed_data users k [] = []
+all_closed_data users k (c ∷ cs) = closed_data (slice_get users k) c ∷ all_closed_data users (k + 1) cs
+
+abbrev pub record_members : List Users → NamedRecord → Members → Members
+record_members users r ms = put (codes "closed") (list (all_closed_data users 0 r.closed)) (put (codes "inner") (wholes r.inner) ms)
 
 -- what is compiled: the code, or the scopes
-abbrev pub code_members : NamedFunction (List Listed) → Members → Members
-code_members f ms = put (codes "tries") (list (map try_data f.notes)) (put (codes "code") (list (map instruction_data f.code)) ms)
+abbrev pub code_members : List (List ℕ) → List InstructionNote → NamedFunction (List Listed) → Members → Members
+code_members texts notes f ms =
+    put (codes "tries") (list (map try_data f.notes)) (put (codes "code") (list (map (instruction_data texts notes) f.code)) ms)
 
 abbrev pub scope_members : NamedFunction (List Listed) → Members → Members
 scope_members f ms = put (codes "scopes") (list (scopes_data 0 f.scopes)) ms
 
-abbrev pub part_members : Listing → NamedFunction (List Listed) → Members → Members
-part_members of.Code f ms = code_members f ms
-part_members of.Scopes f ms = scope_members f ms
+abbrev pub part_members : Listing → List (List ℕ) → List InstructionNote → NamedFunction (List Listed) → Members → Members
+part_members of.Code texts notes f ms = code_members texts notes f ms
+part_members of.Scopes texts notes f ms = scope_members f ms
 
-abbrev pub compiled_members : Listing → NamedFunction (List Listed) → Members → Members
-compiled_members listing f ms = part_members listing f (put (codes "params") (whole f.params) ms)
+abbrev pub compiled_members : Shown → ℕ → NamedFunction (List Listed) → Members → Members
+compiled_members s number f ms =
+    part_members s.listing s.texts (instructions_of (slice_get s.notes number)) f (put (codes "params") (whole f.params) ms)
 
-abbrev pub top_data : Listing → NamedFunction (List Listed) → Data
-top_data listing f = object (compiled_members listing f (head_members 0 (codes "script") f.name f.extent))
+abbrev pub top_data : Shown → NamedFunction (List Listed) → Data
+top_data s f = object (compiled_members s 0 f (head_members s.notes 0 (codes "script") f.name f.extent))
 
-abbrev pub lazy_members : ℕ → NamedRecord → Members
-lazy_members number r = record_members r (head_members number (kind_name r.kind) r.name r.extent)
+abbrev pub lazy_members : List ScriptNotes → ℕ → NamedRecord → Members
+lazy_members notes number r =
+    record_members (users_of (slice_get notes number)) r (head_members notes number (kind_name r.kind) r.name r.extent)
 
-abbrev pub function_data : Listing → ℕ → NamedRecord → Option (NamedFunction (List Listed)) → Data
-function_data listing number r None = object (lazy_members number r)
-function_data listing number r (Some f) = object (compiled_members listing f (lazy_members number r))
+abbrev pub function_data : Shown → ℕ → NamedRecord → Option (NamedFunction (List Listed)) → Data
+function_data s number r None = object (lazy_members s.notes number r)
+function_data s number r (Some f) = object (compiled_members s number f (lazy_members s.notes number r))
 
-abbrev pub functions_data : Listing → ℕ → List NamedRecord → List (Option (NamedFunction (List Listed))) → List Data
-functions_data listing number [] es = []
-functions_data listing number (r ∷ rs) [] = []
-functions_data listing number (r ∷ rs) (e ∷ es) = function_data listing number r e ∷ functions_data listing (number + 1) rs es
+abbrev pub functions_data : Shown → ℕ → List NamedRecord → List (Option (NamedFunction (List Listed))) → List Data
+functions_data s number [] es = []
+functions_data s number (r ∷ rs) [] = []
+functions_data s number (r ∷ rs) (e ∷ es) = function_data s number r e ∷ functions_data s (number + 1) rs es
 
-abbrev pub scripts_data : Listing → NamedMerged (List Listed) → List Data
-scripts_data listing merged = top_data listing merged.top ∷ functions_data listing 1 merged.records merged.entries
+abbrev pub scripts_data : Shown → NamedMerged (List Listed) → List Data
+scripts_data s merged = top_data s merged.top ∷ functions_data s 1 merged.records merged.entries
 
 -- a file of this name and so many bytes
-abbrev pub script_data : Listing → List ℕ → ℕ → NamedMerged (List Listed) → Data
-script_data listing name bytes merged =
-    object (put (codes "scripts") (list (scripts_data listing merged)) (put (codes "functions") (whole (length merged.records)) (put (codes "bytes") (whole bytes) (file_members name (codes "script")))))
+abbrev pub script_data : Shown → List ℕ → ℕ → NamedMerged (List Listed) → Data
+script_data s name bytes merged =
+    object (put (codes "scripts") (list (scripts_data s merged)) (put (codes "functions") (whole (length merged.records))
+    (put (codes "bytes") (whole bytes) (file_members name (codes "script")))))
 
 -- the line is the text of the value, and what is read of that text is the value
 pub record IsLineOf (value : Data) (line : List ℕ) : Type 0 where
   pub is : line ≡ compact_text value ++ codes "\n"
   pub reads_back : read (compact_text value) ≡ Some value
+
+-- the line of a file of this name and so many bytes: the code or the scopes of this script, with what is said of it beside that
+pub record IsScriptLine (listing : Listing) (name : List ℕ) (bytes : ℕ) (merged : NamedMerged (List Listed)) (line : List ℕ) : Type 0 where
+  pub texts : List (List ℕ)
+  pub notes : List ScriptNotes
+  pub is : IsLineOf (script_data (shown listing texts notes) name bytes merged) line

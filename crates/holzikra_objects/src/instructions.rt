@@ -11,10 +11,11 @@ ghost use Rattle.holzikra_json.specs.Lines.{members_of};
 ghost use Rattle.holzikra_objects.specs.Objects as objects;
 
 use crate::lists::list;
-use crate::names::op_name;
+use crate::notes::{InstructionNote, put_instruction};
 use crate::texts::{text_at, text_value};
 use bytecode_buf::{Instr, Op, Shape, decode_at};
 use holzikra_json::Members;
+use script_image::op_name;
 use serde_json::Value;
 use std::alloc::{AllocError, Global};
 use stencil_data::{Text, TryNote};
@@ -101,21 +102,28 @@ fn put_operand(
 fn instruction_value(
     alloc: Global,
     texts: &[Text],
+    notes: &[InstructionNote],
     at: usize,
     instr: Instr,
 ) -> Result<Value, AllocError>
-    ensures { IfOk result (λ value. view value ≡ objects.instruction_data (read_as texts.now at instr)) }
+    ensures { IfOk result (λ value. view value ≡ objects.instruction_data texts.now notes.now (read_as texts.now at instr)) }
 {
     let mut members = Members::new(alloc);
     members.number("at", Some(at as u64))?;
     members.text("op", op_name(instr.op))?;
+    put_instruction(&mut members, alloc, texts, notes, at)?;
     put_operand(&mut members, alloc, texts, at, instr.op.row().shape, instr)?;
     Ok(members.object())
 }
 
 /// The values of the whole instructions of a code.
-fn instruction_values(alloc: Global, texts: &[Text], code: &[u8]) -> Result<Vec<Value>, AllocError>
-    ensures { IfOk result (λ values. map view values.items ≡ map objects.instruction_data (listed texts.now code.now)) }
+fn instruction_values(
+    alloc: Global,
+    texts: &[Text],
+    notes: &[InstructionNote],
+    code: &[u8],
+) -> Result<Vec<Value>, AllocError>
+    ensures { IfOk result (λ values. map view values.items ≡ map (objects.instruction_data texts.now notes.now) (listed texts.now code.now)) }
 {
     let mut values = Vec::new(alloc);
     let mut at = 0;
@@ -123,7 +131,7 @@ fn instruction_values(alloc: Global, texts: &[Text], code: &[u8]) -> Result<Vec<
         match decode_at(code, at) {
             None => return Ok(values),
             Some(instr) => {
-                values.push(instruction_value(alloc, texts, at, instr)?)?;
+                values.push(instruction_value(alloc, texts, notes, at, instr)?)?;
                 at = instr.next;
             }
         }
@@ -131,11 +139,16 @@ fn instruction_values(alloc: Global, texts: &[Text], code: &[u8]) -> Result<Vec<
     Ok(values)
 }
 
-/// The list of the instructions of a code.
-pub(crate) fn code_value(alloc: Global, texts: &[Text], code: &[u8]) -> Result<Value, AllocError>
-    ensures { IfOk result (λ value. view value ≡ objects.list (map objects.instruction_data (listed texts.now code.now))) }
+/// The list of the instructions of a code, with what is said of those at their offsets.
+pub(crate) fn code_value(
+    alloc: Global,
+    texts: &[Text],
+    notes: &[InstructionNote],
+    code: &[u8],
+) -> Result<Value, AllocError>
+    ensures { IfOk result (λ value. view value ≡ objects.list (map (objects.instruction_data texts.now notes.now) (listed texts.now code.now))) }
 {
-    let values = instruction_values(alloc, texts, code)?;
+    let values = instruction_values(alloc, texts, notes, code)?;
     Ok(list(values))
 }
 

@@ -10,9 +10,11 @@
 
 mod instructions;
 mod lists;
-mod names;
+mod notes;
 mod scopes;
 mod scripts;
 mod texts;
 
-pub use scripts::script_line;
+pub use notes::{BindingNote, InstructionNote, ScriptNotes, Users};
+pub use scripts::{kind_name, script_line};
+pub use texts::name_value;

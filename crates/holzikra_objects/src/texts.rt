@@ -47,11 +47,7 @@ pub(crate) fn text_value(alloc: Global, units: &[u16]) -> Result<Value, AllocErr
 }
 
 /// The value of a name, or null.
-pub(crate) fn name_value(
-    alloc: Global,
-    texts: &[Text],
-    name: Option<u32>,
-) -> Result<Value, AllocError>
+pub fn name_value(alloc: Global, texts: &[Text], name: Option<u32>) -> Result<Value, AllocError>
     ensures { IfOk result (λ value. view value ≡ objects.name_data (option_map (stands.text_at texts.now) name)) }
 {
     match name {

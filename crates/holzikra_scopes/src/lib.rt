@@ -15,3 +15,4 @@ mod uses;
 
 pub use graph::scope_graph;
 pub use tree::scope_tree;
+pub use uses::{Use, Uses};

@@ -7,7 +7,7 @@ use stencil_data::{Entry, FunctionStencil, MergedStencil};
 
 /// That a function uses a binding that lives in an environment of another one.
 #[derive(Clone, Copy)]
-pub(crate) struct Use {
+pub struct Use {
     /// The place of the binding among those of `Uses`.
     pub binding: usize,
     pub user: u32,
@@ -16,7 +16,7 @@ pub(crate) struct Use {
 /// The bindings of a script that live in environments, and their uses by other functions than their own, by binding and then by
 /// user, each once.
 #[derive(Drop)]
-pub(crate) struct Uses {
+pub struct Uses {
     pub bindings: Vec<Bound>,
     pub all: Vec<Use>,
 }
@@ -76,8 +76,8 @@ impl Found {
 }
 
 impl Uses {
-    /// All uses in the code of a script.
-    pub(crate) fn of(alloc: Global, merged: &MergedStencil) -> Result<Uses, AllocError> {
+    /// All uses in the code of a script. It takes time in proportion to the code, up to logarithms.
+    pub fn of(alloc: Global, merged: &MergedStencil) -> Result<Uses, AllocError> {
         let mut environments = Environments::of(alloc, merged)?;
         let mut found = Found {
             all: Vec::new(alloc),
@@ -96,6 +96,13 @@ impl Uses {
             bindings: environments.owned,
             all: found.all,
         })
+    }
+
+    /// The uses of the binding of this place.
+    pub fn of_binding(&self, binding: usize) -> &[Use] {
+        let first = self.first_of(binding);
+        let behind = self.first_of(binding.saturating_add(1));
+        self.all.get(first..behind).unwrap_or(&[])
     }
 
     /// The place of the first use of a binding.

@@ -8,7 +8,7 @@ use Rattle.script_image.specs.Listed.{ShowsListed}
 use Rattle.script_image.specs.declared.script_lines.Listing.{Listing}
 use Rattle.session_words.specs.Asked as asked
 use Rattle.holzikra_listing.specs.Notes.{IsListing}
-use Rattle.holzikra_objects.specs.Objects.{IsLineOf, script_data}
+use Rattle.holzikra_objects.specs.Objects.{IsScriptLine}
 use Rattle.holzikra_words.specs.declared.functions.FunctionWord.{FunctionWord}
 use Rattle.holzikra_scripts.specs.declared.choice.Choice.{Choice}
 use Rattle.holzikra_scripts.specs.declared.choice.Choice.TheVariants as choice
@@ -36,10 +36,10 @@ pub record HasNoted (plain out : List ℕ) : Type 0 where
 abbrev pub IsNoted : Lines → MergedView → List ℕ → Type 0
 IsNoted lines stencil out = (named : NamedMerged (List Listed)) → MergedStandsFor ShowsListed stencil named → HasNoted (lines named) out
 
--- the line of the value of a file of this name and so many bytes, of the script that the stencil stands for
+-- the line of the value of a file of this name and so many bytes, of the script that the stencil stands for, with notes
 abbrev pub IsJson : Listing → List ℕ → ℕ → MergedView → List ℕ → Type 0
 IsJson listing name bytes stencil out =
-    (named : NamedMerged (List Listed)) → MergedStandsFor ShowsListed stencil named → IsLineOf (script_data listing name bytes named) out
+    (named : NamedMerged (List Listed)) → MergedStandsFor ShowsListed stencil named → IsScriptLine listing name bytes named out
 
 -- the functions that are chosen, in the words of a command of `stencilc`
 abbrev pub wanted_of : Choice → asked.Wanted

@@ -1,36 +1,83 @@
 //! The differences of two scripts' code.
 
+use crate::difference_json::difference_line;
 use crate::source::SourceText;
 use holzikra_diff::{Side, append_difference, difference_of};
+use holzikra_names::{Source, Spot};
 use holzikra_places::push_shown_text;
+use holzikra_words::DiffFormat;
 use std::alloc::{AllocError, Global};
 use stencil_data::MergedStencil;
 
-/// A script that is compared: the name of its file, its text, and what was compiled of that.
+/// A script that is compared: the name of its file, its text where that is known, as it is not of an image, and its stencil.
 #[derive(Clone, Copy)]
 pub struct Compared<'a> {
     pub name: &'a str,
-    pub text: &'a [u8],
+    pub text: Option<&'a [u8]>,
     pub stencil: &'a MergedStencil,
 }
 
-fn shown_name(alloc: Global, name: &str) -> Result<String, AllocError> {
-    let mut shown = String::new(alloc);
-    push_shown_text(&mut shown, name)?;
-    Ok(shown)
+/// What is written of two scripts that are compared.
+#[derive(Drop)]
+pub struct Comparison {
+    pub lines: Vec<u8>,
+    /// Whether their code differs.
+    pub differs: bool,
 }
 
-/// The differences of two scripts, function by function; nothing where their code does not differ.
-pub fn difference_text(
+/// The source text of a script, where it is known.
+#[derive(Drop)]
+struct ComparedSource<'a> {
+    text: Option<SourceText<'a>>,
+}
+
+impl<'a> Source for ComparedSource<'a> {
+    fn spot(&self, offset: u32) -> Option<Spot> {
+        match &self.text {
+            None => None,
+            Some(text) => text.spot(offset),
+        }
+    }
+
+    fn line_of(&self, offset: u32) -> Option<&[u8]> {
+        match &self.text {
+            None => None,
+            Some(text) => text.line_of(offset),
+        }
+    }
+}
+
+fn source_of<'a>(alloc: Global, text: Option<&'a [u8]>) -> Result<ComparedSource<'a>, AllocError> {
+    let text = match text {
+        None => None,
+        Some(text) => Some(SourceText::of(alloc, text)?),
+    };
+    Ok(ComparedSource { text })
+}
+
+/// The name of a file as it is written: for a person so that it stays in its line.
+fn written_name(alloc: Global, format: DiffFormat, name: &str) -> Result<String, AllocError> {
+    let mut written = String::new(alloc);
+    match format {
+        DiffFormat::Human => push_shown_text(&mut written, name)?,
+        DiffFormat::Json => written.push_str(name)?,
+    }
+    Ok(written)
+}
+
+/// The differences of two scripts, function by function. For a person nothing is written where their code does not differ.
+pub fn compare_scripts(
     alloc: Global,
+    format: DiffFormat,
     old: Compared<'_>,
     new: Compared<'_>,
-) -> Result<Vec<u8>, AllocError> {
+) -> Result<Comparison, AllocError> {
     let difference = difference_of(alloc, old.stencil, new.stencil)?;
-    let old_name = shown_name(alloc, old.name)?;
-    let new_name = shown_name(alloc, new.name)?;
-    let old_source = SourceText::of(alloc, old.text)?;
-    let new_source = SourceText::of(alloc, new.text)?;
+    let differs = difference.counts().differs();
+    let old_source = source_of(alloc, old.text)?;
+    let new_source = source_of(alloc, new.text)?;
+    let old_name = written_name(alloc, format, old.name)?;
+    let new_name = written_name(alloc, format, new.name)?;
     let old_side = Side {
         name: old_name.as_str(),
         merged: old.stencil,
@@ -41,7 +88,15 @@ pub fn difference_text(
         merged: new.stencil,
         source: &new_source,
     };
-    let mut out = Vec::new(alloc);
-    append_difference(alloc, &mut out, &old_side, &new_side, &difference)?;
-    Ok(out)
+    let mut lines = Vec::new(alloc);
+    match format {
+        DiffFormat::Human => {
+            append_difference(alloc, &mut lines, &old_side, &new_side, &difference)?;
+        }
+        DiffFormat::Json => {
+            let line = difference_line(alloc, &old_side, &new_side, &difference)?;
+            lines = line.into_bytes();
+        }
+    }
+    Ok(Comparison { lines, differs })
 }

@@ -9,7 +9,7 @@ use Rattle.script_image.specs.ScriptLines.{code_text, scope_text, listed_merged}
 use Rattle.script_image.specs.declared.script_lines.Listing.TheVariants as of
 use Rattle.session_words.specs.Asked.{Wanted}
 use Rattle.holzikra_stats.specs.Counts as counts
-use Rattle.holzikra_objects.specs.Objects.{IsLineOf, script_data}
+use Rattle.holzikra_objects.specs.Objects.{IsScriptLine}
 use Rattle.holzikra_words.specs.declared.code.CodeFormat.{CodeFormat}
 use Rattle.holzikra_words.specs.declared.code.CodeFormat.TheVariants as code
 use Rattle.holzikra_words.specs.declared.scopes.ScopesFormat.{ScopesFormat}
@@ -69,12 +69,12 @@ IsInspected judges words text Is (inspected.NoFunction place) = place < length w
 abbrev pub IsCode : CodeFormat → List ℕ → ℕ → Choice → NamedMerged (List Listed) → List ℕ → Type 0
 IsCode code.Plain name bytes chosen named out = out ≡ codes "file " ++ name ++ codes "\n" ++ code_text named
 IsCode code.Human name bytes chosen named out = chosen ≡ choice.All → HasNoted (code_text named) out
-IsCode code.Json name bytes chosen named out = IsLineOf (script_data of.Code name bytes named) out
+IsCode code.Json name bytes chosen named out = IsScriptLine of.Code name bytes named out
 
 -- the scopes: the listing as `stencilc scopes` writes it, or the line of its value in JSON; of drawings nothing is said
 abbrev pub AreScopes : ScopesFormat → List ℕ → ℕ → Choice → NamedMerged (List Listed) → List ℕ → Type 0
 AreScopes scopes.Plain name bytes chosen named out = out ≡ codes "file " ++ name ++ codes "\n" ++ scope_text named
-AreScopes scopes.Json name bytes chosen named out = IsLineOf (script_data of.Scopes name bytes named) out
+AreScopes scopes.Json name bytes chosen named out = IsScriptLine of.Scopes name bytes named out
 AreScopes scopes.Human name bytes chosen named out = Unit {0}
 AreScopes scopes.Dot name bytes chosen named out = Unit {0}
 

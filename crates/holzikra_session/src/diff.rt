@@ -1,37 +1,53 @@
 //! The command `diff`.
 
 use crate::complaint::complain;
-use crate::files::{bytes_of, input_bytes};
+use crate::human::image_line;
+use crate::reading::{image_of, input_image};
 use crate::refusal::{Said, Showing, answer_refused};
 use crate::status::{Status, Tally};
-use crate::verdict::{Compiled, Judge, Reason};
-use holzikra_scripts::{Compared, difference_text};
+use crate::verdict::{Compiled, Judge, Reason, Verified};
+use holzikra_scripts::{Compared, compare_scripts};
 use holzikra_words::{DiffOptions, Format};
 use std::io;
 use std::io::{ErrorKind, Write};
 use std::rt::Runtime;
 use stencil_data::MergedStencil;
+use stencil_xdr_read::{ImageFault, read_image};
+
+/// The end of the names of files that are taken as images whatever they hold.
+const IMAGE_END: &str = ".stn";
 
 /// A file that is compared.
 #[derive(Drop)]
-struct Text<'a> {
+struct File<'a> {
     name: &'a str,
     bytes: Vec<u8>,
 }
 
+/// What a file is found to be.
+#[derive(Drop)]
+enum Side {
+    /// A script, which was compiled whole.
+    Script(MergedStencil),
+    /// The image of a script, all code of which is sound.
+    Image(MergedStencil),
+    /// Neither, which is written.
+    Refused,
+}
+
 /// The file that a word names. One that cannot be read is complained of; want of memory ends the command.
-fn text_of<'a, R: Runtime + AllocGlobal>(
+fn file_of<'a, R: Runtime + AllocGlobal>(
     rt: &R,
     word: &'a str,
     stdin_name: &'a str,
-) -> io::Result<Option<Text<'a>>> {
+) -> io::Result<Option<File<'a>>> {
     let (name, read) = if word == "-" {
-        (stdin_name, input_bytes(rt))
+        (stdin_name, input_image(rt))
     } else {
-        (word, bytes_of(rt, word))
+        (word, image_of(rt, word))
     };
     match read {
-        Ok(bytes) => Ok(Some(Text { name, bytes })),
+        Ok(bytes) => Ok(Some(File { name, bytes })),
         Err(error) => {
             if error.kind() == ErrorKind::OutOfMemory {
                 return Err(error);
@@ -44,7 +60,7 @@ fn text_of<'a, R: Runtime + AllocGlobal>(
 }
 
 /// Writes why a text is refused, as `check` does.
-fn refuse<R: Runtime + AllocGlobal>(rt: &R, text: &Text<'_>, reason: Reason) -> io::Result<()> {
+fn refuse<R: Runtime + AllocGlobal>(rt: &R, file: &File<'_>, reason: Reason) -> io::Result<()> {
     let alloc = rt.alloc();
     let mut tally = Tally::new();
     let mut said = Said::new(alloc);
@@ -52,8 +68,8 @@ fn refuse<R: Runtime + AllocGlobal>(rt: &R, text: &Text<'_>, reason: Reason) -> 
     let lines = answer_refused(
         alloc,
         showing,
-        text.name,
-        &text.bytes,
+        file.name,
+        &file.bytes,
         reason,
         &mut tally,
         &mut said,
@@ -61,51 +77,88 @@ fn refuse<R: Runtime + AllocGlobal>(rt: &R, text: &Text<'_>, reason: Reason) -> 
     io::writer(rt).write_all(lines.as_bytes())
 }
 
-/// A text compiled whole, or nothing where it is refused, which is written.
-fn stencil_of<R: Runtime + AllocGlobal, J: Judge>(
+/// Writes why a file is refused that is taken as an image, as `verify` does.
+fn refuse_image<R: Runtime + AllocGlobal>(
+    rt: &R,
+    file: &File<'_>,
+    found: Verified,
+) -> io::Result<Side> {
+    let line = image_line(rt.alloc(), file.name, found)?;
+    io::writer(rt).write_all(line.as_bytes())?;
+    Ok(Side::Refused)
+}
+
+/// A text compiled whole.
+fn script_of<R: Runtime + AllocGlobal, J: Judge>(
     rt: &R,
     judge: &J,
-    text: &Text<'_>,
-) -> io::Result<Option<MergedStencil>> {
-    let compiled = judge.compile(rt.alloc(), &text.bytes, &[])?;
+    file: &File<'_>,
+) -> io::Result<Side> {
+    let compiled = judge.compile(rt.alloc(), &file.bytes, &[])?;
     match compiled {
-        Compiled::Script(stencil, _) => Ok(Some(stencil)),
+        Compiled::Script(stencil, _) => Ok(Side::Script(stencil)),
         Compiled::Refused(reason) => {
-            refuse(rt, text, reason)?;
-            Ok(None)
+            refuse(rt, file, reason)?;
+            Ok(Side::Refused)
         }
         Compiled::NoFunction(_) => unreachable!(),
     }
 }
 
-/// Writes how the code of two scripts differs.
+/// What a file is: an image where its bytes are one, or its name says so, and else a script.
+fn side_of<R: Runtime + AllocGlobal, J: Judge>(
+    rt: &R,
+    judge: &J,
+    file: &File<'_>,
+) -> io::Result<Side> {
+    let found = judge.verify(rt.alloc(), &file.bytes)?;
+    match found {
+        Verified::Unsound { .. } => refuse_image(rt, file, found),
+        Verified::NoImage if file.name.ends_with(IMAGE_END) => refuse_image(rt, file, found),
+        Verified::NoImage => script_of(rt, judge, file),
+        Verified::Sound { .. } => match read_image(rt.alloc(), &file.bytes) {
+            Ok(stencil) => Ok(Side::Image(stencil)),
+            Err(ImageFault::NoImage) => refuse_image(rt, file, Verified::NoImage),
+            Err(ImageFault::NoMemory) => Err(ErrorKind::OutOfMemory.into()),
+        },
+    }
+}
+
+/// The script of a file, for comparing.
+fn compared_of<'a>(file: &'a File<'_>, side: &'a Side) -> Option<Compared<'a>> {
+    let (text, stencil) = match side {
+        Side::Script(stencil) => (Some(file.bytes.as_slice()), stencil),
+        Side::Image(stencil) => (None, stencil),
+        Side::Refused => return None,
+    };
+    Some(Compared {
+        name: file.name,
+        text,
+        stencil,
+    })
+}
+
+/// Writes how the code of two files differs.
 fn compare<R: Runtime + AllocGlobal, J: Judge>(
     rt: &R,
     judge: &J,
-    old: &Text<'_>,
-    new: &Text<'_>,
+    options: &DiffOptions,
+    old: &File<'_>,
+    new: &File<'_>,
 ) -> io::Result<Status> {
-    let old_stencil = stencil_of(rt, judge, old)?;
-    let new_stencil = stencil_of(rt, judge, new)?;
-    let (Some(old_stencil), Some(new_stencil)) = (old_stencil, new_stencil) else {
+    let old_side = side_of(rt, judge, old)?;
+    let new_side = side_of(rt, judge, new)?;
+    let (Some(before), Some(after)) = (compared_of(old, &old_side), compared_of(new, &new_side))
+    else {
         return Ok(Status::Trouble);
     };
-    let before = Compared {
-        name: old.name,
-        text: &old.bytes,
-        stencil: &old_stencil,
-    };
-    let after = Compared {
-        name: new.name,
-        text: &new.bytes,
-        stencil: &new_stencil,
-    };
-    let lines = difference_text(rt.alloc(), before, after)?;
-    if lines.is_empty() {
-        return Ok(Status::Fine);
+    let comparison = compare_scripts(rt.alloc(), options.format, before, after)?;
+    io::writer(rt).write_all(&comparison.lines)?;
+    if comparison.differs {
+        Ok(Status::Refused)
+    } else {
+        Ok(Status::Fine)
     }
-    io::writer(rt).write_all(&lines)?;
-    Ok(Status::Refused)
 }
 
 /// Compares the code of two files. The error is want of memory, or that standard output or standard error takes no more.
@@ -115,10 +168,10 @@ pub(crate) fn diff_files<R: Runtime + AllocGlobal, J: Judge>(
     options: &DiffOptions,
 ) -> io::Result<Status> {
     let stdin_name = options.stdin_name.as_str();
-    let old = text_of(rt, options.old.as_str(), stdin_name)?;
-    let new = text_of(rt, options.new.as_str(), stdin_name)?;
+    let old = file_of(rt, options.old.as_str(), stdin_name)?;
+    let new = file_of(rt, options.new.as_str(), stdin_name)?;
     match (old, new) {
-        (Some(old), Some(new)) => compare(rt, judge, &old, &new),
+        (Some(old), Some(new)) => compare(rt, judge, options, &old, &new),
         _ => Ok(Status::Trouble),
     }
 }

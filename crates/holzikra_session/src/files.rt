@@ -1,13 +1,12 @@
 //! The commands that go through files: each is read, answered and let go.
 
 use crate::answer::answer_text;
-use crate::code::code_of;
 use crate::complaint::complain;
 use crate::images::{answer_image, list_image};
 use crate::inspected::Inspected;
+use crate::listings::{code_of, scopes_of};
 use crate::reading::{image_of, input_image};
 use crate::refusal::{Said, Showing, answer_refused};
-use crate::scopes::scopes_of;
 use crate::stats::counts_of_text;
 use crate::status::{Status, Tally};
 use crate::task::Task;
@@ -16,9 +15,10 @@ use crate::{human, json, sarif};
 use holzikra_scripts::{Row, Table, row_line};
 use holzikra_walk::{Found, Walk};
 use holzikra_words::{CheckOptions, Format, LoadOptions, StatsFormat, StatsOptions, VerifyOptions};
+use serde_json::Value;
 use std::io::{BufWriter, ErrorKind, Read, Write};
 use std::rt::{Files, Runtime};
-use std::{fs, io};
+use std::{fs, io, mem};
 
 /// The bytes of a file that are read: one more than a text may have.
 const MOST_READ: u64 = 16_777_216;
@@ -46,6 +46,8 @@ struct Progress<'a, W: Write + Drop> {
     said: Said,
     /// The counts of `stats`.
     table: Table,
+    /// What a log of SARIF says of files that cannot be read.
+    faults: Vec<Value>,
 }
 
 impl<'a, W: Write + Drop> Progress<'a, W> {
@@ -62,9 +64,16 @@ impl<'a, W: Write + Drop> Progress<'a, W> {
         self.tally.fail();
         let why = format!(in rt.alloc(); "{error}")?;
         complain(rt, name, why.as_str())?;
-        if self.task.format() == Format::Json {
-            let line = json::unreadable_line(rt.alloc(), name, why.as_str())?;
-            self.out.write_all(line.as_bytes())?;
+        match self.task.format() {
+            Format::Json => {
+                let line = json::unreadable_line(rt.alloc(), name, why.as_str())?;
+                self.out.write_all(line.as_bytes())?;
+            }
+            Format::Sarif => {
+                let fault = sarif::fault_notification(rt.alloc(), name, why.as_str())?;
+                self.faults.push(fault)?;
+            }
+            Format::Human | Format::Github => (),
         }
         Ok(())
     }
@@ -279,7 +288,8 @@ impl<'a, W: Write + Drop> Progress<'a, W> {
         options: &CheckOptions,
     ) -> io::Result<()> {
         if options.format == Format::Sarif {
-            let lines = sarif::tail(rt.alloc())?;
+            let faults = mem::replace(&mut self.faults, Vec::new(rt.alloc()));
+            let lines = sarif::tail(rt.alloc(), faults)?;
             self.out.write_all(lines.as_bytes())?;
         }
         if options.quiet {
@@ -334,6 +344,7 @@ pub(crate) fn answer_files<R: Runtime + AllocGlobal, J: Judge>(
         tally: Tally::new(),
         said: Said::new(rt.alloc()),
         table: Table::new(rt.alloc()),
+        faults: Vec::new(rt.alloc()),
     };
     progress.start()?;
     for _ in 0..u64::MAX {

@@ -1,23 +1,47 @@
 //! Answers for a person.
 
+use crate::note::other_place;
 use crate::refusal::{Refused, Said};
 use crate::status::Tally;
-use crate::verdict::Verified;
+use crate::verdict::{Spot, Verified};
 use holzikra_places::{excerpt_at, push_shown_text};
 use holzikra_refusals::{entry_of, message};
 use holzikra_scripts::Table;
 use std::alloc::{AllocError, Global};
 
-/// The place, what is wrong, and the line with a mark under the place.
+/// Appends the name of a file and a place in it.
+fn push_spot(lines: &mut String, name: &str, spot: Spot) -> Result<(), AllocError> {
+    push_shown_text(lines, name)?;
+    let line = spot.place.line;
+    let column = spot.place.column;
+    write!(lines, ":{line}:{column}")
+}
+
+/// The place, what is wrong, and the line with a mark under the place; and the same of another place that the refusal speaks of.
 pub(crate) fn refusal_lines(alloc: Global, refused: Refused<'_>) -> Result<String, AllocError> {
-    let spot = refused.reason.spot();
     let mut lines = String::new(alloc);
-    push_shown_text(&mut lines, refused.name)?;
-    if let Some(spot) = spot {
-        let line = spot.place.line;
-        let column = spot.place.column;
-        write!(lines, ":{line}:{column}")?;
+    match refused.reason.spot() {
+        None => {
+            push_shown_text(&mut lines, refused.name)?;
+            push_what(alloc, &mut lines, refused)?;
+        }
+        Some(spot) => {
+            push_spot(&mut lines, refused.name, spot)?;
+            push_what(alloc, &mut lines, refused)?;
+            push_line(alloc, &mut lines, refused.text, spot)?;
+        }
     }
+    if let Some(other) = other_place(alloc, refused)? {
+        push_spot(&mut lines, refused.name, other.spot)?;
+        let words = other.words;
+        write!(lines, ": note: {words}\n")?;
+        push_line(alloc, &mut lines, refused.text, other.spot)?;
+    }
+    Ok(lines)
+}
+
+/// Appends what is wrong.
+fn push_what(alloc: Global, lines: &mut String, refused: Refused<'_>) -> Result<(), AllocError> {
     let kind = if refused.code.is_unsupported() {
         "unsupported"
     } else {
@@ -25,28 +49,13 @@ pub(crate) fn refusal_lines(alloc: Global, refused: Refused<'_>) -> Result<Strin
     };
     let words = message(alloc, refused.code, refused.text, refused.reason.offset())?;
     let code = entry_of(refused.code).code;
-    write!(lines, ": {kind}: {words} [{code}]\n")?;
-    if let Some(spot) = spot {
-        push_line(
-            alloc,
-            &mut lines,
-            refused.text,
-            spot.place.line,
-            spot.offset,
-        )?;
-    }
-    Ok(lines)
+    write!(lines, ": {kind}: {words} [{code}]\n")
 }
 
 /// Appends the line of a place, and a mark under the place.
-fn push_line(
-    alloc: Global,
-    lines: &mut String,
-    text: &[u8],
-    line: usize,
-    offset: usize,
-) -> Result<(), AllocError> {
-    let excerpt = excerpt_at(alloc, text, offset)?;
+fn push_line(alloc: Global, lines: &mut String, text: &[u8], spot: Spot) -> Result<(), AllocError> {
+    let excerpt = excerpt_at(alloc, text, spot.offset)?;
+    let line = spot.place.line;
     let number = format!(in alloc; "{line:>3}")?;
     lines.push_str(number.as_str())?;
     lines.push_str(" | ")?;

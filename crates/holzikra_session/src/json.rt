@@ -1,5 +1,6 @@
 //! Answers as JSON, an object in a line each.
 
+use crate::note::other_place;
 use crate::refusal::Refused;
 use crate::verdict::{Reason, Verified};
 use holzikra_json::Members;
@@ -56,6 +57,20 @@ fn put_place(members: &mut Members, refused: Refused<'_>) -> Result<(), AllocErr
     }
 }
 
+/// What is said of other places.
+fn notes(alloc: Global, refused: Refused<'_>) -> Result<Value, AllocError> {
+    let mut list = Vec::new(alloc);
+    if let Some(other) = other_place(alloc, refused)? {
+        let mut members = Members::new(alloc);
+        members.number("column", Some(other.spot.place.column as u64))?;
+        members.number("line", Some(other.spot.place.line as u64))?;
+        members.text("message", other.words)?;
+        members.number("offset", Some(other.spot.offset as u64))?;
+        list.push(members.object())?;
+    }
+    Ok(Value::Array(list))
+}
+
 /// The refusal of a text.
 fn refusal(alloc: Global, refused: Refused<'_>) -> Result<Value, AllocError> {
     let entry = entry_of(refused.code);
@@ -66,7 +81,7 @@ fn refusal(alloc: Global, refused: Refused<'_>) -> Result<Value, AllocError> {
     members.put("clauses", clauses(alloc, entry.clauses)?)?;
     members.text("code", entry.code)?;
     members.text("message", words.as_str())?;
-    members.put("notes", Value::Array(Vec::new(alloc)))?;
+    members.put("notes", notes(alloc, refused)?)?;
     members.text("reason", refused.reason.word())?;
     members.number("rule", rule(refused.reason))?;
     members.put("supported", Value::Bool(!refused.code.is_unsupported()))?;

@@ -12,7 +12,6 @@
 #![tactic(auto)]
 
 mod answer;
-mod code;
 mod complaint;
 mod diff;
 mod dispatch;
@@ -23,12 +22,13 @@ mod human;
 mod images;
 mod inspected;
 mod json;
+mod listings;
+mod note;
 mod reading;
 mod refusal;
 mod report;
 mod sarif;
 mod save;
-mod scopes;
 mod stats;
 mod status;
 mod task;

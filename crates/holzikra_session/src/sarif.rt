@@ -29,6 +29,13 @@ fn only_text(alloc: Global, key: &str, text: &str) -> Result<Value, AllocError> 
     Ok(members.object())
 }
 
+/// An object with this object as its one member.
+fn only_object(alloc: Global, key: &str, members: Members) -> Result<Value, AllocError> {
+    let mut whole = Members::new(alloc);
+    whole.put(key, members.object())?;
+    Ok(whole.object())
+}
+
 /// The file of a result.
 fn artifact(alloc: Global, name: &str) -> Result<Value, AllocError> {
     let mut uri = String::new(alloc);
@@ -51,9 +58,7 @@ fn location(alloc: Global, refused: Refused<'_>) -> Result<Value, AllocError> {
     if let Some(spot) = refused.reason.spot() {
         members.put("region", region(alloc, spot)?)?;
     }
-    let mut whole = Members::new(alloc);
-    whole.put("physicalLocation", members.object())?;
-    Ok(whole.object())
+    only_object(alloc, "physicalLocation", members)
 }
 
 /// The result for a text that is refused, in a line. Behind the first one a comma stands in front of it.
@@ -83,6 +88,31 @@ pub(crate) fn refusal_result(
     Ok(line)
 }
 
+/// What is said of a file that cannot be read.
+pub(crate) fn fault_notification(
+    alloc: Global,
+    name: &str,
+    why: &str,
+) -> Result<Value, AllocError> {
+    let mut place = Members::new(alloc);
+    place.put("artifactLocation", artifact(alloc, name)?)?;
+    let mut locations = Vec::new(alloc);
+    locations.push(only_object(alloc, "physicalLocation", place)?)?;
+    let mut members = Members::new(alloc);
+    members.text("level", "error")?;
+    members.put("locations", Value::Array(locations))?;
+    members.put("message", only_text(alloc, "text", why)?)?;
+    Ok(members.object())
+}
+
+/// The run of the program, with what it could not read.
+fn invocation(alloc: Global, faults: Vec<Value>) -> Result<Value, AllocError> {
+    let mut members = Members::new(alloc);
+    members.put("executionSuccessful", Value::Bool(faults.is_empty()))?;
+    members.put("toolExecutionNotifications", Value::Array(faults))?;
+    Ok(members.object())
+}
+
 /// What a code means.
 fn rule(alloc: Global, entry: &Entry) -> Result<Value, AllocError> {
     let mut members = Members::new(alloc);
@@ -92,8 +122,10 @@ fn rule(alloc: Global, entry: &Entry) -> Result<Value, AllocError> {
     Ok(members.object())
 }
 
-/// What stands behind the results: the program, with the meaning of all codes.
-pub(crate) fn tail(alloc: Global) -> Result<String, AllocError> {
+/// What stands behind the results: the run, with what is said of files that cannot be read, and the program, with the meaning of all codes.
+pub(crate) fn tail(alloc: Global, faults: Vec<Value>) -> Result<String, AllocError> {
+    let mut runs = Vec::new(alloc);
+    runs.push(invocation(alloc, faults)?)?;
     let mut rules = Vec::new(alloc);
     for entry in all_entries() {
         rules.push(rule(alloc, entry)?)?;
@@ -101,10 +133,11 @@ pub(crate) fn tail(alloc: Global) -> Result<String, AllocError> {
     let mut driver = Members::new(alloc);
     driver.text("name", "holzikra")?;
     driver.put("rules", Value::Array(rules))?;
-    let mut tool = Members::new(alloc);
-    tool.put("driver", driver.object())?;
-    let mut text = String::from_str(alloc, "],\"tool\":")?;
-    text.push_str(tool.object().to_string(alloc)?.as_str())?;
+    let tool = only_object(alloc, "driver", driver)?;
+    let mut text = String::from_str(alloc, "],\"invocations\":")?;
+    text.push_str(Value::Array(runs).to_string(alloc)?.as_str())?;
+    text.push_str(",\"tool\":")?;
+    text.push_str(tool.to_string(alloc)?.as_str())?;
     text.push_str("}],\"version\":\"2.1.0\"}\n")?;
     Ok(text)
 }

@@ -1,28 +1,71 @@
 //! The words of `diff`.
 
-use crate::parts::{named, value, valued, with};
+use crate::parts::{choice, named, value, valued, with};
 use clap::{Arg, ArgMatches, Command};
 use std::alloc::{AllocError, Global};
+
+/// How differences are written.
+#[derive(Clone, Copy, Debug, PartialEq, Eq)]
+pub enum DiffFormat {
+    /// The lines around each change, for a person.
+    Human,
+    /// One JSON object in a line.
+    Json,
+}
 
 /// What `diff` is asked for.
 #[derive(Debug, Drop)]
 pub struct DiffOptions {
-    /// The files of both scripts, or `-` for standard input, as they were written.
+    /// The files of both scripts or images, or `-` for standard input, as they were written. At most one of them is `-`.
     pub old: String,
     pub new: String,
+    pub format: DiffFormat,
     /// What standard input is called.
     pub stdin_name: String,
 }
+
+/// What both files are, in help.
+const SIDE: &str = "a script or an image; one of both may be - for standard input";
+
+static FORMATS: [&str; 2] = ["human", "json"];
 
 /// The command `diff`.
 pub(crate) fn command<'a>(alloc: Global) -> Result<Command<'a>, AllocError> {
     let command = named(alloc, "diff", "compare the code of two scripts");
     let old = Arg::new(alloc, "OLD").required(true);
-    let command = with(command, old.help("a file, or - for standard input"))?;
+    let command = with(command, old.help(SIDE))?;
     let new = Arg::new(alloc, "NEW").required(true);
-    let command = with(command, new.help("a file, or - for standard input"))?;
+    let command = with(command, new.help(SIDE))?;
+    let formats = FORMATS.as_slice();
+    let format = choice(
+        alloc,
+        "format",
+        formats,
+        "human",
+        "how differences are written",
+    );
+    let command = with(command, format)?;
     let stdin_name = valued(alloc, "stdin-name", "NAME", "<stdin>", "what - is called");
     with(command, stdin_name)
+}
+
+fn format_of(word: &str) -> DiffFormat {
+    match word {
+        "json" => DiffFormat::Json,
+        _ => DiffFormat::Human,
+    }
+}
+
+/// What is wrong with the files, if something is: standard input can be read once.
+pub(crate) fn complaint(
+    alloc: Global,
+    found: &ArgMatches<'_>,
+) -> Result<Option<String>, AllocError> {
+    if value(found, "OLD", "") == "-" && value(found, "NEW", "") == "-" {
+        let message = "only one of <OLD> and <NEW> may be '-', standard input";
+        return Ok(Some(String::from_str(alloc, message)?));
+    }
+    Ok(None)
 }
 
 /// What the words of `diff` ask for.
@@ -33,6 +76,7 @@ pub(crate) fn options(alloc: Global, found: &ArgMatches<'_>) -> Result<DiffOptio
     Ok(DiffOptions {
         old,
         new,
+        format: format_of(value(found, "format", "human")),
         stdin_name,
     })
 }

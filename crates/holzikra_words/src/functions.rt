@@ -43,7 +43,11 @@ pub(crate) fn with_functions<'a>(
         .action(ArgAction::Append)
         .help("the innermost function there; may be given again");
     let command = with(command, places)?;
-    let only = switch(alloc, "only", "without the functions inside these");
+    let only = switch(
+        alloc,
+        "only",
+        "without the functions inside those that are named",
+    );
     with(command, only)
 }
 
@@ -81,18 +85,27 @@ fn wrong_place<'a>(found: &ArgMatches<'a>) -> Option<&'a str> {
     None
 }
 
-/// What is wrong with the words for functions, if something is.
+/// Whether a function is named, or a place.
+fn names_function(found: &ArgMatches<'_>) -> bool {
+    found.get_strs("function").is_some() || found.get_strs("at").is_some()
+}
+
+/// What is wrong with the words for functions, if something is: a place that is none, or `--only` of no function.
 pub(crate) fn complaint(
     alloc: Global,
     found: &ArgMatches<'_>,
 ) -> Result<Option<String>, AllocError> {
-    match wrong_place(found) {
-        None => Ok(None),
-        Some(text) => {
-            let message = format!(in alloc; "invalid value '{text}' for '--at <{PLACE}>'")?;
-            Ok(Some(message))
-        }
+    if let Some(text) = wrong_place(found) {
+        let message = format!(in alloc; "invalid value '{text}' for '--at <{PLACE}>'")?;
+        return Ok(Some(message));
     }
+    if found.get_flag("only") && !names_function(found) {
+        let message = format!(in alloc;
+            "'--only' needs '--function <FUNCTION>' or '--at <{PLACE}>'"
+        )?;
+        return Ok(Some(message));
+    }
+    Ok(None)
 }
 
 /// What a word behind `--function` means.

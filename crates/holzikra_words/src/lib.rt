@@ -21,7 +21,7 @@ mod words;
 
 pub use check::{CheckOptions, Format, Unsupported};
 pub use code::{CodeFormat, CodeOptions};
-pub use diff::DiffOptions;
+pub use diff::{DiffFormat, DiffOptions};
 pub use explain::ExplainOptions;
 pub use files::FileOptions;
 pub use functions::{FunctionName, FunctionWord};

@@ -4,7 +4,7 @@ use crate::check::{self, CheckOptions};
 use crate::code::{self, CodeOptions};
 use crate::diff::{self, DiffOptions};
 use crate::explain::{self, ExplainOptions};
-use crate::functions::complaint;
+use crate::functions;
 use crate::load::{self, LoadOptions};
 use crate::report::{self, ReportOptions};
 use crate::save::{self, SaveOptions};
@@ -92,7 +92,8 @@ fn found_request(alloc: Global, matches: &ArgMatches<'_>) -> Result<Request, All
 /// What is wrong with the words of the command that was found, which are words that it takes.
 fn complaint_of(alloc: Global, matches: &ArgMatches<'_>) -> Result<Option<String>, AllocError> {
     match matches.subcommand() {
-        Some(("code" | "scopes", found)) => complaint(alloc, found),
+        Some(("code" | "scopes", found)) => functions::complaint(alloc, found),
+        Some(("diff", found)) => diff::complaint(alloc, found),
         _ => Ok(None),
     }
 }

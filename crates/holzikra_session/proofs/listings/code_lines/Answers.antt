@@ -2,7 +2,7 @@
 use Rattle.std.proofs.Common.{length, sym, subst}
 use Rattle.holzikra_words.specs.declared.code.CodeFormat.{CodeFormat}
 use Rattle.holzikra_session.specs.Compiling.{IsCode}
-use Rattle.holzikra_session.proofs.code.code_lines.Goals as goal
+use Rattle.holzikra_session.proofs.listings.code_lines.Goals as goal
 
 pub returns-in_ok-lines-in-Plain : goal.returns-in_ok-lines-in-Plain
 returns-in_ok-lines-in-Plain c = λ named stands.

@@ -1,0 +1,32 @@
+//! The other place that a refusal speaks of.
+
+use crate::refusal::Refused;
+use crate::verdict::Spot;
+use holzikra_places::Lines;
+use holzikra_refusals::note_of;
+use std::alloc::{AllocError, Global};
+
+/// What is said of another place of the text.
+#[derive(Clone, Copy)]
+pub(crate) struct OtherPlace {
+    pub(crate) spot: Spot,
+    pub(crate) words: &'static str,
+}
+
+/// What is said of another place of a text that is refused, if something is.
+pub(crate) fn other_place(
+    alloc: Global,
+    refused: Refused<'_>,
+) -> Result<Option<OtherPlace>, AllocError> {
+    let text = refused.text;
+    let Some(note) = note_of(alloc, refused.code, text, refused.reason.offset())? else {
+        return Ok(None);
+    };
+    let offset = note.offset.min(text.len());
+    let lines = Lines::of(alloc, text)?;
+    let place = lines.place_of(text, offset);
+    Ok(Some(OtherPlace {
+        spot: Spot { offset, place },
+        words: note.words,
+    }))
+}

@@ -14,7 +14,8 @@ Each P (x ∷ xs) = P x × Each P xs
 pub record Lawful (list : ListView) (words : List ℕ) (views : List Seen) : Type 0 where
   pub size : length words ≡ places list
   pub range : (p : ℕ) → slice_index words p ≤ length list.texts
-  pub apart : (p q : ℕ) → slice_index words p ≢ 0 → slice_index words q ≢ 0 → named list (slice_index words p) ≡ named list (slice_index words q) → p ≡ q
+  pub apart : (p q : ℕ) → slice_index words p ≢ 0 → slice_index words q ≢ 0
+      → named list (slice_index words p) ≡ named list (slice_index words q) → p ≡ q
   pub after_home : (p : ℕ) → slice_index words p ≢ 0 → home_of list (named list (slice_index words p)) ≤ p
   pub path : (p q : ℕ) → slice_index words p ≢ 0 → home_of list (named list (slice_index words p)) ≤ q → q < p → slice_index words q ≢ 0
   pub views_stand : Each (λ (view : Seen). AllStand words view.words) views
@@ -33,7 +34,8 @@ module _ {S : Type 0} where
 
   -- an exchange of 0: the word that stands there then has been seen
   abbrev pub claimed : Step S → Me S Seen → ℕ → Me S Seen → Type 0
-  claimed st m found m' = (m'.1 ≡ m.1) × (m'.0.list ≡ m.0.list) × (m'.0.words ≡ (st.word, settled found st.second) ∷ m.0.words) × Coherent m.0.list m'.0.words
+  claimed st m found m' = (m'.1 ≡ m.1) × (m'.0.list ≡ m.0.list) × (m'.0.words ≡ (st.word, settled found st.second) ∷ m.0.words)
+      × Coherent m.0.list m'.0.words
 
 -- a desk that has seen what both had
 abbrev pub together : Seen → Seen → Seen

@@ -2,7 +2,8 @@
 //! and by four, and prints how many atoms and probes that took. With the word `rates` it also prints how
 //! many names a second were interned.
 //!
-//! The names are hashed by SipHash-1-3 with keys that are 0. Words: how many different names (100,000 if none is given), then `rates`. Without `rates` the output
+//! The names are hashed by SipHash-1-3 with keys that are 0. Words: how many different names (100,000 if none is
+//! given), then `rates`. Without `rates` the output
 //! depends on the words alone, since the probes of all texts together are the same in every order.
 #![tactic(auto)]
 

@@ -1,5 +1,6 @@
 -- Instructions and their bytes. What is not of ECMA-262, as all of this, is this project's own choice.
-use Rattle.std.specs.Prelude.{◌≡◌, ℕ, zero, suc, ◌+◌, ◌-◌, ◌^◌, ◌<◌, Bool, true, false, List, [], ◌∷◌, ◌++◌, length, take, drop, Option, Some, None, nat_le, pos, IsTrue, IsSomeAnd}
+use Rattle.std.specs.Prelude.{◌≡◌, ℕ, zero, suc, ◌+◌, ◌-◌, ◌^◌, ◌<◌, Bool, true, false, List, [], ◌∷◌, ◌++◌, length, take, drop, Option}
+use Rattle.std.specs.Prelude.{Some, None, nat_le, pos, IsTrue, IsSomeAnd}
 use Rattle.std.specs.Int.{cast_signed, w64}
 use Rattle.std.specs.Prelude.{if◌then◌else◌}
 use Rattle.bytecode_buf.specs.declared.opcode.Op.{Op}
@@ -81,7 +82,8 @@ instr_at at i = instr_by (is_jump i.op) i.op i.a i.b (at + width_of i.op)
 
 -- what is read at the offset of an instruction that was laid out there
 abbrev pub ReadsLaid : List ℕ → ℕ → Option Instr → Type 0
-ReadsLaid code at read = (before behind : List ℕ) (i : Numbered) → Fits i → length before ≡ at → code ≡ before ++ laid i ++ behind → read ≡ Some (instr_at at i)
+ReadsLaid code at read = (before behind : List ℕ) (i : Numbered) → Fits i → length before ≡ at → code ≡ before ++ laid i ++ behind
+    → read ≡ Some (instr_at at i)
 
 -- the bytes begin with an instruction whose operand is a number of a thing
 abbrev pub BeginsNumbered : List ℕ → Type 0

@@ -91,8 +91,10 @@ pub record Guards (ws : List ℕ) (depth_at : ℕ → ℕ) (at guarded depth : �
 
 -- a piece at an offset, among pieces of these widths with these depths
 abbrev pub PieceRuns : Exits → List ℕ → (ℕ → ℕ) → ℕ → Piece Command → Type 0
-PieceRuns exits ws depth_at at (Whole c) = OpSteps c.op (number_in c.operand) (depth_at at) (λ depth. depth_at (at + width_of c.op) ≡ depth) (λ depth. OperandLands ws depth_at at c.operand depth)
-PieceRuns exits ws depth_at at (Waiting op aim) = OpSteps op 0 (depth_at at) (λ depth. depth_at (at + width_of op) ≡ depth) (λ depth. exits aim ≡ Some depth)
+PieceRuns exits ws depth_at at (Whole c) = OpSteps c.op (number_in c.operand) (depth_at at)
+    (λ depth. depth_at (at + width_of c.op) ≡ depth) (λ depth. OperandLands ws depth_at at c.operand depth)
+PieceRuns exits ws depth_at at (Waiting op aim) = OpSteps op 0 (depth_at at) (λ depth. depth_at (at + width_of op) ≡ depth)
+    (λ depth. exits aim ≡ Some depth)
 PieceRuns exits ws depth_at at (Trying guarded depth) = Guards ws depth_at at guarded depth
 
 abbrev pub PiecesRun : Exits → List ℕ → (ℕ → ℕ) → ℕ → Code → Type 0

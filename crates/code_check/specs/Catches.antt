@@ -19,19 +19,22 @@ pub record HasShape (old new : Found) (before after : Index) : Type 0 where
   pub entries : after.entries ≡ before.entries
 
 -- a state of the code was found below a node, and the notes whose landings were not found stand in the index
-pub record StandsAt (code : List ℕ) (notes : List TryNote) (starts : List Bool) (node : ℕ) (s : State) (found : Found) (index : Index) (rows : ℕ → List TryNote) : Type 0 where
+pub record StandsAt (code : List ℕ) (notes : List TryNote) (starts : List Bool) (node : ℕ) (s : State) (found : Found) (index : Index)
+    (rows : ℕ → List TryNote) : Type 0 where
   pub is_at : IsAt code notes starts found s
   pub above : IsAbove (length code) s.at node
   pub indexes : Indexes notes notes notes (length code) (HasLanding found) index rows
 
 -- more was found, the landings of all notes among it that were taken off
-pub record GoesAlong (code : List ℕ) (notes : List TryNote) (old new : Found) (rows : ℕ → List TryNote) (index : Index) (left : ℕ → List TryNote) : Type 0 where
+pub record GoesAlong (code : List ℕ) (notes : List TryNote) (old new : Found) (rows : ℕ → List TryNote) (index : Index)
+    (left : ℕ → List TryNote) : Type 0 where
   pub goes : Goes code notes old new
   pub indexes : Indexes notes notes notes (length code) (HasLanding new) index left
   pub fewer : (node : ℕ) (note : TryNote) → Contains (left node) note → Contains (rows node) note
 
 -- all notes of a node that are no deeper than this were taken off
-pub record CatchesAt (code : List ℕ) (notes : List TryNote) (node depth : ℕ) (old new : Found) (rows : ℕ → List TryNote) (index : Index) : Type 0 where
+pub record CatchesAt (code : List ℕ) (notes : List TryNote) (node depth : ℕ) (old new : Found) (rows : ℕ → List TryNote)
+    (index : Index) : Type 0 where
   pub left : ℕ → List TryNote
   pub along : GoesAlong code notes old new rows index left
   pub deeper : (note : TryNote) → Contains (left node) note → depth < note.depth

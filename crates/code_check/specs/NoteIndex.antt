@@ -1,5 +1,6 @@
 -- The try notes by the offsets that they are around. This project's own choice.
-use Rattle.std.specs.Prelude.{◌≡◌, ℕ, zero, suc, ◌+◌, ◌*◌, ◌/◌, ◌<◌, ◌≤◌, Bool, true, false, ◌⊎◌, List, [], ◌∷◌, ◌++◌, length, set, slice_get, slice_index_or, Option, Some, None, All, Contains}
+use Rattle.std.specs.Prelude.{◌≡◌, ℕ, zero, suc, ◌+◌, ◌*◌, ◌/◌, ◌<◌, ◌≤◌, Bool, true, false, ◌⊎◌, List, [], ◌∷◌, ◌++◌, length, set}
+use Rattle.std.specs.Prelude.{slice_get, slice_index_or, Option, Some, None, All, Contains}
 use Rattle.stencil_data.specs.declared.stencils.TryNote.{TryNote}
 use Rattle.code_check.specs.declared.note_index.Entry.{Entry}
 
@@ -48,7 +49,8 @@ AreLinked entries = (place : ℕ) (entry : Entry) → slice_get entries place �
 -- from this place on these notes stand in a row
 abbrev pub IsRow : List TryNote → List Entry → Option ℕ → List TryNote → Type 0
 IsRow notes entries place [] = place ≡ None
-IsRow notes entries place (note ∷ row) = (entry : Entry) × (entry_at entries place ≡ Some entry) × (slice_get notes entry.note ≡ Some note) × IsRow notes entries entry.next row
+IsRow notes entries place (note ∷ row) = (entry : Entry) × (entry_at entries place ≡ Some entry) × (slice_get notes entry.note ≡ Some note)
+    × IsRow notes entries entry.next row
 
 -- no note is deeper than one after it
 abbrev pub IsRising : List TryNote → Type 0
@@ -63,7 +65,8 @@ pub record StandsAbove (size at : ℕ) (rows : ℕ → List TryNote) (note : Try
 
 -- The notes of the list `listed` stand in the rows of the nodes, each only where it is around all offsets below the node.
 -- Those of the list `covered` that are not done stand above each offset that they are around.
-pub record Indexes (notes listed covered : List TryNote) (size : ℕ) (IsDone : TryNote → Type 0) (index : Index) (rows : ℕ → List TryNote) : Type 0 where
+pub record Indexes (notes listed covered : List TryNote) (size : ℕ) (IsDone : TryNote → Type 0) (index : Index)
+    (rows : ℕ → List TryNote) : Type 0 where
   pub size_is : length index.heads ≡ 2 * size
   pub linked : AreLinked index.entries
   pub row : (node : ℕ) → IsRow notes index.entries (head_of index node) (rows node)
@@ -103,7 +106,8 @@ pub record IsBelowRange (size low high at : ℕ) : Type 0 where
   pub above : IsAbove size at node
 
 -- a note has still to stand at the nodes from low to below high, and then it stands above all offsets that it is around
-pub record IsSpreading (notes rest : List TryNote) (number : ℕ) (note : TryNote) (size low high : ℕ) (index : Index) (rows : ℕ → List TryNote) : Type 0 where
+pub record IsSpreading (notes rest : List TryNote) (number : ℕ) (note : TryNote) (size low high : ℕ) (index : Index)
+    (rows : ℕ → List TryNote) : Type 0 where
   pub is : slice_get notes number ≡ Some note
   pub least : IsLeastDeep note rest
   pub positive : 0 < low
@@ -114,10 +118,12 @@ pub record IsSpreading (notes rest : List TryNote) (number : ℕ) (note : TryNot
 
 -- after the note was spread it is in the index with the rest
 abbrev pub Spreads : ℕ → ℕ → ℕ → Index → Index → Type 0
-Spreads number low high old new = (notes rest : List TryNote) (note : TryNote) (size : ℕ) (rows : ℕ → List TryNote) → IsSpreading notes rest number note size low high old rows → IsIndexedOf notes (note ∷ rest) size (λ other. ⊥) new
+Spreads number low high old new = (notes rest : List TryNote) (note : TryNote) (size : ℕ) (rows : ℕ → List TryNote)
+    → IsSpreading notes rest number note size low high old rows → IsIndexedOf notes (note ∷ rest) size (λ other. ⊥) new
 
 abbrev pub Inserts : ℕ → TryNote → Index → Index → Type 0
-Inserts number note old new = (notes rest : List TryNote) (size : ℕ) → slice_get notes number ≡ Some note → IsLeastDeep note rest → IsIndexedOf notes rest size (λ other. ⊥) old → IsIndexedOf notes (note ∷ rest) size (λ other. ⊥) new
+Inserts number note old new = (notes rest : List TryNote) (size : ℕ) → slice_get notes number ≡ Some note → IsLeastDeep note rest
+    → IsIndexedOf notes rest size (λ other. ⊥) old → IsIndexedOf notes (note ∷ rest) size (λ other. ⊥) new
 
 -- ---- a note is taken off
 

@@ -49,4 +49,5 @@ landed_if depth taken (Some l) = landed depth taken l ∷ []
 -- this is what the instruction at an offset does
 pub record IsStepOf (i : Numbered) (at : ℕ) (step : Step) : Type 0 where
   pub taken : step.taken ≡ taken i
-  pub flows : (depth : ℕ) → landed_if depth step.taken step.next ++ landed_if depth step.taken step.target ≡ flows (flow_of i.op) i (record { at = at; depth = depth })
+  pub flows : (depth : ℕ) → landed_if depth step.taken step.next ++ landed_if depth step.taken step.target
+      ≡ flows (flow_of i.op) i (record { at = at; depth = depth })

@@ -1,5 +1,6 @@
 -- What is known of code while it is verified. This project's own choice.
-use Rattle.std.specs.Prelude.{◌≡◌, ◌≢◌, ℕ, ◌+◌, ◌*◌, ◌≤◌, Bool, true, false, is_some, is_none, IsSome, ◌⊎◌, List, [], ◌∷◌, ◌++◌, length, set, slice_index_or, count_by, Option, Some, None, All, Contains}
+use Rattle.std.specs.Prelude.{◌≡◌, ◌≢◌, ℕ, ◌+◌, ◌*◌, ◌≤◌, Bool, true, false, is_some, is_none, IsSome, ◌⊎◌, List, [], ◌∷◌, ◌++◌, length}
+use Rattle.std.specs.Prelude.{set, slice_index_or, count_by, Option, Some, None, All, Contains}
 use Rattle.stencil_data.specs.declared.stencils.TryNote.{TryNote}
 use Rattle.bytecode_buf.specs.Machine.{State, first_state, Reaches, HasDepthTable, instruction_at, is_stuck, steps}
 use Rattle.code_check.specs.declared.step.Landing.{Landing}

@@ -1,10 +1,12 @@
 //! The depths that are found at the offsets of code.
 
-ghost use Rattle.std.specs.Prelude.{◌≡◌, ℕ, ◌+◌, ◌-◌, ◌*◌, ◌^◌, ◌<◌, ◌≤◌, false, slice_index_or, [], List, Some, None, IsSome, IfOk, IfErr, IfSome, OnOk, length, replicate};
+ghost use Rattle.std.specs.Prelude.{◌≡◌, ℕ, ◌+◌, ◌-◌, ◌*◌, ◌^◌, ◌<◌, ◌≤◌, false, slice_index_or, [], List, Some, None, IsSome, IfOk, IfErr};
+ghost use Rattle.std.specs.Prelude.{IfSome, OnOk, length, replicate};
 ghost use Rattle.bytecode_buf.specs.Machine as machine;
 ghost use Rattle.code_check.specs.Catches.{Catches, CatchesAt, HasLanding, HasShape, StandsAt};
 ghost use Rattle.code_check.specs.NoteIndex.{AreLinked, IsIndexed};
-ghost use Rattle.code_check.specs.Survey.{Arrives, AreStarts, Blocked, Clashes, Goes, HasNoTable, IsAt, IsLookedAt, IsSearched, Lands, StopsFor, depth_at};
+ghost use Rattle.code_check.specs.Survey.{Arrives, AreStarts, Blocked, Clashes, Goes, HasNoTable, IsAt, IsLookedAt, IsSearched, Lands};
+ghost use Rattle.code_check.specs.Survey.{StopsFor, depth_at};
 
 use crate::note_index::NoteIndex;
 use crate::step::{Landing, step_of};
@@ -129,8 +131,12 @@ impl Survey {
         requires node { node < length index.old.heads }
         requires linked { AreLinked index.old.entries }
         ensures shape { OnOk result (HasShape self.old self.new index.old index.new) }
-        ensures ok { OnOk result ((code : List ℕ) (at : ℕ) (rows : ℕ → List TryNote) → StandsAt code notes.now starts.now node (record { at = at; depth = depth }) self.old index.old rows → CatchesAt code notes.now node depth self.old self.new rows index.new) }
-        ensures err { IfErr result (λ stop. StopsFor stop ((code : List ℕ) (at : ℕ) (rows : ℕ → List TryNote) → StandsAt code notes.now starts.now node (record { at = at; depth = depth }) self.old index.old rows → HasNoTable code notes.now)) }
+        ensures ok { OnOk result ((code : List ℕ) (at : ℕ) (rows : ℕ → List TryNote)
+            → StandsAt code notes.now starts.now node (record { at = at; depth = depth }) self.old index.old rows
+            → CatchesAt code notes.now node depth self.old self.new rows index.new) }
+        ensures err { IfErr result (λ stop. StopsFor stop
+            ((code : List ℕ) (at : ℕ) (rows : ℕ → List TryNote)
+            → StandsAt code notes.now starts.now node (record { at = at; depth = depth }) self.old index.old rows → HasNoTable code notes.now)) }
     {
         while let Some(note) = index.take(notes, node, depth) {
             self.arrive(starts, note.end, u64::from(note.depth))?;
@@ -150,8 +156,12 @@ impl Survey {
         requires size { length starts.now ≡ length self.old.depths }
         requires inside { 2 * at < length index.old.heads }
         requires linked { AreLinked index.old.entries }
-        ensures ok { OnOk result ((code : List ℕ) → IsAt code notes.now starts.now self.old (record { at = at; depth = depth }) → IsIndexed notes.now (length code) (HasLanding self.old) index.old → Catches code notes.now (record { at = at; depth = depth }) self.old self.new index.new) }
-        ensures err { IfErr result (λ stop. StopsFor stop ((code : List ℕ) → IsAt code notes.now starts.now self.old (record { at = at; depth = depth }) → IsIndexed notes.now (length code) (HasLanding self.old) index.old → HasNoTable code notes.now)) }
+        ensures ok { OnOk result ((code : List ℕ) → IsAt code notes.now starts.now self.old (record { at = at; depth = depth })
+            → IsIndexed notes.now (length code) (HasLanding self.old) index.old
+            → Catches code notes.now (record { at = at; depth = depth }) self.old self.new index.new) }
+        ensures err { IfErr result (λ stop. StopsFor stop
+            ((code : List ℕ) → IsAt code notes.now starts.now self.old (record { at = at; depth = depth })
+            → IsIndexed notes.now (length code) (HasLanding self.old) index.old → HasNoTable code notes.now)) }
     {
         let mut node = index.leaf(at);
         while node > 0 {

@@ -19,7 +19,8 @@ use Rattle.compile_shown.specs.Shown.{AreFlags}
 -- Of the functions in order of number n were passed: of these the ones that are shown are taken in.
 pub record IsUpTo (want : Wanted) (bytes : List ℕ) (initial : InitialStencil) (is : IsInitialOf bytes initial) (count : ℕ)
     (merged : MergedView) : Type 0 where
-  pub stands : MergedStandsFor ShowsCommands merged (shown_up_to count want (closed_names is.items) (top_script is.items (length bytes)).part (map (λ (s : Site). (compiled_at s).part) is.all))
+  pub stands : MergedStandsFor ShowsCommands merged
+      (shown_up_to count want (closed_names is.items) (top_script is.items (length bytes)).part (map (λ (s : Site). (compiled_at s).part) is.all))
   -- the texts are those of the parts, so they are few
   pub among : (text : List ℕ) → StandsIn merged.texts text → StandsIn initial.parts.texts text
   pub apart : AreWithoutEquals merged.texts

@@ -126,7 +126,8 @@ pub fn merge_shown<N: Sources, T: Ticks>(
     ensures belongs { BelongsTo pass.new board.now }
     ensures sum { T.count tally.new + T.room tally.new ≡ T.count tally.old + T.room tally.old }
     ensures rising { T.count tally.old ≤ T.count tally.new }
-    ensures counted { OnOk result (T.count tally.new + lacking (flagged shown.now) pass.new ≤ T.count tally.old + lacking (flagged shown.now) pass.old) }
+    ensures counted { OnOk result (T.count tally.new + lacking (flagged shown.now) pass.new
+        ≤ T.count tally.old + lacking (flagged shown.now) pass.old) }
     ensures most { T.count tally.new ≤ T.count tally.old + lacking (flagged shown.now) pass.old }
 {
     let mut merger = begin(alloc, board.initial())?;

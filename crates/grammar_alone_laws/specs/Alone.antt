@@ -43,7 +43,9 @@ pub record StandsAlone (tokens : List Lexeme) (end : Lexeme) (items : Stmts) (sc
   pub starts : first.start ≡ start_of f
   pub ends : last_end first.end rest ≡ end_of f
   -- in front of any End token they are this function, and so they are with no line end before the first
-  pub alone : (last : Lexeme) → last.kind ≡ kind.End → ReadAlone f (first ∷ rest) last (λ j. get_or (depths (print_stmts whole 0 items) tokens end script.fits) (length before + j) 0)
-  pub in_front : (last : Lexeme) → last.kind ≡ kind.End → ReadAlone f (at_front first ∷ rest) last (λ j. get_or (depths (print_stmts whole 0 items) tokens end script.fits) (length before + j) 0)
+  pub alone : (last : Lexeme) → last.kind ≡ kind.End
+      → ReadAlone f (first ∷ rest) last (λ j. get_or (depths (print_stmts whole 0 items) tokens end script.fits) (length before + j) 0)
+  pub in_front : (last : Lexeme) → last.kind ≡ kind.End
+      → ReadAlone f (at_front first ∷ rest) last (λ j. get_or (depths (print_stmts whole 0 items) tokens end script.fits) (length before + j) 0)
   -- each bracket that is opened or closed among them is closed or opened among them
   pub balanced : IsBalanced (first ∷ rest)

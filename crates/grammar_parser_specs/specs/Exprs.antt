@@ -3,7 +3,8 @@
 --
 -- Every function takes an `Env`: the calls that count for the depth, with one room less, and how a function's braced body
 -- is read. So the only recursion is `parts`, on the room that is left for depth.
-use Rattle.std.specs.Prelude.{ℕ, zero, suc, List, [], ◌∷◌, ◌++◌, Bool, true, false, if◌then◌else◌, nat_le, nat_eq, not, ◌&&◌, ◌||◌, Option, Some, None, is_none, length, take, ◌-◌}
+use Rattle.std.specs.Prelude.{ℕ, zero, suc, List, [], ◌∷◌, ◌++◌, Bool, true, false, if◌then◌else◌, nat_le, nat_eq, not, ◌&&◌, ◌||◌, Option}
+use Rattle.std.specs.Prelude.{Some, None, is_none, length, take, ◌-◌}
 use Rattle.script_grammar.specs.declared.token.Kind.{Kind}
 use Rattle.script_grammar.specs.declared.token.Kind.TheVariants as kind
 use Rattle.script_grammar.specs.declared.token.mark.TheConstants as mark
@@ -11,13 +12,16 @@ use Rattle.script_grammar.specs.declared.token.word.TheConstants as word
 use Rattle.script_grammar.specs.declared.token.FuncForm.{FuncForm}
 use Rattle.script_grammar.specs.declared.token.FuncForm.TheVariants as form
 use Rattle.script_grammar.specs.Lexeme.{Lexeme}
-use Rattle.script_grammar.specs.Kinds.{is_mark, is_word, is_name, is_number, is_str, is_head, is_middle, is_tail, is_any_word, is_get, is_set, is_assign_mark, kind_level, is_prefix, is_update}
+use Rattle.script_grammar.specs.Kinds.{is_mark, is_word, is_name, is_number, is_str, is_head, is_middle, is_tail, is_any_word, is_get}
+use Rattle.script_grammar.specs.Kinds.{is_set, is_assign_mark, kind_level, is_prefix, is_update}
 use Rattle.script_grammar.specs.Pieces.{Opener, paren, brace, open_behind}
 use Rattle.script_grammar.specs.Proper.{rank, left_rank, update_rank}
 use Rattle.script_grammar.specs.Tree.{Named, Expr, Tail, Key, Prop, Function, function, Body}
 use Rattle.script_grammar.specs.Tree as tree
-use Rattle.script_grammar.specs.TreeLists.{Args, Operand, Part, Param, exprs_of, maybe_args_of, parts_of, items_of, operands_of, tails_of, props_of, params_of}
-use Rattle.grammar_parser_specs.specs.Parser.{Reply, Read, Bad, Deep, Parser, head_of, rest_of, ret, bad, bind, peek, step, when, note, no_room, Turn, Again, Stop, Many, stopped, loop, led}
+use Rattle.script_grammar.specs.TreeLists.{Args, Operand, Part, Param, exprs_of, maybe_args_of, parts_of, items_of, operands_of, tails_of}
+use Rattle.script_grammar.specs.TreeLists.{props_of, params_of}
+use Rattle.grammar_parser_specs.specs.Parser.{Reply, Read, Bad, Deep, Parser, head_of, rest_of, ret, bad, bind, peek, step, when, note}
+use Rattle.grammar_parser_specs.specs.Parser.{no_room, Turn, Again, Stop, Many, stopped, loop, led}
 
 -- What a call that counts for the depth reads: an AssignmentExpression, with or without the operator `in`; a prefix operator
 -- and its operand; `new` and what belongs to it; a parameter in an arrow's parentheses; a rest parameter there.
@@ -233,7 +237,8 @@ abbrev pub no_params : ℕ → Parser Head
 no_params start = bind (expect mark.CLOSE_PAREN) (λ _. ret (record { start = start; params = []; comma = false; bare = false }))
 
 abbrev pub one_param : Env → ℕ → Parser Head
-one_param v start = bind (param_of v) (λ p. bind (expect mark.CLOSE_PAREN) (λ _. ret (record { start = start; params = p ∷ []; comma = false; bare = false })))
+one_param v start = bind (param_of v) (λ p. bind (expect mark.CLOSE_PAREN)
+    (λ _. ret (record { start = start; params = p ∷ []; comma = false; bare = false })))
 
 abbrev pub is_getter : FuncForm → Bool
 is_getter form.Getter = true
@@ -605,7 +610,8 @@ params_case (Some (q ∷ qs)) begins go = begins && go (q ∷ qs)
 -- parameters do. The flag says that an item starts here; there may be none.
 abbrev pub only_params : Bool → List Opener → List Lexeme → Bool
 only_params starts ps [] = false
-only_params starts ps (t ∷ ts) = params_case (open_behind t.kind ps) (not starts || begins_param t (head_of ts)) (λ qs. only_params (is_between t.kind qs) qs ts)
+only_params starts ps (t ∷ ts) = params_case (open_behind t.kind ps) (not starts || begins_param t (head_of ts))
+    (λ qs. only_params (is_between t.kind qs) qs ts)
 
 -- whether an arrow's parameters stand after a parenthesis: its mark stands after the partner, and each item between begins
 -- as a parameter does

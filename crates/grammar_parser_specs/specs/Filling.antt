@@ -1,7 +1,11 @@
 -- A tree with other bodies: the braced bodies of its outermost functions are those that are given for the offsets where the
 -- functions start.
 use Rattle.std.specs.Prelude.{ℕ}
-use Rattle.script_grammar.specs.Tree.{Expr, Exprs, no_exprs, more_exprs, MaybeExpr, no_expr, some_expr, MaybeArgs, no_args, some_args, Parts, no_parts, more_parts, Items, no_items, more_items, Operands, no_operands, more_operands, Tail, Tails, no_tails, more_tails, Key, Prop, Props, no_props, more_props, Function, function, Params, no_params, more_params, Body, Binds, no_binds, more_binds, Init, Each, Clauses, no_clauses, more_clauses, Stmt, Stmts, no_stmts, more_stmts, MaybeStmt, no_stmt, some_stmt}
+use Rattle.script_grammar.specs.Tree.{Expr, Exprs, no_exprs, more_exprs, MaybeExpr, no_expr, some_expr, MaybeArgs, no_args, some_args}
+use Rattle.script_grammar.specs.Tree.{Parts, no_parts, more_parts, Items, no_items, more_items, Operands, no_operands, more_operands, Tail}
+use Rattle.script_grammar.specs.Tree.{Tails, no_tails, more_tails, Key, Prop, Props, no_props, more_props, Function, function, Params}
+use Rattle.script_grammar.specs.Tree.{no_params, more_params, Body, Binds, no_binds, more_binds, Init, Each, Clauses, no_clauses}
+use Rattle.script_grammar.specs.Tree.{more_clauses, Stmt, Stmts, no_stmts, more_stmts, MaybeStmt, no_stmt, some_stmt}
 use Rattle.script_grammar.specs.Tree as tree
 
 module _ (bodies : ℕ → Body) where
@@ -79,7 +83,8 @@ module _ (bodies : ℕ → Body) where
     fill_props (more_props p ps) = more_props (fill_prop p) (fill_props ps)
 
     pub fill_function : Function → Function
-    fill_function (function form start end name params comma bare body) = function form start end name (fill_params params) comma bare (fill_body start body)
+    fill_function (function form start end name params comma bare body) = function form start end name (fill_params params) comma bare
+        (fill_body start body)
 
     pub fill_params : Params → Params
     fill_params no_params = no_params

@@ -20,7 +20,10 @@ use Rattle.script_grammar.specs.Tree.{Named, Expr, Init, Each, Stmt, Stmts, Func
 use Rattle.script_grammar.specs.Tree as tree
 use Rattle.script_grammar.specs.TreeLists.{Bind, Clause, Param, maybe_expr_of, maybe_stmt_of, binds_of, stmts_of, clauses_of}
 use Rattle.grammar_parser_specs.specs.Parser.{Parser, ret, bad, bind, peek, step, when, no_room, Turn, Again, Stop, Many, stopped, loop, led}
-use Rattle.grammar_parser_specs.specs.Exprs.{AnAssign, AParam, ARest, Calls, Env, BodyParser, BodyRead, Head, ParamsEnd, Plain, Trailing, begins_assign, expect, name_of, named, peek_two, expr_of, function_of, function_case, head_case, params_led, rest_stop, again, bare_head, arrow_mark, is_simple, spanned, short_body, no_calls, call_case}
+use Rattle.grammar_parser_specs.specs.Exprs.{AnAssign, AParam, ARest, Calls, Env, BodyParser, BodyRead, Head, ParamsEnd, Plain, Trailing}
+use Rattle.grammar_parser_specs.specs.Exprs.{begins_assign, expect, name_of, named, peek_two, expr_of, function_of, function_case}
+use Rattle.grammar_parser_specs.specs.Exprs.{head_case, params_led, rest_stop, again, bare_head, arrow_mark, is_simple, spanned}
+use Rattle.grammar_parser_specs.specs.Exprs.{short_body, no_calls, call_case}
 
 -- What a call for a statement reads: an item of a list of statements, or a statement that stands alone, as a loop's body;
 -- the flag says whether a `return` may stand there.
@@ -142,7 +145,8 @@ abbrev pub else_behind : Block → Bool → Stmt → Parser (Option Stmt)
 else_behind b inside s = when (takes_else s) (ret None) (else_of b inside)
 
 unfoldable pub if_of : Block → Bool → Parser Stmt
-if_of b inside = bind (parens_of b.exprs) (λ e. bind (b.stmt (AStmt inside)) (λ s. bind (else_behind b inside s) (λ o. ret (tree.If e s (maybe_stmt_of o)))))
+if_of b inside = bind (parens_of b.exprs) (λ e. bind (b.stmt (AStmt inside))
+    (λ s. bind (else_behind b inside s) (λ o. ret (tree.If e s (maybe_stmt_of o)))))
 
 -- loops, after their words
 
@@ -150,7 +154,8 @@ unfoldable pub while_of : Block → Bool → Parser Stmt
 while_of b inside = bind (parens_of b.exprs) (λ e. bind (b.stmt (AStmt inside)) (λ s. ret (tree.While e s)))
 
 unfoldable pub do_of : Block → Bool → Parser Stmt
-do_of b inside = bind (b.stmt (AStmt inside)) (λ s. bind (expect_word word.WHILE) (λ _. bind (parens_of b.exprs) (λ e. bind (semi_of DoWhile) (λ x. ret (tree.Do s e x)))))
+do_of b inside = bind (b.stmt (AStmt inside)) (λ s. bind (expect_word word.WHILE)
+    (λ _. bind (parens_of b.exprs) (λ e. bind (semi_of DoWhile) (λ x. ret (tree.Do s e x)))))
 
 -- an Expression, or none where this mark stands
 unfoldable pub option_of : Env → ℕ → Parser (Option Expr)
@@ -166,7 +171,8 @@ for_from b inside i =
 
 -- a for-in, after its `in`
 unfoldable pub for_in_from : Block → Bool → Each → Parser Stmt
-for_in_from b inside i = bind (expr_of b.exprs true) (λ e. bind (expect mark.CLOSE_PAREN) (λ _. bind (b.stmt (AStmt inside)) (λ s. ret (tree.ForIn i e s))))
+for_in_from b inside i = bind (expr_of b.exprs true)
+    (λ e. bind (expect mark.CLOSE_PAREN) (λ _. bind (b.stmt (AStmt inside)) (λ s. ret (tree.ForIn i e s))))
 
 -- a head that begins with a declaration's word, after the word and the first name
 unfoldable pub for_named : Block → Bool → Decl → Named → Parser Stmt

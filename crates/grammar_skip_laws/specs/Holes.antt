@@ -34,7 +34,8 @@ pub data IsJoint : List Lexeme → Type 0 where
 -- The tokens of a function in front of its body: an arrow's single name, or parameters in parentheses, and an arrow's mark.
 pub data IsHead : List Lexeme → Type 0 where
   single : (name : Lexeme) (joint : Lexeme) → name.kind ≡ kind.Name → IsMark mark.ARROW joint → IsHead (name ∷ joint ∷ [])
-  listed : (opener : Lexeme) (params : List Lexeme) (closer : Lexeme) (joint : List Lexeme) → IsMark mark.OPEN_PAREN opener → IsBalanced params → IsMark mark.CLOSE_PAREN closer → IsJoint joint
+  listed : (opener : Lexeme) (params : List Lexeme) (closer : Lexeme) (joint : List Lexeme) → IsMark mark.OPEN_PAREN opener
+      → IsBalanced params → IsMark mark.CLOSE_PAREN closer → IsJoint joint
       → (all : List Lexeme) → all ≡ opener ∷ (params ++ closer ∷ joint) → IsHead all
 
 -- A function with a braced body: what stands in front of the body, the braces, and what stands between them.
@@ -63,7 +64,8 @@ left_of b = (b.first ∷ b.more) ++ (b.opener ∷ at_front b.closer ∷ [])
 pub data LeavesOut : List Hole → List Lexeme → List Lexeme → Type 0 where
   nothing : LeavesOut [] [] []
   keeps : (t : Lexeme) (hs : List Hole) (ts us : List Lexeme) → LeavesOut hs ts us → LeavesOut hs (t ∷ ts) (t ∷ us)
-  skips : (b : Braced) (hs : List Hole) (ts us all left : List Lexeme) → all ≡ all_of b ++ ts → left ≡ left_of b ++ us → LeavesOut hs ts us → LeavesOut (hole_of b ∷ hs) all left
+  skips : (b : Braced) (hs : List Hole) (ts us all left : List Lexeme) → all ≡ all_of b ++ ts → left ≡ left_of b ++ us → LeavesOut hs ts us
+      → LeavesOut (hole_of b ∷ hs) all left
 
 -- The functions of a list that are chosen and have braced bodies.
 

@@ -1,7 +1,11 @@
 -- A tree in which the braced bodies of some functions directly in it have no statements: of those whose start is chosen. What
 -- else is in these functions stays, and so do the functions in them.
 use Rattle.std.specs.Prelude.{ℕ, Bool, true, false}
-use Rattle.script_grammar.specs.Tree.{Expr, Exprs, no_exprs, more_exprs, MaybeExpr, no_expr, some_expr, MaybeArgs, no_args, some_args, Parts, no_parts, more_parts, Items, no_items, more_items, Operands, no_operands, more_operands, Tail, Tails, no_tails, more_tails, Key, Prop, Props, no_props, more_props, Function, function, Params, no_params, more_params, Body, Binds, no_binds, more_binds, Init, Each, Clauses, no_clauses, more_clauses, Stmt, Stmts, no_stmts, more_stmts, MaybeStmt, no_stmt, some_stmt}
+use Rattle.script_grammar.specs.Tree.{Expr, Exprs, no_exprs, more_exprs, MaybeExpr, no_expr, some_expr, MaybeArgs, no_args, some_args}
+use Rattle.script_grammar.specs.Tree.{Parts, no_parts, more_parts, Items, no_items, more_items, Operands, no_operands, more_operands, Tail}
+use Rattle.script_grammar.specs.Tree.{Tails, no_tails, more_tails, Key, Prop, Props, no_props, more_props, Function, function, Params}
+use Rattle.script_grammar.specs.Tree.{no_params, more_params, Body, Binds, no_binds, more_binds, Init, Each, Clauses, no_clauses}
+use Rattle.script_grammar.specs.Tree.{more_clauses, Stmt, Stmts, no_stmts, more_stmts, MaybeStmt, no_stmt, some_stmt}
 use Rattle.script_grammar.specs.Tree as tree
 
 module _ (chosen : ℕ → Bool) where
@@ -12,7 +16,8 @@ module _ (chosen : ℕ → Bool) where
   hollow_body false body = body
 
   abbrev pub hollow_function : Function → Function
-  hollow_function (function form start end name params comma bare body) = function form start end name params comma bare (hollow_body (chosen start) body)
+  hollow_function (function form start end name params comma bare body) = function form start end name params comma bare
+      (hollow_body (chosen start) body)
 
   abbrev mutual
     pub hollow : Expr → Expr

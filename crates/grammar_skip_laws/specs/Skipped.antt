@@ -11,7 +11,8 @@ use Rattle.grammar_skip_laws.specs.Hollow.{hollow_inside}
 
 -- The tokens without those in the chosen bodies, one for each chosen function directly in this one that has a braced body, in
 -- order: they are this function with these bodies empty, and none of them is too deep.
-pub record Skipped (chosen : ℕ → Bool) (inner : List Inner) (form : FuncForm) (name : Option Named) (limit : ℕ) (tokens : List Lexeme) (next : Lexeme) (f : Function) : Type 0 where
+pub record Skipped (chosen : ℕ → Bool) (inner : List Inner) (form : FuncForm) (name : Option Named) (limit : ℕ) (tokens : List Lexeme)
+    (next : Lexeme) (f : Function) : Type 0 where
   pub holes : List Hole
   pub left : List Lexeme
   pub leaves : LeavesOut holes tokens left

@@ -1,7 +1,11 @@
 -- The functions of a tree, each with the offset where its parameters start and its body, in the order of these offsets: those
 -- inside a function stand after it.
 use Rattle.std.specs.Prelude.{ℕ, List, [], ◌∷◌, ◌++◌}
-use Rattle.script_grammar.specs.Tree.{Expr, Exprs, no_exprs, more_exprs, MaybeExpr, no_expr, some_expr, MaybeArgs, no_args, some_args, Parts, no_parts, more_parts, Items, no_items, more_items, Operands, no_operands, more_operands, Tail, Tails, no_tails, more_tails, Key, Prop, Props, no_props, more_props, Function, function, Params, no_params, more_params, Body, Binds, no_binds, more_binds, Init, Each, Clauses, no_clauses, more_clauses, Stmt, Stmts, no_stmts, more_stmts, MaybeStmt, no_stmt, some_stmt}
+use Rattle.script_grammar.specs.Tree.{Expr, Exprs, no_exprs, more_exprs, MaybeExpr, no_expr, some_expr, MaybeArgs, no_args, some_args}
+use Rattle.script_grammar.specs.Tree.{Parts, no_parts, more_parts, Items, no_items, more_items, Operands, no_operands, more_operands, Tail}
+use Rattle.script_grammar.specs.Tree.{Tails, no_tails, more_tails, Key, Prop, Props, no_props, more_props, Function, function, Params}
+use Rattle.script_grammar.specs.Tree.{no_params, more_params, Body, Binds, no_binds, more_binds, Init, Each, Clauses, no_clauses}
+use Rattle.script_grammar.specs.Tree.{more_clauses, Stmt, Stmts, no_stmts, more_stmts, MaybeStmt, no_stmt, some_stmt}
 use Rattle.script_grammar.specs.Tree as tree
 
 pub record Started : Type 0 where
@@ -82,7 +86,8 @@ abbrev mutual
   started_props (more_props p ps) = started_prop p ++ started_props ps
 
   pub started_function : Function → List Started
-  started_function (function form start end name params comma bare body) = record { start = start; body = body } ∷ (started_params params ++ started_body body)
+  started_function (function form start end name params comma bare body) = record { start = start; body = body }
+      ∷ (started_params params ++ started_body body)
 
   pub started_params : Params → List Started
   started_params no_params = []

@@ -7,7 +7,8 @@ abbrev pub Gain : {S : Type 0} → (S → List ℕ) → List S → List S → Li
 Gain ran [] [] gained = gained ≡ []
 Gain ran [] (a ∷ after) gained = ⊥
 Gain ran (b ∷ before) [] gained = ⊥
-Gain ran (b ∷ before) (a ∷ after) gained = (own : List ℕ) × (others : List ℕ) × (ran a ≡ ran b ++ own) × Gain ran before after others × (gained ≡ own ++ others)
+Gain ran (b ∷ before) (a ∷ after) gained = (own : List ℕ) × (others : List ℕ) × (ran a ≡ ran b ++ own) × Gain ran before after others
+    × (gained ≡ own ++ others)
 
 -- as many shares came back, and their lists have gained together each task below n once
 abbrev pub GainedOnce : {S : Type 0} → (S → List ℕ) → List S → List S → ℕ → Type 0

@@ -62,7 +62,8 @@ impl<N: Numbering> Own<N> {
     /// Takes the task that was pushed first.
     pub fn pop(&mut self) -> Option<u32>
         requires { 0 < self.old.dealt.parts }
-        ensures { MatchOption result ((self.new ≡ self.old) × TookAll self.old.dealt) (λ x. (x < N.bound) × (self.new ≡ end_at self.old.deque (took self.old.dealt x))) }
+        ensures { MatchOption result ((self.new ≡ self.old) × TookAll self.old.dealt)
+            (λ x. (x < N.bound) × (self.new ≡ end_at self.old.deque (took self.old.dealt x))) }
     {
         self.deque.pop_as::<Takes<N>>()
     }
@@ -100,7 +101,8 @@ impl<N: Numbering> Look<N> {
     // One attempt.
     fn try_steal(&mut self) -> Steal<u32>
         requires { 0 < self.old.dealt.parts }
-        ensures { MatchSteal result (self.new ≡ self.old) (self.new ≡ self.old) (λ x. (x < N.bound) × (self.new ≡ end_at self.old.deque (took self.old.dealt x))) }
+        ensures { MatchSteal result (self.new ≡ self.old) (self.new ≡ self.old)
+            (λ x. (x < N.bound) × (self.new ≡ end_at self.old.deque (took self.old.dealt x))) }
     {
         self.stealer.steal_as::<Steals<N>>(&mut self.pass)
     }

@@ -67,7 +67,8 @@ impl<N: Numbering> Queue<N> {
         requires queue { fetcher.old.injector ≡ self.now }
         requires part { 0 < fetcher.old.dealt.parts }
         requires task { task < N.bound }
-        ensures { MatchResult result (λ _. fetcher.new ≡ reach_at self.now (pushed fetcher.old.dealt task)) (λ t. (t ≡ task) × (fetcher.new ≡ fetcher.old)) }
+        ensures { MatchResult result (λ _. fetcher.new ≡ reach_at self.now (pushed fetcher.old.dealt task))
+            (λ t. (t ≡ task) × (fetcher.new ≡ fetcher.old)) }
     {
         self.tasks.push_as::<Pushes, _>(rt, &mut fetcher.pass, task)
     }
@@ -76,7 +77,8 @@ impl<N: Numbering> Queue<N> {
     fn try_fetch(&self, rt: &impl Wait, fetcher: &mut Fetcher) -> Steal<u32>
         requires queue { fetcher.old.injector ≡ self.now }
         requires part { 0 < fetcher.old.dealt.parts }
-        ensures { MatchSteal result ((fetcher.new ≡ fetcher.old) × TookAll fetcher.old.dealt) (fetcher.new ≡ fetcher.old) (λ x. (x < N.bound) × (fetcher.new ≡ reach_at self.now (took fetcher.old.dealt x))) }
+        ensures { MatchSteal result ((fetcher.new ≡ fetcher.old) × TookAll fetcher.old.dealt) (fetcher.new ≡ fetcher.old)
+            (λ x. (x < N.bound) × (fetcher.new ≡ reach_at self.now (took fetcher.old.dealt x))) }
     {
         self.tasks.steal_as::<Takes<N>, _>(rt, &mut fetcher.pass)
     }
@@ -85,7 +87,8 @@ impl<N: Numbering> Queue<N> {
     pub fn fetch(&self, rt: &impl Wait, fetcher: &mut Fetcher) -> Option<u32>
         requires queue { fetcher.old.injector ≡ self.now }
         requires part { 0 < fetcher.old.dealt.parts }
-        ensures { MatchOption result ((fetcher.new ≡ fetcher.old) × TookAll fetcher.old.dealt) (λ x. (x < N.bound) × (fetcher.new ≡ reach_at self.now (took fetcher.old.dealt x))) }
+        ensures { MatchOption result ((fetcher.new ≡ fetcher.old) × TookAll fetcher.old.dealt)
+            (λ x. (x < N.bound) × (fetcher.new ≡ reach_at self.now (took fetcher.old.dealt x))) }
     {
         for _ in rt.forever() {
             match self.try_fetch(rt, fetcher) {

@@ -5,7 +5,8 @@ ghost use Rattle.helper_tasks.specs.Rule.{dealt, TookAll};
 ghost use Rattle.helper_tasks.specs.Handles.{reach_at};
 ghost use Rattle.helper_tasks.specs.Hands.{places};
 ghost use Rattle.helper_tasks.specs.Desks.{InOrder, Lists, Ready};
-ghost use Rattle.helper_tasks.specs.Crew.{Looking, Dismissible, Drained, Paired, deque_of, desk_of, fetcher_of, came_to, left_by, fetched, popped, ran_at, all_took_in};
+ghost use Rattle.helper_tasks.specs.Crew.{Looking, Dismissible, Drained, Paired, deque_of, desk_of, fetcher_of, came_to, left_by, fetched};
+ghost use Rattle.helper_tasks.specs.Crew.{popped, ran_at, all_took_in};
 
 use crate::deque::{Look, Own};
 use crate::gate::Gate;
@@ -60,7 +61,8 @@ impl<'a, J: Job, G: Gate, N: Numbering> Workplace<'a, J, G, N> {
         requires numbered { N.bound ≡ J.tasks self.now.job.now }
         requires part { 0 < own.old.dealt.parts }
         requires desk { InOrder (J.fits self.now.job.now) (J.gives self.now.job.now) desk.old }
-        ensures drained { IfOk result (λ _. Drained (J.fits self.now.job.now) (J.gives self.now.job.now) J.ran desk.old desk.new own.old.dealt own.new.dealt) }
+        ensures drained { IfOk result (λ _. Drained (J.fits self.now.job.now)
+            (J.gives self.now.job.now) J.ran desk.old desk.new own.old.dealt own.new.dealt) }
         ensures empty { IfOk result (λ _. TookAll own.new.dealt) }
     {
         for _ in rt.forever() {
@@ -83,7 +85,8 @@ impl<'a, J: Job, G: Gate, N: Numbering> Workplace<'a, J, G, N> {
         requires queue { all.old.injector ≡ self.now.queue.now }
         requires part { 0 < all.old.dealt.parts }
         requires desk { InOrder (J.fits self.now.job.now) (J.gives self.now.job.now) desk.old }
-        ensures drained { IfOk result (λ _. Drained (J.fits self.now.job.now) (J.gives self.now.job.now) J.ran desk.old desk.new all.old.dealt all.new.dealt) }
+        ensures drained { IfOk result (λ _. Drained (J.fits self.now.job.now)
+            (J.gives self.now.job.now) J.ran desk.old desk.new all.old.dealt all.new.dealt) }
         ensures empty { IfOk result (λ _. TookAll all.new.dealt) }
     {
         for _ in rt.forever() {
@@ -107,10 +110,12 @@ impl<'a, J: Job, G: Gate, N: Numbering> Workplace<'a, J, G, N> {
         requires part { 0 < all.old.dealt.parts }
         requires helpers { Each (Dismissible (J.fits self.now.job.now) (J.gives self.now.job.now) self.now.queue.now) helpers.items }
         ensures count { IfOk result (λ v. length v.items ≡ length helpers.items) }
-        ensures all { IfOk result (λ _. (all.new.injector ≡ self.now.queue.now) × (all.new.dealt.parts ≡ all.old.dealt.parts + length helpers.items) × (all.new.dealt.pushed ≡ all.old.dealt.pushed)) }
+        ensures all { IfOk result (λ _. (all.new.injector ≡ self.now.queue.now)
+            × (all.new.dealt.parts ≡ all.old.dealt.parts + length helpers.items) × (all.new.dealt.pushed ≡ all.old.dealt.pushed)) }
         ensures fetched { IfOk result (λ _. (x : ℕ) → times x all.new.dealt.taken ≡ times x all.old.dealt.taken + total (fetched x) helpers.items) }
         ensures desks { IfOk result (λ v. Each (InOrder (J.fits self.now.job.now) (J.gives self.now.job.now)) v.items) }
-        ensures lists { IfOk result (λ v. (starts : List (List ℕ)) → Paired (Lists J.ran) starts (map desk_of helpers.items) → Paired (Lists J.ran) starts v.items) }
+        ensures lists { IfOk result (λ v. (starts : List (List ℕ)) → Paired (Lists J.ran) starts (map desk_of helpers.items)
+            → Paired (Lists J.ran) starts v.items) }
         ensures ran { IfOk result (λ v. (x : ℕ) → total (ran_at x) v.items + total (popped x) helpers.items ≡ total (left_by x) helpers.items) }
     {
         let mut desks = Vec::new(self.alloc);
@@ -145,8 +150,10 @@ impl<'a, J: Job, G: Gate, N: Numbering> Workplace<'a, J, G, N> {
         requires looking { Each (Looking (map deque_of helpers.items) (64 - length helpers.items)) helpers.items }
         requires ready { Each (Ready (J.fits self.now.job.now) (J.gives self.now.job.now) self.now.queue.now) helpers.items }
         ensures desks { IfOk result (λ v. Each (InOrder (J.fits self.now.job.now) (J.gives self.now.job.now)) v.items) }
-        ensures lists { IfOk result (λ v. (starts : List (List ℕ)) → Paired (Lists J.ran) starts (map desk_of helpers.items) → Paired (Lists J.ran) starts v.items) }
-        ensures ran { IfOk result (λ v. (x : ℕ) → total (ran_at x) v.items + total (came_to x) helpers.items ≡ total (left_by x) helpers.items + times x all.dealt.pushed) }
+        ensures lists { IfOk result (λ v. (starts : List (List ℕ)) → Paired (Lists J.ran) starts (map desk_of helpers.items)
+            → Paired (Lists J.ran) starts v.items) }
+        ensures ran { IfOk result (λ v. (x : ℕ) → total (ran_at x) v.items + total (came_to x) helpers.items
+            ≡ total (left_by x) helpers.items + times x all.dealt.pushed) }
     {
         return_looks(self.alloc, &mut helpers);
         let mut desks = self.dismiss(rt, helpers, &mut all)?;

@@ -40,7 +40,8 @@ impl<'a, J: Job, G: Gate, N: Numbering> Promise<Result<Helper<J::Share, J::Out, 
     for Serving<'a, J, G, N> {
     ghost use Rattle.helper_tasks.specs.Crew.{Served};
 
-    ghost kept_by = { λ p r. Served (J.fits p.place.now.job.now) (J.gives p.place.now.job.now) J.ran p.place.now.queue.now p.order.now p.helper.value r };
+    ghost kept_by = { λ p r. Served (J.fits p.place.now.job.now)
+        (J.gives p.place.now.job.now) J.ran p.place.now.queue.now p.order.now p.helper.value r };
 }
 
 // Lets each worker work, in a thread of its own where one can be made, and else once the others have begun.
@@ -56,7 +57,8 @@ fn serve_each<'s, E, J: Job, G: Gate, N: Numbering + Send + Sync, R: Threads + W
     requires numbered { N.bound ≡ J.tasks place.now.job.now }
     requires tasks { Each (λ (x : ℕ). x < N.bound) order.now }
     requires helpers { Each (StartsIn (J.fits place.now.job.now) (J.gives place.now.job.now) place.now.queue.now order.now) helpers.items }
-    ensures { IfOk result (λ v. Paired (Served (J.fits place.now.job.now) (J.gives place.now.job.now) J.ran place.now.queue.now order.now) helpers.items v.items) }
+    ensures { IfOk result (λ v. Paired (Served (J.fits place.now.job.now)
+        (J.gives place.now.job.now) J.ran place.now.queue.now order.now) helpers.items v.items) }
 {
     let Some(helper) = helpers.pop() else {
         return Ok(Vec::new(place.alloc));
@@ -67,8 +69,10 @@ fn serve_each<'s, E, J: Job, G: Gate, N: Numbering + Send + Sync, R: Threads + W
         helper: Snapshot::of(&helper),
     };
     let work = move || -> Result<Helper<J::Share, J::Out, N>, AllocError>
-        requires { (N.bound ≡ J.tasks place.now.job.now) × Each (λ (x : ℕ). x < N.bound) order.now × StartsIn (J.fits place.now.job.now) (J.gives place.now.job.now) place.now.queue.now order.now helper }
-        ensures { Served (J.fits place.entry.now.job.now) (J.gives place.entry.now.job.now) J.ran place.entry.now.queue.now order.entry.now helper result }
+        requires { (N.bound ≡ J.tasks place.now.job.now) × Each (λ (x : ℕ). x < N.bound) order.now
+            × StartsIn (J.fits place.now.job.now) (J.gives place.now.job.now) place.now.queue.now order.now helper }
+        ensures { Served (J.fits place.entry.now.job.now)
+            (J.gives place.entry.now.job.now) J.ran place.entry.now.queue.now order.entry.now helper result }
     { place.serve(rt, order, helper) };
     let started = Stack::new()
         .stack_size(WORKER_STACK)
@@ -93,14 +97,18 @@ pub fn serve_all<J: Job, G: Gate, N: Numbering + Send + Sync, R: Threads + Wait 
     requires numbered { N.bound ≡ J.tasks place.now.job.now }
     requires tasks { Each (λ (x : ℕ). x < N.bound) order.now }
     requires helpers { Each (StartsIn (J.fits place.now.job.now) (J.gives place.now.job.now) place.now.queue.now order.now) helpers.items }
-    ensures { IfOk result (λ v. Paired (Served (J.fits place.now.job.now) (J.gives place.now.job.now) J.ran place.now.queue.now order.now) helpers.items v.items) }
+    ensures { IfOk result (λ v. Paired (Served (J.fits place.now.job.now)
+        (J.gives place.now.job.now) J.ran place.now.queue.now order.now) helpers.items v.items) }
 {
     thread::scope(
         thread::scope_env(),
         rt,
         |scope| -> Result<Vec<Result<Helper<J::Share, J::Out, N>, AllocError>>, AllocError>
-            requires { IsSend N.row × IsSend J.Out.row × IsSend J.Share.row × IsSync J.row × IsSync G.row × IsSync N.row × IsSync R.row × (N.bound ≡ J.tasks place.now.job.now) × Each (λ (x : ℕ). x < N.bound) order.now × Each (StartsIn (J.fits place.now.job.now) (J.gives place.now.job.now) place.now.queue.now order.now) helpers.items }
-            ensures { IfOk result (λ v. Paired (Served (J.fits place.entry.now.job.now) (J.gives place.entry.now.job.now) J.ran place.entry.now.queue.now order.entry.now) helpers.items v.items) }
+            requires { IsSend N.row × IsSend J.Out.row × IsSend J.Share.row × IsSync J.row × IsSync G.row × IsSync N.row × IsSync R.row
+                × (N.bound ≡ J.tasks place.now.job.now) × Each (λ (x : ℕ). x < N.bound) order.now
+                × Each (StartsIn (J.fits place.now.job.now) (J.gives place.now.job.now) place.now.queue.now order.now) helpers.items }
+            ensures { IfOk result (λ v. Paired (Served (J.fits place.entry.now.job.now)
+                (J.gives place.entry.now.job.now) J.ran place.entry.now.queue.now order.entry.now) helpers.items v.items) }
         { serve_each(scope, rt, place, order, helpers) },
     )
 }

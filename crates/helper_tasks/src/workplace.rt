@@ -54,7 +54,8 @@ impl<'a, J: Job, G: Gate, N: Numbering> Workplace<'a, J, G, N> {
         requires numbered { N.bound ≡ J.tasks self.now.job.now }
         requires task { task < N.bound }
         requires ready { Ready (J.fits self.now.job.now) (J.gives self.now.job.now) self.now.queue.now helper.old }
-        ensures { IfOk result (λ _. Works (J.fits self.now.job.now) (J.gives self.now.job.now) J.ran self.now.queue.now helper.old helper.new (task ∷ []) []) }
+        ensures { IfOk result (λ _. Works (J.fits self.now.job.now)
+            (J.gives self.now.job.now) J.ran self.now.queue.now helper.old helper.new (task ∷ []) []) }
     {
         self.run(&mut helper.desk, task)
     }
@@ -64,7 +65,8 @@ impl<'a, J: Job, G: Gate, N: Numbering> Workplace<'a, J, G, N> {
         requires numbered { N.bound ≡ J.tasks self.now.job.now }
         requires task { task < N.bound }
         requires ready { Ready (J.fits self.now.job.now) (J.gives self.now.job.now) self.now.queue.now helper.old }
-        ensures { IfOk result (λ _. Works (J.fits self.now.job.now) (J.gives self.now.job.now) J.ran self.now.queue.now helper.old helper.new (task ∷ []) []) }
+        ensures { IfOk result (λ _. Works (J.fits self.now.job.now)
+            (J.gives self.now.job.now) J.ran self.now.queue.now helper.old helper.new (task ∷ []) []) }
     {
         match helper.handles.push(task) {
             Ok(()) => Ok(()),
@@ -80,7 +82,9 @@ impl<'a, J: Job, G: Gate, N: Numbering> Workplace<'a, J, G, N> {
     ) -> Result<Option<u32>, AllocError>
         requires numbered { N.bound ≡ J.tasks self.now.job.now }
         requires ready { Ready (J.fits self.now.job.now) (J.gives self.now.job.now) self.now.queue.now helper.old }
-        ensures { IfOk result (λ r. MatchOption r (Works (J.fits self.now.job.now) (J.gives self.now.job.now) J.ran self.now.queue.now helper.old helper.new [] []) (λ x. (x < N.bound) × Works (J.fits self.now.job.now) (J.gives self.now.job.now) J.ran self.now.queue.now helper.old helper.new [] (x ∷ []))) }
+        ensures { IfOk result (λ r. MatchOption r (Works (J.fits self.now.job.now)
+            (J.gives self.now.job.now) J.ran self.now.queue.now helper.old helper.new [] []) (λ x. (x < N.bound)
+            × Works (J.fits self.now.job.now) (J.gives self.now.job.now) J.ran self.now.queue.now helper.old helper.new [] (x ∷ []))) }
     {
         let Some(first) = helper.handles.fetch(rt, self.queue) else {
             return Ok(None);
@@ -102,7 +106,9 @@ impl<'a, J: Job, G: Gate, N: Numbering> Workplace<'a, J, G, N> {
     ) -> Result<Option<u32>, AllocError>
         requires numbered { N.bound ≡ J.tasks self.now.job.now }
         requires ready { Ready (J.fits self.now.job.now) (J.gives self.now.job.now) self.now.queue.now helper.old }
-        ensures { IfOk result (λ r. MatchOption r (Works (J.fits self.now.job.now) (J.gives self.now.job.now) J.ran self.now.queue.now helper.old helper.new [] []) (λ x. (x < N.bound) × Works (J.fits self.now.job.now) (J.gives self.now.job.now) J.ran self.now.queue.now helper.old helper.new [] (x ∷ []))) }
+        ensures { IfOk result (λ r. MatchOption r (Works (J.fits self.now.job.now)
+            (J.gives self.now.job.now) J.ran self.now.queue.now helper.old helper.new [] []) (λ x. (x < N.bound)
+            × Works (J.fits self.now.job.now) (J.gives self.now.job.now) J.ran self.now.queue.now helper.old helper.new [] (x ∷ []))) }
     {
         if let Some(task) = helper.handles.pop() {
             return Ok(Some(task));
@@ -141,7 +147,8 @@ impl<'a, J: Job, G: Gate, N: Numbering> Workplace<'a, J, G, N> {
         requires numbered { N.bound ≡ J.tasks self.now.job.now }
         requires tasks { Each (λ (x : ℕ). x < N.bound) tasks.now }
         requires ready { Ready (J.fits self.now.job.now) (J.gives self.now.job.now) self.now.queue.now helper.old }
-        ensures { IfOk result (λ _. Works (J.fits self.now.job.now) (J.gives self.now.job.now) J.ran self.now.queue.now helper.old helper.new tasks.now []) }
+        ensures { IfOk result (λ _. Works (J.fits self.now.job.now)
+            (J.gives self.now.job.now) J.ran self.now.queue.now helper.old helper.new tasks.now []) }
     {
         for task in tasks {
             self.run_one(helper, *task)?;
@@ -160,7 +167,8 @@ impl<'a, J: Job, G: Gate, N: Numbering> Workplace<'a, J, G, N> {
         requires rest { helper.rest ≤ length order.now }
         requires tasks { Each (λ (x : ℕ). x < N.bound) order.now }
         requires ready { Ready (J.fits self.now.job.now) (J.gives self.now.job.now) self.now.queue.now helper }
-        ensures { IfOk result (λ h. Works (J.fits self.now.job.now) (J.gives self.now.job.now) J.ran self.now.queue.now helper h (drop helper.rest order.now) []) }
+        ensures { IfOk result (λ h. Works (J.fits self.now.job.now) (J.gives self.now.job.now) J.ran self.now.queue.now helper h
+            (drop helper.rest order.now) []) }
     {
         self.work(rt, &mut helper)?;
         let rest = &order[helper.rest..];

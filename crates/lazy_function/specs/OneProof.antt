@@ -47,7 +47,18 @@ link_coded = hlevel (scope.the_row.coded, name.the_row.coded, codes)
 
 pub IsCompiledAlone-prop : (made : Delazified) (m : Site) → IsProp (IsCompiledAlone made m)
 IsCompiledAlone-prop made m =
-    hlevel (extent.the_row.coded, kind.the_row.coded, note.the_row.coded, scope_coded, listed_coded, link_coded, Coded-set, NameWithin-prop, ScopesWithin-prop, codes)
+    hlevel (
+      extent.the_row.coded,
+      kind.the_row.coded,
+      note.the_row.coded,
+      scope_coded,
+      listed_coded,
+      link_coded,
+      Coded-set,
+      NameWithin-prop,
+      ScopesWithin-prop,
+      codes,
+    )
 
 pub IsCompiledFunction-prop : (bytes : List ℕ) (number : ℕ) (made : Delazified) → IsProp (IsCompiledFunction bytes number made)
 IsCompiledFunction-prop bytes number made = hlevel (IsCompiledAlone-prop)

@@ -50,7 +50,8 @@ returned_ending (Some v) = ends.Value v.ending
 
 -- a name with its initializer, and how what ends with it ends
 abbrev pub EndedBindOf : {E : Type 0} → Interpretation → (E → Expr → Type 0) → EndedBind E → (Bind → Type 0) → Type 0
-EndedBindOf i shows v k = MaybeOf shows v.bind.value (λ t. (stmt_ending v.ending ≡ bind_ending (maybe_expr_of t)) × k (record { name = named i v.bind.name; value = t }))
+EndedBindOf i shows v k = MaybeOf shows v.bind.value
+    (λ t. (stmt_ending v.ending ≡ bind_ending (maybe_expr_of t)) × k (record { name = named i v.bind.name; value = t }))
 
 -- the same of one that is given
 abbrev pub ShowEnded : {E : Type 0} → Interpretation → (E → Expr → Type 0) → EndedBind E → Bind → Type 0
@@ -63,7 +64,8 @@ ended_bind n (Some v) = record { bind = record { name = n; value = Some v.node }
 
 -- names with their initializers, and how what ends with them ends
 abbrev pub BindsOf : {E : Type 0} → Interpretation → (E → Expr → Type 0) → Binds E → (Many Bind (Unit {0}) → Type 0) → Type 0
-BindsOf i shows v k = (bs : List Bind) × ShowAll (ShowBind i shows) v.items.items bs × (stmt_ending v.ending ≡ binds_ending pieces.BareBinding (binds_of bs)) × k (record { items = bs; last = tt })
+BindsOf i shows v k = (bs : List Bind) × ShowAll (ShowBind i shows) v.items.items bs
+    × (stmt_ending v.ending ≡ binds_ending pieces.BareBinding (binds_of bs)) × k (record { items = bs; last = tt })
 
 -- a statement
 abbrev pub StmtOf : {S : Type 0} → (S → Stmt → Type 0) → StmtNode S → (Stmt → Type 0) → Type 0

@@ -28,7 +28,8 @@ fn strict_param<H: Handler>(
     depth: u32,
 ) -> Result<Turned<NodeParam<H::E>, ParamsEnd>, ParseFault>
     requires { IsSource source.now }
-    ensures { (i : Interpretation) → Reads (TurnOf (ParamOf i (H.shows_expr i)) (ParamsEndOf i)) (pure.strict_param (env_at i depth)) source.now i state.old.place state.new.place result }
+    ensures { (i : Interpretation) → Reads (TurnOf (ParamOf i (H.shows_expr i)) (ParamsEndOf i))
+        (pure.strict_param (env_at i depth)) source.now i state.old.place state.new.place result }
 {
     if state.place.is_mark(source, mark::ELLIPSIS) {
         let name = state.rest_call(source, depth)?;
@@ -51,7 +52,8 @@ fn strict_next<H: Handler>(
     depth: u32,
 ) -> Result<Turned<NodeParam<H::E>, ParamsEnd>, ParseFault>
     requires { IsSource source.now }
-    ensures { (i : Interpretation) → Reads (TurnOf (ParamOf i (H.shows_expr i)) (ParamsEndOf i)) (pure.strict_next (env_at i depth)) source.now i state.old.place state.new.place result }
+    ensures { (i : Interpretation) → Reads (TurnOf (ParamOf i (H.shows_expr i)) (ParamsEndOf i))
+        (pure.strict_next (env_at i depth)) source.now i state.old.place state.new.place result }
 {
     if state.place.is_mark(source, mark::CLOSE_PAREN) {
         return Ok(Turned::Last(ParamsEnd::Trailing));
@@ -67,7 +69,8 @@ fn strict_turn<H: Handler>(
     depth: u32,
 ) -> Result<Turned<NodeParam<H::E>, ParamsEnd>, ParseFault>
     requires { IsSource source.now }
-    ensures { (i : Interpretation) → Reads (TurnOf (ParamOf i (H.shows_expr i)) (ParamsEndOf i)) (pure.strict_turn (env_at i depth)) source.now i state.old.place state.new.place result }
+    ensures { (i : Interpretation) → Reads (TurnOf (ParamOf i (H.shows_expr i)) (ParamsEndOf i))
+        (pure.strict_turn (env_at i depth)) source.now i state.old.place state.new.place result }
 {
     if !state.place.is_mark(source, mark::COMMA) {
         return Ok(Turned::Last(ParamsEnd::Plain));
@@ -84,7 +87,9 @@ fn strict_led<H: Handler>(
     depth: u32,
 ) -> Result<Items<NodeParam<H::E>, ParamsEnd>, ParseFault>
     requires { IsSource source.now }
-    ensures { (i : Interpretation) → (t : part.Param) → ShowParam i (H.shows_expr i) first t → Reads (ItemsOf (ShowParam i (H.shows_expr i)) (ParamsEndOf i)) (led (pure.strict_turn (env_at i depth)) t) source.now i state.old.place state.new.place result }
+    ensures { (i : Interpretation) → (t : part.Param) → ShowParam i (H.shows_expr i) first t
+        → Reads (ItemsOf (ShowParam i (H.shows_expr i)) (ParamsEndOf i))
+        (led (pure.strict_turn (env_at i depth)) t) source.now i state.old.place state.new.place result }
 {
     let mut items = Vec::new(state.alloc);
     items.push(first)?;
@@ -104,7 +109,8 @@ fn strict_params<H: Handler>(
     depth: u32,
 ) -> Result<Items<NodeParam<H::E>, ParamsEnd>, ParseFault>
     requires { IsSource source.now }
-    ensures { (i : Interpretation) → Reads (ItemsOf (ShowParam i (H.shows_expr i)) (ParamsEndOf i)) (pure.strict_params (env_at i depth)) source.now i state.old.place state.new.place result }
+    ensures { (i : Interpretation) → Reads (ItemsOf (ShowParam i (H.shows_expr i)) (ParamsEndOf i))
+        (pure.strict_params (env_at i depth)) source.now i state.old.place state.new.place result }
 {
     if state.place.is_mark(source, mark::CLOSE_PAREN) {
         return Ok(Items {
@@ -130,7 +136,8 @@ fn strict_listed<H: Handler>(
     depth: u32,
 ) -> Result<Params<H::E>, ParseFault>
     requires { IsSource source.now }
-    ensures { (i : Interpretation) → Reads (ParamsOf i (H.shows_expr i)) (pure.strict_listed (env_at i depth) start) source.now i state.old.place state.new.place result }
+    ensures { (i : Interpretation) → Reads (ParamsOf i (H.shows_expr i))
+        (pure.strict_listed (env_at i depth) start) source.now i state.old.place state.new.place result }
 {
     let read = strict_params(state, source, depth)?;
     state.place.expect(source, mark::CLOSE_PAREN)?;
@@ -145,7 +152,8 @@ fn strict_head<H: Handler>(
     depth: u32,
 ) -> Result<Params<H::E>, ParseFault>
     requires { IsSource source.now }
-    ensures { (i : Interpretation) → Reads (ParamsOf i (H.shows_expr i)) (pure.strict_head (env_at i depth)) source.now i state.old.place state.new.place result }
+    ensures { (i : Interpretation) → Reads (ParamsOf i (H.shows_expr i))
+        (pure.strict_head (env_at i depth)) source.now i state.old.place state.new.place result }
 {
     let token = state.place.token(source);
     if kinds::is_name(token.kind) {
@@ -169,7 +177,8 @@ pub fn arrow_alone<H: Handler>(
     depth: u32,
 ) -> Result<NodeFunc<H::E, H::B>, ParseFault>
     requires { IsSource source.now }
-    ensures { (i : Interpretation) → Reads (FuncOf i (H.shows_expr i) (H.shows_body i)) (pure.arrow_alone (env_at i depth)) source.now i state.old.place state.new.place result }
+    ensures { (i : Interpretation) → Reads (FuncOf i (H.shows_expr i) (H.shows_body i))
+        (pure.arrow_alone (env_at i depth)) source.now i state.old.place state.new.place result }
 {
     let head = strict_head(state, source, depth)?;
     state.place.arrow_mark(source)?;

@@ -33,7 +33,8 @@ fn initializer<H: Handler>(
     depth: u32,
 ) -> Result<Option<Ranked<H::E>>, ParseFault>
     requires { IsSource source.now }
-    ensures { (i : Interpretation) → Reads (ReturnedOf (H.shows_expr i)) (pure.value_of (env_at i depth) with_in) source.now i state.old.place state.new.place result }
+    ensures { (i : Interpretation) → Reads (ReturnedOf (H.shows_expr i))
+        (pure.value_of (env_at i depth) with_in) source.now i state.old.place state.new.place result }
 {
     if !state.place.is_mark(source, mark::ASSIGN) {
         return Ok(None);
@@ -72,7 +73,8 @@ fn bind_from<H: Handler>(
     depth: u32,
 ) -> Result<EndedBind<H::E>, ParseFault>
     requires { IsSource source.now }
-    ensures { (i : Interpretation) → Reads (EndedBindOf i (H.shows_expr i)) (pure.bind_from (env_at i depth) with_in (named i name)) source.now i state.old.place state.new.place result }
+    ensures { (i : Interpretation) → Reads (EndedBindOf i (H.shows_expr i))
+        (pure.bind_from (env_at i depth) with_in (named i name)) source.now i state.old.place state.new.place result }
 {
     let value = initializer(state, source, with_in, depth)?;
     Ok(bound(name, value))
@@ -87,7 +89,8 @@ fn bind<H: Handler>(
     depth: u32,
 ) -> Result<EndedBind<H::E>, ParseFault>
     requires { IsSource source.now }
-    ensures { (i : Interpretation) → Reads (EndedBindOf i (H.shows_expr i)) (pure.bind_of (env_at i depth) with_in) source.now i state.old.place state.new.place result }
+    ensures { (i : Interpretation) → Reads (EndedBindOf i (H.shows_expr i))
+        (pure.bind_of (env_at i depth) with_in) source.now i state.old.place state.new.place result }
 {
     let name = state.place.name(source)?;
     let bind = bind_from(state, source, with_in, name, depth)?;
@@ -103,7 +106,8 @@ fn bind_turn<H: Handler>(
     depth: u32,
 ) -> Result<Turned<EndedBind<H::E>, ()>, ParseFault>
     requires { IsSource source.now }
-    ensures { (i : Interpretation) → Reads (TurnOf (EndedBindOf i (H.shows_expr i)) Itself) (pure.bind_turn (env_at i depth) with_in) source.now i state.old.place state.new.place result }
+    ensures { (i : Interpretation) → Reads (TurnOf (EndedBindOf i (H.shows_expr i)) Itself)
+        (pure.bind_turn (env_at i depth) with_in) source.now i state.old.place state.new.place result }
 {
     if !state.place.is_mark(source, mark::COMMA) {
         return Ok(Turned::Last(()));
@@ -122,7 +126,8 @@ fn binds_led<H: Handler>(
     depth: u32,
 ) -> Result<Binds<H::E>, ParseFault>
     requires { IsSource source.now }
-    ensures { (i : Interpretation) (b : model.Bind) → ShowEnded i (H.shows_expr i) first b → Reads (BindsOf i (H.shows_expr i)) (led (pure.bind_turn (env_at i depth) with_in) b) source.now i state.old.place state.new.place result }
+    ensures { (i : Interpretation) (b : model.Bind) → ShowEnded i (H.shows_expr i) first b
+        → Reads (BindsOf i (H.shows_expr i)) (led (pure.bind_turn (env_at i depth) with_in) b) source.now i state.old.place state.new.place result }
 {
     let mut ending = first.ending;
     let mut items = Vec::new(state.alloc);
@@ -148,7 +153,8 @@ pub fn binds_from<H: Handler>(
     depth: u32,
 ) -> Result<Binds<H::E>, ParseFault>
     requires { IsSource source.now }
-    ensures { (i : Interpretation) → Reads (BindsOf i (H.shows_expr i)) (pure.binds_from (env_at i depth) with_in (named i name)) source.now i state.old.place state.new.place result }
+    ensures { (i : Interpretation) → Reads (BindsOf i (H.shows_expr i))
+        (pure.binds_from (env_at i depth) with_in (named i name)) source.now i state.old.place state.new.place result }
 {
     let first = bind_from(state, source, with_in, name, depth)?;
     let binds = binds_led(state, source, with_in, first, depth)?;
@@ -164,7 +170,8 @@ pub fn binding<H: Handler>(
     depth: u32,
 ) -> Result<StmtNode<H::S>, ParseFault>
     requires { IsSource source.now }
-    ensures { (i : Interpretation) → Reads (StmtOf (H.shows_stmt i)) (pure.binding_of (env_at i depth) decl) source.now i state.old.place state.new.place result }
+    ensures { (i : Interpretation) → Reads (StmtOf (H.shows_stmt i))
+        (pure.binding_of (env_at i depth) decl) source.now i state.old.place state.new.place result }
 {
     let name = state.place.name(source)?;
     let binds = binds_from(state, source, true, name, depth)?;

@@ -43,7 +43,8 @@ pub fn while_from<H: Handler>(
     depth: u32,
 ) -> Result<StmtNode<H::S>, ParseFault>
     requires { IsSource source.now }
-    ensures { (i : Interpretation) → Reads (StmtOf (H.shows_stmt i)) (pure.while_of (block_at i depth) returns) source.now i state.old.place state.new.place result }
+    ensures { (i : Interpretation) → Reads (StmtOf (H.shows_stmt i))
+        (pure.while_of (block_at i depth) returns) source.now i state.old.place state.new.place result }
 {
     let test = parens(state, source, depth)?;
     let body = stmt(state, source, Position::Alone { returns }, depth)?;
@@ -62,7 +63,8 @@ pub fn do_from<H: Handler>(
     depth: u32,
 ) -> Result<StmtNode<H::S>, ParseFault>
     requires { IsSource source.now }
-    ensures { (i : Interpretation) → Reads (StmtOf (H.shows_stmt i)) (pure.do_of (block_at i depth) returns) source.now i state.old.place state.new.place result }
+    ensures { (i : Interpretation) → Reads (StmtOf (H.shows_stmt i))
+        (pure.do_of (block_at i depth) returns) source.now i state.old.place state.new.place result }
 {
     let body = stmt(state, source, Position::Alone { returns }, depth)?;
     expect_word(&mut state.place, source, word::WHILE)?;
@@ -86,7 +88,8 @@ fn for_from<H: Handler>(
     depth: u32,
 ) -> Result<StmtNode<H::S>, ParseFault>
     requires { IsSource source.now }
-    ensures { (i : Interpretation) (n : model.Init) → ShowInit i (H.shows_expr i) init n → Reads (StmtOf (H.shows_stmt i)) (pure.for_from (block_at i depth) returns n) source.now i state.old.place state.new.place result }
+    ensures { (i : Interpretation) (n : model.Init) → ShowInit i (H.shows_expr i) init n
+        → Reads (StmtOf (H.shows_stmt i)) (pure.for_from (block_at i depth) returns n) source.now i state.old.place state.new.place result }
 {
     state.place.expect(source, mark::SEMICOLON)?;
     let test = option(state, source, mark::SEMICOLON, depth)?;
@@ -110,7 +113,8 @@ fn for_in_from<H: Handler>(
     depth: u32,
 ) -> Result<StmtNode<H::S>, ParseFault>
     requires { IsSource source.now }
-    ensures { (i : Interpretation) (n : model.Each) → ShowEach i (H.shows_expr i) each n → Reads (StmtOf (H.shows_stmt i)) (pure.for_in_from (block_at i depth) returns n) source.now i state.old.place state.new.place result }
+    ensures { (i : Interpretation) (n : model.Each) → ShowEach i (H.shows_expr i) each n
+        → Reads (StmtOf (H.shows_stmt i)) (pure.for_in_from (block_at i depth) returns n) source.now i state.old.place state.new.place result }
 {
     let over = state.expr(source, true, depth)?;
     state.place.expect(source, mark::CLOSE_PAREN)?;
@@ -132,7 +136,8 @@ fn for_named<H: Handler>(
     depth: u32,
 ) -> Result<StmtNode<H::S>, ParseFault>
     requires { IsSource source.now }
-    ensures { (i : Interpretation) → Reads (StmtOf (H.shows_stmt i)) (pure.for_named (block_at i depth) returns decl (named i name)) source.now i state.old.place state.new.place result }
+    ensures { (i : Interpretation) → Reads (StmtOf (H.shows_stmt i))
+        (pure.for_named (block_at i depth) returns decl (named i name)) source.now i state.old.place state.new.place result }
 {
     if state.place.is_word(source, word::IN) {
         state.place.step(source);
@@ -157,7 +162,8 @@ fn for_decl<H: Handler>(
     depth: u32,
 ) -> Result<StmtNode<H::S>, ParseFault>
     requires { IsSource source.now }
-    ensures { (i : Interpretation) → Reads (StmtOf (H.shows_stmt i)) (pure.for_decl (block_at i depth) returns decl) source.now i state.old.place state.new.place result }
+    ensures { (i : Interpretation) → Reads (StmtOf (H.shows_stmt i))
+        (pure.for_decl (block_at i depth) returns decl) source.now i state.old.place state.new.place result }
 {
     let name = state.place.name(source)?;
     for_named(state, source, returns, decl, name, depth)
@@ -173,7 +179,8 @@ fn may_be_each(of: Rank) -> bool
 /// Whether a for-in goes on here after an expression that binds so.
 fn is_for_in(place: &Cursor, source: &Source, of: Rank) -> bool
     requires { IsSource source.now }
-    ensures { (i : Interpretation) (t : model.Expr) → of ≡ rank_of t → result ≡ (test.is_word word.IN (head_of (front source.now i place.now.at)).kind && nat_le (rank t) left_rank) }
+    ensures { (i : Interpretation) (t : model.Expr) → of ≡ rank_of t
+        → result ≡ (test.is_word word.IN (head_of (front source.now i place.now.at)).kind && nat_le (rank t) left_rank) }
 {
     let each = may_be_each(of);
     place.is_word(source, word::IN) && each
@@ -190,7 +197,8 @@ fn for_valued<H: Handler>(
     depth: u32,
 ) -> Result<StmtNode<H::S>, ParseFault>
     requires { IsSource source.now }
-    ensures { (i : Interpretation) (t : model.Expr) → H.shows_expr i value.node t → value.rank ≡ rank_of t → Reads (StmtOf (H.shows_stmt i)) (pure.for_valued (block_at i depth) returns t) source.now i state.old.place state.new.place result }
+    ensures { (i : Interpretation) (t : model.Expr) → H.shows_expr i value.node t → value.rank ≡ rank_of t
+        → Reads (StmtOf (H.shows_stmt i)) (pure.for_valued (block_at i depth) returns t) source.now i state.old.place state.new.place result }
 {
     if is_for_in(&state.place, source, value.rank) {
         state.place.step(source);
@@ -208,7 +216,8 @@ fn for_expr<H: Handler>(
     depth: u32,
 ) -> Result<StmtNode<H::S>, ParseFault>
     requires { IsSource source.now }
-    ensures { (i : Interpretation) → Reads (StmtOf (H.shows_stmt i)) (bind (expr_of (env_at i depth) false) (pure.for_valued (block_at i depth) returns)) source.now i state.old.place state.new.place result }
+    ensures { (i : Interpretation) → Reads (StmtOf (H.shows_stmt i))
+        (bind (expr_of (env_at i depth) false) (pure.for_valued (block_at i depth) returns)) source.now i state.old.place state.new.place result }
 {
     let value = state.expr(source, false, depth)?;
     for_valued(state, source, returns, value, depth)
@@ -224,7 +233,8 @@ fn for_head<H: Handler>(
     depth: u32,
 ) -> Result<StmtNode<H::S>, ParseFault>
     requires { IsSource source.now }
-    ensures { (i : Interpretation) → Reads (StmtOf (H.shows_stmt i)) (pure.for_head (block_at i depth) returns) source.now i state.old.place state.new.place result }
+    ensures { (i : Interpretation) → Reads (StmtOf (H.shows_stmt i))
+        (pure.for_head (block_at i depth) returns) source.now i state.old.place state.new.place result }
 {
     if state.place.is_mark(source, mark::SEMICOLON) {
         return for_from(state, source, returns, NodeInit::Nothing, depth);
@@ -254,7 +264,8 @@ pub fn for_stmt<H: Handler>(
     depth: u32,
 ) -> Result<StmtNode<H::S>, ParseFault>
     requires { IsSource source.now }
-    ensures { (i : Interpretation) → Reads (StmtOf (H.shows_stmt i)) (pure.for_of (block_at i depth) returns) source.now i state.old.place state.new.place result }
+    ensures { (i : Interpretation) → Reads (StmtOf (H.shows_stmt i))
+        (pure.for_of (block_at i depth) returns) source.now i state.old.place state.new.place result }
 {
     state.place.expect(source, mark::OPEN_PAREN)?;
     for_head(state, source, returns, depth)

@@ -83,7 +83,8 @@ pub fn ends_return(place: &Cursor, source: &Source) -> bool
 /// Whether a label stands here: a name and a colon after it.
 pub fn is_label(place: &Cursor, source: &Source) -> bool
     requires { IsSource source.now }
-    ensures { (i : Interpretation) → result ≡ pure.is_label (head_of (front source.now i place.now.at)) (head_of (rest_of (front source.now i place.now.at))) }
+    ensures { (i : Interpretation) → result ≡ pure.is_label (head_of (front source.now i place.now.at))
+        (head_of (rest_of (front source.now i place.now.at))) }
 {
     let next = source.token(place.at as usize + 1);
     place.is_name(source) && is_mark(next.kind, mark::COLON)

@@ -50,7 +50,8 @@ pub fn body<H: Handler>(
     depth: u32,
 ) -> Result<BodyNode<H::B>, ParseFault>
     requires { IsSource source.now }
-    ensures { (i : Interpretation) (form : FuncForm) (start : ℕ) (simple : Bool) → Reads (BodyOf (H.shows_body i)) (pure.reading (stmts_at i depth) form start simple) source.now i state.old.place state.new.place result }
+    ensures { (i : Interpretation) (form : FuncForm) (start : ℕ) (simple : Bool)
+        → Reads (BodyOf (H.shows_body i)) (pure.reading (stmts_at i depth) form start simple) source.now i state.old.place state.new.place result }
 {
     state.place.expect(source, mark::OPEN_BRACE)?;
     let items = stmts_from(state, source, true, depth)?;
@@ -75,7 +76,8 @@ fn expect_end(place: &Cursor, source: &Source) -> Result<(), ParseFault>
 #[tactic(auto, unfolding(grammar_parser_specs::specs::Stmts::script_of))]
 pub fn script<H: Handler>(state: &mut State<H>, source: &Source) -> Result<H::B, ParseFault>
     requires { IsSource source.now }
-    ensures { (i : Interpretation) → Reads (NodeOf (H.shows_body i)) (pure.script_of (stmts_at i 0)) source.now i state.old.place state.new.place result }
+    ensures { (i : Interpretation) → Reads (NodeOf (H.shows_body i))
+        (pure.script_of (stmts_at i 0)) source.now i state.old.place state.new.place result }
 {
     let items = stmts_from(state, source, false, 0)?;
     expect_end(&state.place, source)?;
@@ -98,7 +100,9 @@ fn function<H: Handler>(
     depth: u32,
 ) -> Result<NodeFunc<H::E, H::B>, ParseFault>
     requires { IsSource source.now }
-    ensures { (i : Interpretation) → Reads (FuncOf i (H.shows_expr i) (H.shows_body i)) (when (pure.is_arrow_form form) (pure.arrow_alone (env_at i depth)) (function_of (env_at i depth) form None)) source.now i state.old.place state.new.place result }
+    ensures { (i : Interpretation) → Reads (FuncOf i (H.shows_expr i) (H.shows_body i))
+        (when (pure.is_arrow_form form) (pure.arrow_alone (env_at i depth))
+        (function_of (env_at i depth) form None)) source.now i state.old.place state.new.place result }
 {
     if is_arrow(form) {
         return arrow_alone(state, source, depth);
@@ -115,7 +119,8 @@ pub fn alone<H: Handler>(
     depth: u32,
 ) -> Result<NodeFunc<H::E, H::B>, ParseFault>
     requires { IsSource source.now }
-    ensures { (i : Interpretation) → Reads (FuncOf i (H.shows_expr i) (H.shows_body i)) (pure.alone_of (env_at i depth) form) source.now i state.old.place state.new.place result }
+    ensures { (i : Interpretation) → Reads (FuncOf i (H.shows_expr i) (H.shows_body i))
+        (pure.alone_of (env_at i depth) form) source.now i state.old.place state.new.place result }
 {
     let func = function(state, source, form, depth)?;
     expect_end(&state.place, source)?;

@@ -40,7 +40,8 @@ fn stmt_turn<H: Handler>(
     depth: u32,
 ) -> Result<Turned<H::S, ()>, ParseFault>
     requires { IsSource source.now }
-    ensures { (i : Interpretation) → Reads (TurnOf (NodeOf (H.shows_stmt i)) Itself) (pure.stmt_turn (stmts_at i depth) returns) source.now i state.old.place state.new.place result }
+    ensures { (i : Interpretation) → Reads (TurnOf (NodeOf (H.shows_stmt i)) Itself)
+        (pure.stmt_turn (stmts_at i depth) returns) source.now i state.old.place state.new.place result }
 {
     if ends_items(state.place.kind(source)) {
         return Ok(Turned::Last(()));
@@ -58,7 +59,8 @@ fn items<H: Handler>(
     depth: u32,
 ) -> Result<Items<H::S, ()>, ParseFault>
     requires { IsSource source.now }
-    ensures { (i : Interpretation) → Reads (ItemsOf (H.shows_stmt i) Itself) (loop (pure.stmt_turn (stmts_at i depth) returns)) source.now i state.old.place state.new.place result }
+    ensures { (i : Interpretation) → Reads (ItemsOf (H.shows_stmt i) Itself)
+        (loop (pure.stmt_turn (stmts_at i depth) returns)) source.now i state.old.place state.new.place result }
 {
     let mut items = Vec::new(state.alloc);
     loop {
@@ -79,7 +81,8 @@ pub fn stmts_from<H: Handler>(
     depth: u32,
 ) -> Result<Vec<H::S>, ParseFault>
     requires { IsSource source.now }
-    ensures { (i : Interpretation) → Reads (ListOf (H.shows_stmt i)) (pure.stmts_from (stmts_at i depth) returns) source.now i state.old.place state.new.place result }
+    ensures { (i : Interpretation) → Reads (ListOf (H.shows_stmt i))
+        (pure.stmts_from (stmts_at i depth) returns) source.now i state.old.place state.new.place result }
 {
     let stmts = items(state, source, returns, depth)?;
     Ok(stmts.items)
@@ -95,7 +98,8 @@ fn braced_from<H: Handler>(
     depth: u32,
 ) -> Result<Vec<H::S>, ParseFault>
     requires { IsSource source.now }
-    ensures { (i : Interpretation) → Reads (StmtsOf (H.shows_stmt i)) (pure.braced_from (stmts_at i depth) returns) source.now i state.old.place state.new.place result }
+    ensures { (i : Interpretation) → Reads (StmtsOf (H.shows_stmt i))
+        (pure.braced_from (stmts_at i depth) returns) source.now i state.old.place state.new.place result }
 {
     let stmts = stmts_from(state, source, returns, depth)?;
     state.place.expect(source, mark::CLOSE_BRACE)?;
@@ -112,7 +116,8 @@ fn braced<H: Handler>(
     depth: u32,
 ) -> Result<Vec<H::S>, ParseFault>
     requires { IsSource source.now }
-    ensures { (i : Interpretation) → Reads (StmtsOf (H.shows_stmt i)) (pure.braced_of (stmts_at i depth) returns) source.now i state.old.place state.new.place result }
+    ensures { (i : Interpretation) → Reads (StmtsOf (H.shows_stmt i))
+        (pure.braced_of (stmts_at i depth) returns) source.now i state.old.place state.new.place result }
 {
     state.place.expect(source, mark::OPEN_BRACE)?;
     let stmts = braced_from(state, source, returns, depth)?;
@@ -129,7 +134,8 @@ fn block_stmt<H: Handler>(
     depth: u32,
 ) -> Result<StmtNode<H::S>, ParseFault>
     requires { IsSource source.now }
-    ensures { (i : Interpretation) → Reads (StmtOf (H.shows_stmt i)) (pure.block_stmt (block_at i depth) returns) source.now i state.old.place state.new.place result }
+    ensures { (i : Interpretation) → Reads (StmtOf (H.shows_stmt i))
+        (pure.block_stmt (block_at i depth) returns) source.now i state.old.place state.new.place result }
 {
     let items = braced_from(state, source, returns, depth)?;
     let node = state.handler.make_block(items)?;
@@ -149,7 +155,8 @@ fn else_part<H: Handler>(
     depth: u32,
 ) -> Result<Option<StmtNode<H::S>>, ParseFault>
     requires { IsSource source.now }
-    ensures { (i : Interpretation) → Reads (MaybeStmtOf (H.shows_stmt i)) (pure.else_of (block_at i depth) returns) source.now i state.old.place state.new.place result }
+    ensures { (i : Interpretation) → Reads (MaybeStmtOf (H.shows_stmt i))
+        (pure.else_of (block_at i depth) returns) source.now i state.old.place state.new.place result }
 {
     if !state.place.is_word(source, word::ELSE) {
         return Ok(None);
@@ -169,7 +176,8 @@ fn else_behind<H: Handler>(
     depth: u32,
 ) -> Result<Option<StmtNode<H::S>>, ParseFault>
     requires { IsSource source.now }
-    ensures { (i : Interpretation) (s : model.Stmt) → takes ≡ takes_else s → Reads (MaybeStmtOf (H.shows_stmt i)) (pure.else_behind (block_at i depth) returns s) source.now i state.old.place state.new.place result }
+    ensures { (i : Interpretation) (s : model.Stmt) → takes ≡ takes_else s
+        → Reads (MaybeStmtOf (H.shows_stmt i)) (pure.else_behind (block_at i depth) returns s) source.now i state.old.place state.new.place result }
 {
     if takes {
         return Ok(None);
@@ -185,7 +193,10 @@ fn make_if<H: Handler>(
     no: Option<StmtNode<H::S>>,
 ) -> Result<StmtNode<H::S>, ParseFault>
     ensures place { state.new.place ≡ state.old.place }
-    ensures makes { (i : Interpretation) (t : model.Expr) (s : model.Stmt) (o : Option model.Stmt) → H.shows_expr i test t → H.shows_stmt i yes s → ShowMaybeStmt (H.shows_stmt i) no o → Makes result (λ v. H.shows_stmt i v.node (model.If t s (list.maybe_stmt_of o)) × (v.takes_else ≡ takes_else (model.If t s (list.maybe_stmt_of o)))) }
+    ensures makes { (i : Interpretation) (t : model.Expr) (s : model.Stmt) (o : Option model.Stmt) → H.shows_expr i test t
+        → H.shows_stmt i yes s → ShowMaybeStmt (H.shows_stmt i) no o
+        → Makes result (λ v. H.shows_stmt i v.node (model.If t s (list.maybe_stmt_of o))
+        × (v.takes_else ≡ takes_else (model.If t s (list.maybe_stmt_of o)))) }
 {
     match no {
         None => {
@@ -213,7 +224,8 @@ fn if_from<H: Handler>(
     depth: u32,
 ) -> Result<StmtNode<H::S>, ParseFault>
     requires { IsSource source.now }
-    ensures { (i : Interpretation) → Reads (StmtOf (H.shows_stmt i)) (pure.if_of (block_at i depth) returns) source.now i state.old.place state.new.place result }
+    ensures { (i : Interpretation) → Reads (StmtOf (H.shows_stmt i))
+        (pure.if_of (block_at i depth) returns) source.now i state.old.place state.new.place result }
 {
     let test = parens(state, source, depth)?;
     let yes = stmt(state, source, Position::Alone { returns }, depth)?;
@@ -231,7 +243,8 @@ fn try_from<H: Handler>(
     depth: u32,
 ) -> Result<StmtNode<H::S>, ParseFault>
     requires { IsSource source.now }
-    ensures { (i : Interpretation) → Reads (StmtOf (H.shows_stmt i)) (pure.try_of (block_at i depth) returns) source.now i state.old.place state.new.place result }
+    ensures { (i : Interpretation) → Reads (StmtOf (H.shows_stmt i))
+        (pure.try_of (block_at i depth) returns) source.now i state.old.place state.new.place result }
 {
     let body = braced(state, source, returns, depth)?;
     expect_word(&mut state.place, source, word::CATCH)?;
@@ -254,7 +267,8 @@ fn labelled<H: Handler>(
     depth: u32,
 ) -> Result<StmtNode<H::S>, ParseFault>
     requires { IsSource source.now }
-    ensures { (i : Interpretation) → Reads (StmtOf (H.shows_stmt i)) (pure.labelled_of (block_at i depth) returns) source.now i state.old.place state.new.place result }
+    ensures { (i : Interpretation) → Reads (StmtOf (H.shows_stmt i))
+        (pure.labelled_of (block_at i depth) returns) source.now i state.old.place state.new.place result }
 {
     let name = label(state, source, depth)?;
     state.place.expect(source, mark::COLON)?;
@@ -274,7 +288,8 @@ fn plain_stmt<H: Handler>(
     depth: u32,
 ) -> Result<StmtNode<H::S>, ParseFault>
     requires { IsSource source.now }
-    ensures { (i : Interpretation) → Reads (StmtOf (H.shows_stmt i)) (pure.plain_stmt (block_at i depth) returns) source.now i state.old.place state.new.place result }
+    ensures { (i : Interpretation) → Reads (StmtOf (H.shows_stmt i))
+        (pure.plain_stmt (block_at i depth) returns) source.now i state.old.place state.new.place result }
 {
     if is_label(&state.place, source) {
         return labelled(state, source, returns, depth);
@@ -299,7 +314,8 @@ fn jump_stmt<H: Handler>(
     depth: u32,
 ) -> Result<StmtNode<H::S>, ParseFault>
     requires { IsSource source.now }
-    ensures { (i : Interpretation) → Reads (StmtOf (H.shows_stmt i)) (pure.jump_stmt (block_at i depth) (place_of position)) source.now i state.old.place state.new.place result }
+    ensures { (i : Interpretation) → Reads (StmtOf (H.shows_stmt i))
+        (pure.jump_stmt (block_at i depth) (place_of position)) source.now i state.old.place state.new.place result }
 {
     let at = state.place.token(source).start;
     if state.place.is_word(source, word::CONTINUE) {
@@ -331,7 +347,8 @@ fn declaration_stmt<H: Handler>(
     depth: u32,
 ) -> Result<StmtNode<H::S>, ParseFault>
     requires { IsSource source.now }
-    ensures { (i : Interpretation) → Reads (StmtOf (H.shows_stmt i)) (pure.declaration_stmt (block_at i depth) (place_of position)) source.now i state.old.place state.new.place result }
+    ensures { (i : Interpretation) → Reads (StmtOf (H.shows_stmt i))
+        (pure.declaration_stmt (block_at i depth) (place_of position)) source.now i state.old.place state.new.place result }
 {
     if state.place.is_word(source, word::VAR) {
         state.place.step(source);
@@ -362,7 +379,8 @@ fn nested_stmt<H: Handler>(
     depth: u32,
 ) -> Result<StmtNode<H::S>, ParseFault>
     requires { IsSource source.now }
-    ensures { (i : Interpretation) → Reads (StmtOf (H.shows_stmt i)) (pure.nested_stmt (block_at i depth) (place_of position)) source.now i state.old.place state.new.place result }
+    ensures { (i : Interpretation) → Reads (StmtOf (H.shows_stmt i))
+        (pure.nested_stmt (block_at i depth) (place_of position)) source.now i state.old.place state.new.place result }
 {
     if state.place.is_word(source, word::IF) {
         state.place.step(source);
@@ -401,7 +419,8 @@ fn stmt_in<H: Handler>(
     depth: u32,
 ) -> Result<StmtNode<H::S>, ParseFault>
     requires { IsSource source.now }
-    ensures { (i : Interpretation) → Reads (StmtOf (H.shows_stmt i)) (pure.stmt_of (block_at i depth) (place_of position)) source.now i state.old.place state.new.place result }
+    ensures { (i : Interpretation) → Reads (StmtOf (H.shows_stmt i))
+        (pure.stmt_of (block_at i depth) (place_of position)) source.now i state.old.place state.new.place result }
 {
     if state.place.is_mark(source, mark::OPEN_BRACE) {
         state.place.step(source);
@@ -427,7 +446,8 @@ pub fn stmt<H: Handler>(
     depth: u32,
 ) -> Result<StmtNode<H::S>, ParseFault>
     requires { IsSource source.now }
-    ensures { (i : Interpretation) → Reads (StmtOf (H.shows_stmt i)) (stmts_at i depth (place_of position)) source.now i state.old.place state.new.place result }
+    ensures { (i : Interpretation) → Reads (StmtOf (H.shows_stmt i))
+        (stmts_at i depth (place_of position)) source.now i state.old.place state.new.place result }
 {
     if depth >= DEPTH_LIMIT {
         let begins = begins_stmt(position, state.place.kind(source));

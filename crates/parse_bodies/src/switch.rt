@@ -33,7 +33,8 @@ fn case_clause<H: Handler>(
     depth: u32,
 ) -> Result<NodeClause<H::E, H::S>, ParseFault>
     requires { IsSource source.now }
-    ensures { (i : Interpretation) → Reads (ClauseOf (H.shows_expr i) (H.shows_stmt i)) (pure.case_of (block_at i depth) returns) source.now i state.old.place state.new.place result }
+    ensures { (i : Interpretation) → Reads (ClauseOf (H.shows_expr i) (H.shows_stmt i))
+        (pure.case_of (block_at i depth) returns) source.now i state.old.place state.new.place result }
 {
     let test = state.expr(source, true, depth)?;
     state.place.expect(source, mark::COLON)?;
@@ -54,7 +55,8 @@ fn default_clause<H: Handler>(
     depth: u32,
 ) -> Result<NodeClause<H::E, H::S>, ParseFault>
     requires { IsSource source.now }
-    ensures { (i : Interpretation) → Reads (ClauseOf (H.shows_expr i) (H.shows_stmt i)) (pure.default_of (block_at i depth) returns) source.now i state.old.place state.new.place result }
+    ensures { (i : Interpretation) → Reads (ClauseOf (H.shows_expr i) (H.shows_stmt i))
+        (pure.default_of (block_at i depth) returns) source.now i state.old.place state.new.place result }
 {
     state.place.expect(source, mark::COLON)?;
     let items = stmts_from(state, source, returns, depth)?;
@@ -71,7 +73,8 @@ fn case_turn<H: Handler>(
     depth: u32,
 ) -> Result<Turned<NodeClause<H::E, H::S>, ()>, ParseFault>
     requires { IsSource source.now }
-    ensures { (i : Interpretation) → Reads (TurnOf (ClauseOf (H.shows_expr i) (H.shows_stmt i)) Itself) (pure.case_turn (block_at i depth) returns) source.now i state.old.place state.new.place result }
+    ensures { (i : Interpretation) → Reads (TurnOf (ClauseOf (H.shows_expr i) (H.shows_stmt i)) Itself)
+        (pure.case_turn (block_at i depth) returns) source.now i state.old.place state.new.place result }
 {
     if !state.place.is_word(source, word::CASE) {
         return Ok(Turned::Last(()));
@@ -90,7 +93,8 @@ fn cases<H: Handler>(
     depth: u32,
 ) -> Result<Items<NodeClause<H::E, H::S>, ()>, ParseFault>
     requires { IsSource source.now }
-    ensures { (i : Interpretation) → Reads (ItemsOf (ShowClause (H.shows_expr i) (H.shows_stmt i)) Itself) (loop (pure.case_turn (block_at i depth) returns)) source.now i state.old.place state.new.place result }
+    ensures { (i : Interpretation) → Reads (ItemsOf (ShowClause (H.shows_expr i) (H.shows_stmt i)) Itself)
+        (loop (pure.case_turn (block_at i depth) returns)) source.now i state.old.place state.new.place result }
 {
     let mut items = Vec::new(state.alloc);
     loop {
@@ -111,7 +115,9 @@ fn clause_turn<H: Handler>(
     depth: u32,
 ) -> Result<Turned<NodeClause<H::E, H::S>, Option<NodeClause<H::E, H::S>>>, ParseFault>
     requires { IsSource source.now }
-    ensures { (i : Interpretation) → Reads (TurnOf (ClauseOf (H.shows_expr i) (H.shows_stmt i)) (MaybeClauseOf (H.shows_expr i) (H.shows_stmt i))) (pure.clause_turn (block_at i depth) returns) source.now i state.old.place state.new.place result }
+    ensures { (i : Interpretation) → Reads (TurnOf (ClauseOf (H.shows_expr i) (H.shows_stmt i))
+        (MaybeClauseOf (H.shows_expr i) (H.shows_stmt i))) (pure.clause_turn
+        (block_at i depth) returns) source.now i state.old.place state.new.place result }
 {
     if state.place.is_word(source, word::CASE) {
         state.place.step(source);
@@ -135,7 +141,9 @@ fn clauses_to_default<H: Handler>(
     depth: u32,
 ) -> Result<Items<NodeClause<H::E, H::S>, Option<NodeClause<H::E, H::S>>>, ParseFault>
     requires { IsSource source.now }
-    ensures { (i : Interpretation) → Reads (ItemsOf (ShowClause (H.shows_expr i) (H.shows_stmt i)) (MaybeClauseOf (H.shows_expr i) (H.shows_stmt i))) (loop (pure.clause_turn (block_at i depth) returns)) source.now i state.old.place state.new.place result }
+    ensures { (i : Interpretation) → Reads (ItemsOf (ShowClause (H.shows_expr i) (H.shows_stmt i))
+        (MaybeClauseOf (H.shows_expr i) (H.shows_stmt i))) (loop
+        (pure.clause_turn (block_at i depth) returns)) source.now i state.old.place state.new.place result }
 {
     let mut items = Vec::new(state.alloc);
     loop {
@@ -165,7 +173,9 @@ fn behind_default<H: Handler>(
     depth: u32,
 ) -> Result<Vec<NodeClause<H::E, H::S>>, ParseFault>
     requires { IsSource source.now }
-    ensures { (i : Interpretation) (c : list.Clause) → ShowClause (H.shows_expr i) (H.shows_stmt i) default c → Reads (ListOf (ShowClause (H.shows_expr i) (H.shows_stmt i))) (pure.more_clauses (block_at i depth) returns (Some c)) source.now i state.old.place state.new.place result }
+    ensures { (i : Interpretation) (c : list.Clause) → ShowClause (H.shows_expr i) (H.shows_stmt i) default c
+        → Reads (ListOf (ShowClause (H.shows_expr i) (H.shows_stmt i)))
+        (pure.more_clauses (block_at i depth) returns (Some c)) source.now i state.old.place state.new.place result }
 {
     let mut first = Vec::new(state.alloc);
     first.push(default)?;
@@ -184,7 +194,9 @@ fn more_clauses<H: Handler>(
     depth: u32,
 ) -> Result<Vec<NodeClause<H::E, H::S>>, ParseFault>
     requires { IsSource source.now }
-    ensures { (i : Interpretation) (o : Option list.Clause) → ShowMaybe (ShowClause (H.shows_expr i) (H.shows_stmt i)) default o → Reads (ListOf (ShowClause (H.shows_expr i) (H.shows_stmt i))) (pure.more_clauses (block_at i depth) returns o) source.now i state.old.place state.new.place result }
+    ensures { (i : Interpretation) (o : Option list.Clause) → ShowMaybe (ShowClause (H.shows_expr i) (H.shows_stmt i)) default o
+        → Reads (ListOf (ShowClause (H.shows_expr i) (H.shows_stmt i)))
+        (pure.more_clauses (block_at i depth) returns o) source.now i state.old.place state.new.place result }
 {
     match default {
         None => Ok(Vec::new(state.alloc)),
@@ -202,7 +214,8 @@ fn clauses_from<H: Handler>(
     depth: u32,
 ) -> Result<Vec<NodeClause<H::E, H::S>>, ParseFault>
     requires { IsSource source.now }
-    ensures { (i : Interpretation) → Reads (ListOf (ShowClause (H.shows_expr i) (H.shows_stmt i))) (pure.clauses_from (block_at i depth) returns) source.now i state.old.place state.new.place result }
+    ensures { (i : Interpretation) → Reads (ListOf (ShowClause (H.shows_expr i) (H.shows_stmt i)))
+        (pure.clauses_from (block_at i depth) returns) source.now i state.old.place state.new.place result }
 {
     let read = clauses_to_default(state, source, returns, depth)?;
     let more = more_clauses(state, source, returns, read.last, depth)?;
@@ -219,7 +232,8 @@ pub fn switch_from<H: Handler>(
     depth: u32,
 ) -> Result<StmtNode<H::S>, ParseFault>
     requires { IsSource source.now }
-    ensures { (i : Interpretation) → Reads (StmtOf (H.shows_stmt i)) (pure.switch_of (block_at i depth) returns) source.now i state.old.place state.new.place result }
+    ensures { (i : Interpretation) → Reads (StmtOf (H.shows_stmt i))
+        (pure.switch_of (block_at i depth) returns) source.now i state.old.place state.new.place result }
 {
     let of = parens(state, source, depth)?;
     state.place.expect(source, mark::OPEN_BRACE)?;

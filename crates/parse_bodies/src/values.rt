@@ -28,7 +28,8 @@ pub fn parens<H: Handler>(
     depth: u32,
 ) -> Result<H::E, ParseFault>
     requires { IsSource source.now }
-    ensures { (i : Interpretation) → Reads (NodeOf (H.shows_expr i)) (pure.parens_of (env_at i depth)) source.now i state.old.place state.new.place result }
+    ensures { (i : Interpretation) → Reads (NodeOf (H.shows_expr i))
+        (pure.parens_of (env_at i depth)) source.now i state.old.place state.new.place result }
 {
     state.place.expect(source, mark::OPEN_PAREN)?;
     let value = state.expr(source, true, depth)?;
@@ -44,7 +45,8 @@ pub fn value<H: Handler>(
     depth: u32,
 ) -> Result<StmtNode<H::S>, ParseFault>
     requires { IsSource source.now }
-    ensures { (i : Interpretation) → Reads (StmtOf (H.shows_stmt i)) (pure.value_stmt (env_at i depth)) source.now i state.old.place state.new.place result }
+    ensures { (i : Interpretation) → Reads (StmtOf (H.shows_stmt i))
+        (pure.value_stmt (env_at i depth)) source.now i state.old.place state.new.place result }
 {
     let value = state.expr(source, true, depth)?;
     let semi = semi(&mut state.place, source, StmtEnding::Value(value.ending))?;
@@ -63,7 +65,8 @@ fn returned<H: Handler>(
     depth: u32,
 ) -> Result<Option<Ranked<H::E>>, ParseFault>
     requires { IsSource source.now }
-    ensures { (i : Interpretation) → Reads (ReturnedOf (H.shows_expr i)) (pure.returned_of (env_at i depth)) source.now i state.old.place state.new.place result }
+    ensures { (i : Interpretation) → Reads (ReturnedOf (H.shows_expr i))
+        (pure.returned_of (env_at i depth)) source.now i state.old.place state.new.place result }
 {
     if ends_return(&state.place, source) {
         return Ok(None);
@@ -100,7 +103,8 @@ pub fn return_from<H: Handler>(
     depth: u32,
 ) -> Result<StmtNode<H::S>, ParseFault>
     requires { IsSource source.now }
-    ensures { (i : Interpretation) → Reads (StmtOf (H.shows_stmt i)) (pure.return_of (env_at i depth)) source.now i state.old.place state.new.place result }
+    ensures { (i : Interpretation) → Reads (StmtOf (H.shows_stmt i))
+        (pure.return_of (env_at i depth)) source.now i state.old.place state.new.place result }
 {
     let value = returned(state, source, depth)?;
     let ending = return_ending(&value);
@@ -120,7 +124,8 @@ fn thrown<H: Handler>(
     depth: u32,
 ) -> Result<Ranked<H::E>, ParseFault>
     requires { IsSource source.now }
-    ensures { (i : Interpretation) → Reads (RankedOf (H.shows_expr i)) (pure.thrown_of (env_at i depth)) source.now i state.old.place state.new.place result }
+    ensures { (i : Interpretation) → Reads (RankedOf (H.shows_expr i))
+        (pure.thrown_of (env_at i depth)) source.now i state.old.place state.new.place result }
 {
     if after_line(&state.place, source) {
         return Err(ParseFault::Unexpected {
@@ -138,7 +143,8 @@ pub fn throw_from<H: Handler>(
     depth: u32,
 ) -> Result<StmtNode<H::S>, ParseFault>
     requires { IsSource source.now }
-    ensures { (i : Interpretation) → Reads (StmtOf (H.shows_stmt i)) (pure.throw_of (env_at i depth)) source.now i state.old.place state.new.place result }
+    ensures { (i : Interpretation) → Reads (StmtOf (H.shows_stmt i))
+        (pure.throw_of (env_at i depth)) source.now i state.old.place state.new.place result }
 {
     let value = thrown(state, source, depth)?;
     let semi = semi(&mut state.place, source, StmtEnding::Value(value.ending))?;
@@ -157,7 +163,8 @@ pub fn declared<H: Handler>(
     depth: u32,
 ) -> Result<StmtNode<H::S>, ParseFault>
     requires { IsSource source.now }
-    ensures { (i : Interpretation) → Reads (StmtOf (H.shows_stmt i)) (pure.declared_of (env_at i depth)) source.now i state.old.place state.new.place result }
+    ensures { (i : Interpretation) → Reads (StmtOf (H.shows_stmt i))
+        (pure.declared_of (env_at i depth)) source.now i state.old.place state.new.place result }
 {
     let name = state.place.name(source)?;
     let func = state.function(source, FuncForm::Function, Some(name), depth)?;
@@ -177,7 +184,8 @@ pub fn option<H: Handler>(
     depth: u32,
 ) -> Result<Option<H::E>, ParseFault>
     requires { IsSource source.now }
-    ensures { (i : Interpretation) → Reads (MaybeOf (H.shows_expr i)) (pure.option_of (env_at i depth) mark) source.now i state.old.place state.new.place result }
+    ensures { (i : Interpretation) → Reads (MaybeOf (H.shows_expr i))
+        (pure.option_of (env_at i depth) mark) source.now i state.old.place state.new.place result }
 {
     if state.place.is_mark(source, mark) {
         return Ok(None);

@@ -39,7 +39,8 @@ fn pending_body<H: Handler>(
 ) -> Result<BodyNode<H::B>, ParseFault>
     requires source { IsSource source.now }
     requires none { state.old.place.pending.items ≡ [] }
-    ensures { (i : Interpretation) → Answers (BodyOf (H.shows_body i)) source.now i state.new.place result [] (pure.reading (stmts_at i pending.depth) pending.form 0 pending.simple (front source.now i pending.token)) }
+    ensures { (i : Interpretation) → Answers (BodyOf (H.shows_body i)) source.now i state.new.place result []
+        (pure.reading (stmts_at i pending.depth) pending.form 0 pending.simple (front source.now i pending.token)) }
 {
     state.place.at = pending.token;
     body(state, source, pending.depth)

@@ -39,7 +39,8 @@ Refuses s i p faults.NoMemory rs reply = Unit {0}
 
 -- What the code answered is the reply, unless memory ran out: p is the place where it stands then, and `gives e k` says that
 -- e stands for some value of which the fact k holds.
-abbrev pub Answers : {E A : Type 0} → (E → (A → Type 0) → Type 0) → Source → Interpretation → Cursor → Result E ParseFault → List Recorded → Reply A → Type 0
+abbrev pub Answers : {E A : Type 0} → (E → (A → Type 0) → Type 0) → Source → Interpretation → Cursor → Result E ParseFault → List Recorded
+    → Reply A → Type 0
 Answers gives s i p (Ok e) rs reply = gives e (λ a. ReadAs rs reply a (records s i p) (front s i p.at))
 Answers gives s i p (Err e) rs reply = Refuses s i p e rs reply
 

@@ -77,7 +77,8 @@ EndsOf {A = A} shows ends v k = (xs : List A) × ShowAll shows v.items.items xs 
 
 -- the operands after an expression that ends so, and how what ends with them ends
 abbrev pub OperandsOf : {E : Type 0} → (E → Expr → Type 0) → pieces.Ending → Items (NodeOperand E) Ending → (List Operand → Type 0) → Type 0
-OperandsOf shows e v k = (os : List Operand) × ShowAll (ShowOperand shows) v.items.items os × (ending_as v.last ≡ operands_ending e (operands_of os)) × k os
+OperandsOf shows e v k = (os : List Operand) × ShowAll (ShowOperand shows) v.items.items os
+    × (ending_as v.last ≡ operands_ending e (operands_of os)) × k os
 
 -- an expression that may begin a chain, and ends with no arrow and no operator
 abbrev pub AtomOf : {E : Type 0} → (E → Expr → Type 0) → E → (Expr → Type 0) → Type 0
@@ -96,13 +97,16 @@ ParamsEndOf i ends.Trailing k = k pure.Trailing
 ParamsEndOf i (ends.Rest n) k = k (pure.Rest (named i n))
 
 abbrev pub ParamsOf : {E : Type 0} → Interpretation → (E → Expr → Type 0) → Params E → (pure.Head → Type 0) → Type 0
-ParamsOf i shows v k = (ps : List Param) × ShowAll (ShowParam i shows) v.params.items ps × k (record { start = v.start; params = ps; comma = v.comma; bare = v.bare })
+ParamsOf i shows v k = (ps : List Param) × ShowAll (ShowParam i shows) v.params.items ps
+    × k (record { start = v.start; params = ps; comma = v.comma; bare = v.bare })
 
 abbrev pub SpannedOf : {E : Type 0} → (E → Expr → Type 0) → Spanned E → (pure.Spanned Expr → Type 0) → Type 0
 SpannedOf shows v k = (t : Expr) × shows v.value t × (ending_as v.ending ≡ ending t) × k (record { value = t; end = v.end })
 
-abbrev pub ArrowBodyOf : {E B : Type 0} → Interpretation → (E → Expr → Type 0) → (B → Stmts → Type 0) → (start : ℕ) → ArrowBody E B → (pure.BodyRead → Type 0) → Type 0
-ArrowBodyOf i shows shows_body start v k = FuncBodyOf i shows shows_body start v.body (λ b. (ending_as v.ending ≡ body_ending b) × k (record { body = b; end = v.end }))
+abbrev pub ArrowBodyOf : {E B : Type 0} → Interpretation → (E → Expr → Type 0) → (B → Stmts → Type 0) → (start : ℕ) → ArrowBody E B
+    → (pure.BodyRead → Type 0) → Type 0
+ArrowBodyOf i shows shows_body start v k = FuncBodyOf i shows shows_body start v.body
+    (λ b. (ending_as v.ending ≡ body_ending b) × k (record { body = b; end = v.end }))
 
 -- the offset where a body ends that was passed over
 abbrev pub PassedOf : Interpretation → (start : ℕ) → ℕ → (pure.BodyRead → Type 0) → Type 0

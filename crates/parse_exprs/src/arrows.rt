@@ -47,7 +47,8 @@ impl<H: Handler> State<H> {
         depth: u32,
     ) -> Result<Turned<NodeParam<H::E>, ParamsEnd>, ParseFault>
         requires { IsSource source.now }
-        ensures { (i : Interpretation) → Reads (TurnOf (ParamOf i (H.shows_expr i)) (ParamsEndOf i)) (pure.arrow_first (env_at i depth)) source.now i self.old.place self.new.place result }
+        ensures { (i : Interpretation) → Reads (TurnOf (ParamOf i (H.shows_expr i)) (ParamsEndOf i))
+            (pure.arrow_first (env_at i depth)) source.now i self.old.place self.new.place result }
     {
         if self.place.is_mark(source, mark::ELLIPSIS) {
             let name = self.rest_call(source, depth)?;
@@ -65,7 +66,8 @@ impl<H: Handler> State<H> {
         depth: u32,
     ) -> Result<Turned<NodeParam<H::E>, ParamsEnd>, ParseFault>
         requires { IsSource source.now }
-        ensures { (i : Interpretation) → Reads (TurnOf (ParamOf i (H.shows_expr i)) (ParamsEndOf i)) (pure.arrow_turn (env_at i depth)) source.now i self.old.place self.new.place result }
+        ensures { (i : Interpretation) → Reads (TurnOf (ParamOf i (H.shows_expr i)) (ParamsEndOf i))
+            (pure.arrow_turn (env_at i depth)) source.now i self.old.place self.new.place result }
     {
         if !self.place.is_mark(source, mark::COMMA) {
             return Ok(Turned::Last(ParamsEnd::Plain));
@@ -85,7 +87,9 @@ impl<H: Handler> State<H> {
         depth: u32,
     ) -> Result<Items<NodeParam<H::E>, ParamsEnd>, ParseFault>
         requires { IsSource source.now }
-        ensures { (i : Interpretation) → (t : part.Param) → ShowParam i (H.shows_expr i) first t → Reads (ItemsOf (ShowParam i (H.shows_expr i)) (ParamsEndOf i)) (led (pure.arrow_turn (env_at i depth)) t) source.now i self.old.place self.new.place result }
+        ensures { (i : Interpretation) → (t : part.Param) → ShowParam i (H.shows_expr i) first t
+            → Reads (ItemsOf (ShowParam i (H.shows_expr i)) (ParamsEndOf i))
+            (led (pure.arrow_turn (env_at i depth)) t) source.now i self.old.place self.new.place result }
     {
         let mut items = Vec::new(self.alloc);
         items.push(first)?;
@@ -105,7 +109,8 @@ impl<H: Handler> State<H> {
         depth: u32,
     ) -> Result<Items<NodeParam<H::E>, ParamsEnd>, ParseFault>
         requires { IsSource source.now }
-        ensures { (i : Interpretation) → Reads (ItemsOf (ShowParam i (H.shows_expr i)) (ParamsEndOf i)) (pure.arrow_params (env_at i depth)) source.now i self.old.place self.new.place result }
+        ensures { (i : Interpretation) → Reads (ItemsOf (ShowParam i (H.shows_expr i)) (ParamsEndOf i))
+            (pure.arrow_params (env_at i depth)) source.now i self.old.place self.new.place result }
     {
         if self.place.is_mark(source, mark::CLOSE_PAREN) {
             return Ok(Items {
@@ -126,7 +131,8 @@ impl<H: Handler> State<H> {
     pub fn bare(&self, token: Token) -> Result<Params<H::E>, ParseFault>
         requires name { test.is_name token.kind ≡ true }
         requires atom { HasAtom token }
-        ensures { (i : Interpretation) (get set : ℕ) → Makes result (λ p. ParamsOf i (H.shows_expr i) p (λ h. pure.bare_head (lexeme_of get set i.texts token) ≡ h)) }
+        ensures { (i : Interpretation) (get set : ℕ) → Makes result
+            (λ p. ParamsOf i (H.shows_expr i) p (λ h. pure.bare_head (lexeme_of get set i.texts token) ≡ h)) }
     {
         let mut params = Vec::new(self.alloc);
         params.push(NodeParam {
@@ -146,7 +152,8 @@ impl<H: Handler> State<H> {
     #[tactic(auto, unfolding(grammar_parser_specs::specs::Exprs::arrow_head, grammar_parser_specs::specs::Exprs::arrow_listed))]
     fn arrow_head(&mut self, source: &Source, depth: u32) -> Result<Params<H::E>, ParseFault>
         requires { IsSource source.now }
-        ensures { (i : Interpretation) → Reads (ParamsOf i (H.shows_expr i)) (pure.arrow_head (env_at i depth)) source.now i self.old.place self.new.place result }
+        ensures { (i : Interpretation) → Reads (ParamsOf i (H.shows_expr i))
+            (pure.arrow_head (env_at i depth)) source.now i self.old.place self.new.place result }
     {
         let token = self.place.token(source);
         if kinds::is_name(token.kind) {
@@ -173,7 +180,8 @@ impl<H: Handler> State<H> {
         depth: u32,
     ) -> Result<Ranked<H::E>, ParseFault>
         requires { IsSource source.now }
-        ensures { (i : Interpretation) → Reads (RankedOf (H.shows_expr i)) (pure.arrow_of (env_at i depth) with_in) source.now i self.old.place self.new.place result }
+        ensures { (i : Interpretation) → Reads (RankedOf (H.shows_expr i))
+            (pure.arrow_of (env_at i depth) with_in) source.now i self.old.place self.new.place result }
     {
         let head = self.arrow_head(source, depth)?;
         self.place.arrow_mark(source)?;
@@ -209,7 +217,9 @@ impl<H: Handler> State<H> {
         depth: u32,
     ) -> Result<ArrowBody<H::E, H::B>, ParseFault>
         requires { IsSource source.now }
-        ensures { (i : Interpretation) → (h : pure.Head) → start ≡ h.start → simple ≡ pure.is_simple h.params → Reads (ArrowBodyOf i (H.shows_expr i) (H.shows_body i) start) (pure.arrow_body (env_at i depth) with_in h) source.now i self.old.place self.new.place result }
+        ensures { (i : Interpretation) → (h : pure.Head) → start ≡ h.start → simple ≡ pure.is_simple h.params
+            → Reads (ArrowBodyOf i (H.shows_expr i) (H.shows_body i) start)
+            (pure.arrow_body (env_at i depth) with_in h) source.now i self.old.place self.new.place result }
     {
         if self.place.is_mark(source, mark::OPEN_BRACE) {
             let end = self

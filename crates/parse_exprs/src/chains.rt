@@ -45,7 +45,8 @@ impl<H: Handler> State<H> {
         requires is { pure.is_atom token.kind ≡ true }
         requires small { HasAtom token }
         ensures place { self.new.place ≡ self.old.place }
-        ensures makes { (i : Interpretation) (get set : ℕ) → Makes result (λ e. H.shows_expr i e (pure.atom_case token.kind (lexeme_of get set i.texts token))) }
+        ensures makes { (i : Interpretation) (get set : ℕ)
+            → Makes result (λ e. H.shows_expr i e (pure.atom_case token.kind (lexeme_of get set i.texts token))) }
     {
         match token.kind {
             Kind::Name => Ok(self.handler.make_name(token::ident(token))?),
@@ -70,7 +71,8 @@ impl<H: Handler> State<H> {
     #[tactic(auto, unfolding(grammar_parser_specs::specs::Exprs::prim_of))]
     fn prim(&mut self, source: &Source, heads: bool, depth: u32) -> Result<H::E, ParseFault>
         requires { IsSource source.now }
-        ensures { (i : Interpretation) → Reads (AtomOf (H.shows_expr i)) (pure.prim_of (env_at i depth) heads) source.now i self.old.place self.new.place result }
+        ensures { (i : Interpretation) → Reads (AtomOf (H.shows_expr i))
+            (pure.prim_of (env_at i depth) heads) source.now i self.old.place self.new.place result }
     {
         let token = self.place.token(source);
         if kinds::is_atom(token.kind) {
@@ -127,7 +129,8 @@ impl<H: Handler> State<H> {
         depth: u32,
     ) -> Result<Turned<NodeTail<H::E>, ()>, ParseFault>
         requires { IsSource source.now }
-        ensures { (i : Interpretation) → Reads (TurnOf (TailOf i (H.shows_expr i)) Itself) (pure.member_turn (env_at i depth)) source.now i self.old.place self.new.place result }
+        ensures { (i : Interpretation) → Reads (TurnOf (TailOf i (H.shows_expr i)) Itself)
+            (pure.member_turn (env_at i depth)) source.now i self.old.place self.new.place result }
     {
         if self.place.is_mark(source, mark::DOT) {
             self.place.step(source);
@@ -151,7 +154,8 @@ impl<H: Handler> State<H> {
         depth: u32,
     ) -> Result<Turned<NodeTail<H::E>, ()>, ParseFault>
         requires { IsSource source.now }
-        ensures { (i : Interpretation) → Reads (TurnOf (TailOf i (H.shows_expr i)) Itself) (pure.tail_turn (env_at i depth)) source.now i self.old.place self.new.place result }
+        ensures { (i : Interpretation) → Reads (TurnOf (TailOf i (H.shows_expr i)) Itself)
+            (pure.tail_turn (env_at i depth)) source.now i self.old.place self.new.place result }
     {
         if self.place.is_mark(source, mark::OPEN_PAREN) {
             self.place.step(source);
@@ -168,7 +172,8 @@ impl<H: Handler> State<H> {
         depth: u32,
     ) -> Result<Items<NodeTail<H::E>, ()>, ParseFault>
         requires { IsSource source.now }
-        ensures { (i : Interpretation) → Reads (ItemsOf (ShowTail i (H.shows_expr i)) Itself) (loop (pure.member_turn (env_at i depth))) source.now i self.old.place self.new.place result }
+        ensures { (i : Interpretation) → Reads (ItemsOf (ShowTail i (H.shows_expr i)) Itself)
+            (loop (pure.member_turn (env_at i depth))) source.now i self.old.place self.new.place result }
     {
         let mut items = Vec::new(self.alloc);
         loop {
@@ -186,7 +191,8 @@ impl<H: Handler> State<H> {
         depth: u32,
     ) -> Result<Items<NodeTail<H::E>, ()>, ParseFault>
         requires { IsSource source.now }
-        ensures { (i : Interpretation) → Reads (ItemsOf (ShowTail i (H.shows_expr i)) Itself) (loop (pure.tail_turn (env_at i depth))) source.now i self.old.place self.new.place result }
+        ensures { (i : Interpretation) → Reads (ItemsOf (ShowTail i (H.shows_expr i)) Itself)
+            (loop (pure.tail_turn (env_at i depth))) source.now i self.old.place self.new.place result }
     {
         let mut items = Vec::new(self.alloc);
         loop {
@@ -206,7 +212,8 @@ impl<H: Handler> State<H> {
         depth: u32,
     ) -> Result<Ranked<H::E>, ParseFault>
         requires { IsSource source.now }
-        ensures { (i : Interpretation) → Reads (RankedOf (H.shows_expr i)) (pure.new_or_prim (env_at i depth) heads) source.now i self.old.place self.new.place result }
+        ensures { (i : Interpretation) → Reads (RankedOf (H.shows_expr i))
+            (pure.new_or_prim (env_at i depth) heads) source.now i self.old.place self.new.place result }
     {
         if self.place.is_word(source, word::NEW) {
             return self.new(source, depth);
@@ -227,7 +234,8 @@ impl<H: Handler> State<H> {
         depth: u32,
     ) -> Result<Option<NodeArgs<H::E>>, ParseFault>
         requires { IsSource source.now }
-        ensures { (i : Interpretation) → Reads (MaybeArgsOf (H.shows_expr i)) (pure.new_args (env_at i depth)) source.now i self.old.place self.new.place result }
+        ensures { (i : Interpretation) → Reads (MaybeArgsOf (H.shows_expr i))
+            (pure.new_args (env_at i depth)) source.now i self.old.place self.new.place result }
     {
         if !self.place.is_mark(source, mark::OPEN_PAREN) {
             return Ok(None);
@@ -245,7 +253,8 @@ impl<H: Handler> State<H> {
         args: Option<NodeArgs<H::E>>,
     ) -> Result<Ranked<H::E>, ParseFault>
         ensures place { self.new.place ≡ self.old.place }
-        ensures makes { (i : Interpretation) (t : model.Expr) (o : Option part.Args) → H.shows_expr i callee t → ShowMaybe (ShowArgs (H.shows_expr i)) args o → Makes result (λ e. ShowRanked (H.shows_expr i) e (model.New at t (maybe_args_of o))) }
+        ensures makes { (i : Interpretation) (t : model.Expr) (o : Option part.Args) → H.shows_expr i callee t
+            → ShowMaybe (ShowArgs (H.shows_expr i)) args o → Makes result (λ e. ShowRanked (H.shows_expr i) e (model.New at t (maybe_args_of o))) }
     {
         let rank = if args.is_some() {
             Rank::Head
@@ -264,7 +273,8 @@ impl<H: Handler> State<H> {
     #[tactic(auto, unfolding(grammar_parser_specs::specs::Exprs::new_of, grammar_parser_specs::specs::Exprs::new_from))]
     pub(crate) fn new_in(&mut self, source: &Source, depth: u32) -> Result<Ranked<H::E>, ParseFault>
         requires { IsSource source.now }
-        ensures { (i : Interpretation) → Reads (RankedOf (H.shows_expr i)) (pure.new_of (env_at i depth)) source.now i self.old.place self.new.place result }
+        ensures { (i : Interpretation) → Reads (RankedOf (H.shows_expr i))
+            (pure.new_of (env_at i depth)) source.now i self.old.place self.new.place result }
     {
         let at = self.place.token(source).start;
         if !self.place.is_word(source, word::NEW) {
@@ -293,7 +303,8 @@ impl<H: Handler> State<H> {
         depth: u32,
     ) -> Result<Ranked<H::E>, ParseFault>
         requires { IsSource source.now }
-        ensures { (i : Interpretation) → Reads (RankedOf (H.shows_expr i)) (pure.left_of (env_at i depth) heads) source.now i self.old.place self.new.place result }
+        ensures { (i : Interpretation) → Reads (RankedOf (H.shows_expr i))
+            (pure.left_of (env_at i depth) heads) source.now i self.old.place self.new.place result }
     {
         let head = self.new_or_prim(source, heads, depth)?;
         if !head.rank.may_begin_chain() {

@@ -35,7 +35,8 @@ impl<H: Handler> State<H> {
         depth: u32,
     ) -> Result<Ranked<H::E>, ParseFault>
         requires { IsSource source.now }
-        ensures { (i : Interpretation) → Reads (RankedOf (H.shows_expr i)) ((env_at i depth).sub (AnAssign with_in)) source.now i self.old.place self.new.place result }
+        ensures { (i : Interpretation) → Reads (RankedOf (H.shows_expr i))
+            ((env_at i depth).sub (AnAssign with_in)) source.now i self.old.place self.new.place result }
     {
         if depth >= DEPTH_LIMIT {
             let kind = self.place.kind(source);
@@ -48,7 +49,8 @@ impl<H: Handler> State<H> {
     #[cycle(exprs)]
     pub(crate) fn prefix(&mut self, source: &Source, depth: u32) -> Result<Ranked<H::E>, ParseFault>
         requires { IsSource source.now }
-        ensures { (i : Interpretation) → Reads (RankedOf (H.shows_expr i)) ((env_at i depth).sub (APrefix)) source.now i self.old.place self.new.place result }
+        ensures { (i : Interpretation) → Reads (RankedOf (H.shows_expr i))
+            ((env_at i depth).sub (APrefix)) source.now i self.old.place self.new.place result }
     {
         if depth >= DEPTH_LIMIT {
             let kind = self.place.kind(source);
@@ -64,7 +66,8 @@ impl<H: Handler> State<H> {
     #[cycle(exprs)]
     pub(crate) fn new(&mut self, source: &Source, depth: u32) -> Result<Ranked<H::E>, ParseFault>
         requires { IsSource source.now }
-        ensures { (i : Interpretation) → Reads (RankedOf (H.shows_expr i)) ((env_at i depth).sub (ANew)) source.now i self.old.place self.new.place result }
+        ensures { (i : Interpretation) → Reads (RankedOf (H.shows_expr i))
+            ((env_at i depth).sub (ANew)) source.now i self.old.place self.new.place result }
     {
         if depth >= DEPTH_LIMIT {
             let kind = self.place.kind(source);
@@ -78,7 +81,8 @@ impl<H: Handler> State<H> {
     #[tactic(auto, unfolding(grammar_parser_specs::specs::Exprs::arrow_param))]
     pub fn param_call(&mut self, source: &Source, depth: u32) -> Result<NodeParam<H::E>, ParseFault>
         requires { IsSource source.now }
-        ensures { (i : Interpretation) → Reads (ParamOf i (H.shows_expr i)) ((env_at i depth).sub (AParam)) source.now i self.old.place self.new.place result }
+        ensures { (i : Interpretation) → Reads (ParamOf i (H.shows_expr i))
+            ((env_at i depth).sub (AParam)) source.now i self.old.place self.new.place result }
     {
         if depth >= DEPTH_LIMIT {
             let kind = self.place.kind(source);
@@ -108,7 +112,8 @@ impl<H: Handler> State<H> {
         depth: u32,
     ) -> Result<Turned<Ranked<H::E>, ()>, ParseFault>
         requires { IsSource source.now }
-        ensures { (i : Interpretation) → Reads (TurnOf (RankedOf (H.shows_expr i)) Itself) (pure.more_turn (env_at i depth) with_in) source.now i self.old.place self.new.place result }
+        ensures { (i : Interpretation) → Reads (TurnOf (RankedOf (H.shows_expr i)) Itself)
+            (pure.more_turn (env_at i depth) with_in) source.now i self.old.place self.new.place result }
     {
         if !self.place.is_mark(source, mark::COMMA) {
             return Ok(Turned::Last(()));
@@ -127,7 +132,8 @@ impl<H: Handler> State<H> {
         depth: u32,
     ) -> Result<Items<H::E, Ending>, ParseFault>
         requires { IsSource source.now }
-        ensures { (i : Interpretation) → Reads (EndsOf (H.shows_expr i) (λ ts. last_ending (ending_as ending) (exprs_of ts))) (loop (pure.more_turn (env_at i depth) with_in)) source.now i self.old.place self.new.place result }
+        ensures { (i : Interpretation) → Reads (EndsOf (H.shows_expr i) (λ ts. last_ending (ending_as ending) (exprs_of ts)))
+            (loop (pure.more_turn (env_at i depth) with_in)) source.now i self.old.place self.new.place result }
     {
         let mut items = Vec::new(self.alloc);
         let mut last = ending;
@@ -152,7 +158,8 @@ impl<H: Handler> State<H> {
         depth: u32,
     ) -> Result<Ranked<H::E>, ParseFault>
         requires { IsSource source.now }
-        ensures { (i : Interpretation) → Reads (RankedOf (H.shows_expr i)) (pure.expr_of (env_at i depth) with_in) source.now i self.old.place self.new.place result }
+        ensures { (i : Interpretation) → Reads (RankedOf (H.shows_expr i))
+            (pure.expr_of (env_at i depth) with_in) source.now i self.old.place self.new.place result }
     {
         let first = self.assign(source, with_in, depth)?;
         let more = self.more(source, with_in, first.ending, depth)?;
@@ -168,7 +175,8 @@ impl<H: Handler> State<H> {
         depth: u32,
     ) -> Result<Ranked<H::E>, ParseFault>
         requires { IsSource source.now }
-        ensures { (i : Interpretation) → Reads (RankedOf (H.shows_expr i)) (pure.assign_of (env_at i depth) with_in) source.now i self.old.place self.new.place result }
+        ensures { (i : Interpretation) → Reads (RankedOf (H.shows_expr i))
+            (pure.assign_of (env_at i depth) with_in) source.now i self.old.place self.new.place result }
     {
         if self.place.is_arrow_head(source) {
             return self.arrow(source, with_in, depth);

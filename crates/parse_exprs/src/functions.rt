@@ -29,7 +29,8 @@ impl<H: Handler> State<H> {
         depth: u32,
     ) -> Result<NodeFunc<H::E, H::B>, ParseFault>
         requires { IsSource source.now }
-        ensures { (i : Interpretation) → Reads (FuncOf i (H.shows_expr i) (H.shows_body i)) (pure.function_of (env_at i depth) form (maybe_named i name)) source.now i self.old.place self.new.place result }
+        ensures { (i : Interpretation) → Reads (FuncOf i (H.shows_expr i) (H.shows_body i))
+            (pure.function_of (env_at i depth) form (maybe_named i name)) source.now i self.old.place self.new.place result }
     {
         let head = self.params_head(source, form, depth)?;
         let end = self.place.pass_body(source, form, head.is_simple(), depth)?;
@@ -50,7 +51,8 @@ impl<H: Handler> State<H> {
     #[tactic(auto, unfolding(grammar_parser_specs::specs::Exprs::func_of))]
     pub(crate) fn func(&mut self, source: &Source, at: u32, depth: u32) -> Result<H::E, ParseFault>
         requires { IsSource source.now }
-        ensures { (i : Interpretation) → Reads (AtomOf (H.shows_expr i)) (pure.func_of (env_at i depth) at) source.now i self.old.place self.new.place result }
+        ensures { (i : Interpretation) → Reads (AtomOf (H.shows_expr i))
+            (pure.func_of (env_at i depth) at) source.now i self.old.place self.new.place result }
     {
         let name = self.place.maybe_name(source)?;
         let func = self.function(source, FuncForm::Function, name, depth)?;

@@ -25,7 +25,8 @@ impl<H: Handler> State<H> {
     #[tactic(auto, unfolding(grammar_parser_specs::specs::Exprs::args_turn, grammar_parser_specs::specs::Exprs::args_next))]
     fn args_turn(&mut self, source: &Source, depth: u32) -> Result<Turned<H::E, bool>, ParseFault>
         requires { IsSource source.now }
-        ensures { (i : Interpretation) → Reads (TurnOf (NodeOf (H.shows_expr i)) Itself) (pure.args_turn (env_at i depth)) source.now i self.old.place self.new.place result }
+        ensures { (i : Interpretation) → Reads (TurnOf (NodeOf (H.shows_expr i)) Itself)
+            (pure.args_turn (env_at i depth)) source.now i self.old.place self.new.place result }
     {
         if !self.place.is_mark(source, mark::COMMA) {
             return Ok(Turned::Last(false));
@@ -46,7 +47,8 @@ impl<H: Handler> State<H> {
         depth: u32,
     ) -> Result<Items<H::E, bool>, ParseFault>
         requires { IsSource source.now }
-        ensures { (i : Interpretation) → (t : model.Expr) → H.shows_expr i first t → Reads (ItemsOf (H.shows_expr i) Itself) (led (pure.args_turn (env_at i depth)) t) source.now i self.old.place self.new.place result }
+        ensures { (i : Interpretation) → (t : model.Expr) → H.shows_expr i first t
+            → Reads (ItemsOf (H.shows_expr i) Itself) (led (pure.args_turn (env_at i depth)) t) source.now i self.old.place self.new.place result }
     {
         let mut items = Vec::new(self.alloc);
         items.push(first)?;
@@ -63,7 +65,8 @@ impl<H: Handler> State<H> {
     #[tactic(auto, unfolding(grammar_parser_specs::specs::Exprs::args_of, grammar_parser_specs::specs::Exprs::more_args))]
     pub fn args(&mut self, source: &Source, depth: u32) -> Result<NodeArgs<H::E>, ParseFault>
         requires { IsSource source.now }
-        ensures { (i : Interpretation) → Reads (ArgsOf (H.shows_expr i)) (pure.args_of (env_at i depth)) source.now i self.old.place self.new.place result }
+        ensures { (i : Interpretation) → Reads (ArgsOf (H.shows_expr i))
+            (pure.args_of (env_at i depth)) source.now i self.old.place self.new.place result }
     {
         if self.place.is_mark(source, mark::CLOSE_PAREN) {
             self.place.step(source);
@@ -88,7 +91,9 @@ impl<H: Handler> State<H> {
         item: H::E,
     ) -> Result<Turned<Option<H::E>, Option<H::E>>, ParseFault>
         requires { IsSource source.now }
-        ensures { (i : Interpretation) → (t : model.Expr) → H.shows_expr i item t → Reads (TurnOf (MaybeOf (H.shows_expr i)) (MaybeOf (H.shows_expr i))) (pure.item_end t) source.now i self.old.place self.new.place result }
+        ensures { (i : Interpretation) → (t : model.Expr) → H.shows_expr i item t
+            → Reads (TurnOf (MaybeOf (H.shows_expr i)) (MaybeOf (H.shows_expr i)))
+            (pure.item_end t) source.now i self.old.place self.new.place result }
     {
         if !self.place.is_mark(source, mark::COMMA) {
             return Ok(Turned::Last(Some(item)));
@@ -105,7 +110,8 @@ impl<H: Handler> State<H> {
         depth: u32,
     ) -> Result<Turned<Option<H::E>, Option<H::E>>, ParseFault>
         requires { IsSource source.now }
-        ensures { (i : Interpretation) → Reads (TurnOf (MaybeOf (H.shows_expr i)) (MaybeOf (H.shows_expr i))) (pure.item_turn (env_at i depth)) source.now i self.old.place self.new.place result }
+        ensures { (i : Interpretation) → Reads (TurnOf (MaybeOf (H.shows_expr i)) (MaybeOf (H.shows_expr i)))
+            (pure.item_turn (env_at i depth)) source.now i self.old.place self.new.place result }
     {
         if self.place.is_mark(source, mark::CLOSE_BRACKET) {
             return Ok(Turned::Last(None));
@@ -125,7 +131,8 @@ impl<H: Handler> State<H> {
         depth: u32,
     ) -> Result<Items<Option<H::E>, Option<H::E>>, ParseFault>
         requires { IsSource source.now }
-        ensures { (i : Interpretation) → Reads (ItemsOf (ShowMaybe (H.shows_expr i)) (MaybeOf (H.shows_expr i))) (loop (pure.item_turn (env_at i depth))) source.now i self.old.place self.new.place result }
+        ensures { (i : Interpretation) → Reads (ItemsOf (ShowMaybe (H.shows_expr i)) (MaybeOf (H.shows_expr i)))
+            (loop (pure.item_turn (env_at i depth))) source.now i self.old.place self.new.place result }
     {
         let mut items = Vec::new(self.alloc);
         loop {
@@ -144,7 +151,9 @@ impl<H: Handler> State<H> {
         last: Option<H::E>,
     ) -> Result<H::E, ParseFault>
         ensures place { self.new.place ≡ self.old.place }
-        ensures makes { (i : Interpretation) (ts : List (Option model.Expr)) (o : Option model.Expr) → ShowAll (ShowMaybe (H.shows_expr i)) items.items ts → ShowMaybe (H.shows_expr i) last o → Makes result (λ e. H.shows_expr i e (pure.array_case at ts o)) }
+        ensures makes { (i : Interpretation) (ts : List (Option model.Expr)) (o : Option model.Expr)
+            → ShowAll (ShowMaybe (H.shows_expr i)) items.items ts → ShowMaybe (H.shows_expr i) last o
+            → Makes result (λ e. H.shows_expr i e (pure.array_case at ts o)) }
     {
         let mut items = items;
         let comma = match last {
@@ -162,7 +171,8 @@ impl<H: Handler> State<H> {
     #[tactic(auto, unfolding(grammar_parser_specs::specs::Exprs::array_of))]
     pub(crate) fn array(&mut self, source: &Source, at: u32, depth: u32) -> Result<H::E, ParseFault>
         requires { IsSource source.now }
-        ensures { (i : Interpretation) → Reads (AtomOf (H.shows_expr i)) (pure.array_of (env_at i depth) at) source.now i self.old.place self.new.place result }
+        ensures { (i : Interpretation) → Reads (AtomOf (H.shows_expr i))
+            (pure.array_of (env_at i depth) at) source.now i self.old.place self.new.place result }
     {
         let read = self.array_items(source, depth)?;
         self.place.expect(source, mark::CLOSE_BRACKET)?;
@@ -176,7 +186,9 @@ impl<H: Handler> State<H> {
         value: H::E,
     ) -> Result<Turned<NodeTemplatePart<H::E>, NodeTemplatePart<H::E>>, ParseFault>
         requires { IsSource source.now }
-        ensures { (i : Interpretation) → (t : model.Expr) → H.shows_expr i value t → Reads (TurnOf (PartOf i (H.shows_expr i)) (PartOf i (H.shows_expr i))) (pure.part_end t) source.now i self.old.place self.new.place result }
+        ensures { (i : Interpretation) → (t : model.Expr) → H.shows_expr i value t
+            → Reads (TurnOf (PartOf i (H.shows_expr i)) (PartOf i (H.shows_expr i)))
+            (pure.part_end t) source.now i self.old.place self.new.place result }
     {
         let token = self.place.token(source);
         if kinds::is_middle(token.kind) {
@@ -206,7 +218,8 @@ impl<H: Handler> State<H> {
         depth: u32,
     ) -> Result<Turned<NodeTemplatePart<H::E>, NodeTemplatePart<H::E>>, ParseFault>
         requires { IsSource source.now }
-        ensures { (i : Interpretation) → Reads (TurnOf (PartOf i (H.shows_expr i)) (PartOf i (H.shows_expr i))) (pure.part_turn (env_at i depth)) source.now i self.old.place self.new.place result }
+        ensures { (i : Interpretation) → Reads (TurnOf (PartOf i (H.shows_expr i)) (PartOf i (H.shows_expr i)))
+            (pure.part_turn (env_at i depth)) source.now i self.old.place self.new.place result }
     {
         let value = self.expr(source, true, depth)?;
         self.part_end(source, value.node)
@@ -219,7 +232,8 @@ impl<H: Handler> State<H> {
         depth: u32,
     ) -> Result<Items<NodeTemplatePart<H::E>, NodeTemplatePart<H::E>>, ParseFault>
         requires { IsSource source.now }
-        ensures { (i : Interpretation) → Reads (ItemsOf (ShowPart i (H.shows_expr i)) (PartOf i (H.shows_expr i))) (loop (pure.part_turn (env_at i depth))) source.now i self.old.place self.new.place result }
+        ensures { (i : Interpretation) → Reads (ItemsOf (ShowPart i (H.shows_expr i)) (PartOf i (H.shows_expr i)))
+            (loop (pure.part_turn (env_at i depth))) source.now i self.old.place self.new.place result }
     {
         let mut items = Vec::new(self.alloc);
         loop {
@@ -241,7 +255,8 @@ impl<H: Handler> State<H> {
         depth: u32,
     ) -> Result<H::E, ParseFault>
         requires { IsSource source.now }
-        ensures { (i : Interpretation) → Reads (AtomOf (H.shows_expr i)) (pure.template_of (env_at i depth) at (text_of i first)) source.now i self.old.place self.new.place result }
+        ensures { (i : Interpretation) → Reads (AtomOf (H.shows_expr i))
+            (pure.template_of (env_at i depth) at (text_of i first)) source.now i self.old.place self.new.place result }
     {
         let read = self.template_parts(source, depth)?;
         let mut parts = read.items;

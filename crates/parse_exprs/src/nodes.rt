@@ -25,7 +25,9 @@ impl<H: Handler> State<H> {
         rest: Items<H::E, Ending>,
     ) -> Result<Ranked<H::E>, ParseFault>
         ensures place { self.new.place ≡ self.old.place }
-        ensures makes { (i : Interpretation) (t : model.Expr) (ts : List model.Expr) → ShowRanked (H.shows_expr i) first t → ShowAll (H.shows_expr i) rest.items.items ts → ending_as rest.last ≡ last_ending (ending t) (exprs_of ts) → Makes result (λ e. ShowRanked (H.shows_expr i) e (pure.comma_case t ts)) }
+        ensures makes { (i : Interpretation) (t : model.Expr) (ts : List model.Expr) → ShowRanked (H.shows_expr i) first t
+            → ShowAll (H.shows_expr i) rest.items.items ts → ending_as rest.last ≡ last_ending (ending t) (exprs_of ts)
+            → Makes result (λ e. ShowRanked (H.shows_expr i) e (pure.comma_case t ts)) }
     {
         if rest.items.is_empty() {
             return Ok(first);
@@ -47,7 +49,8 @@ impl<H: Handler> State<H> {
         tails: Vec<NodeTail<H::E>>,
     ) -> Result<Ranked<H::E>, ParseFault>
         ensures place { self.new.place ≡ self.old.place }
-        ensures makes { (i : Interpretation) (t : model.Expr) (ts : List model.Tail) → ShowRanked (H.shows_expr i) head t → ShowAll (ShowTail i (H.shows_expr i)) tails.items ts → Makes result (λ e. ShowRanked (H.shows_expr i) e (pure.chain_case t ts)) }
+        ensures makes { (i : Interpretation) (t : model.Expr) (ts : List model.Tail) → ShowRanked (H.shows_expr i) head t
+            → ShowAll (ShowTail i (H.shows_expr i)) tails.items ts → Makes result (λ e. ShowRanked (H.shows_expr i) e (pure.chain_case t ts)) }
     {
         if tails.is_empty() {
             return Ok(head);
@@ -67,7 +70,10 @@ impl<H: Handler> State<H> {
         rest: Items<NodeOperand<H::E>, Ending>,
     ) -> Result<Ranked<H::E>, ParseFault>
         ensures place { self.new.place ≡ self.old.place }
-        ensures makes { (i : Interpretation) (t : model.Expr) (os : List part.Operand) → ShowRanked (H.shows_expr i) first t → ShowAll (ShowOperand (H.shows_expr i)) rest.items.items os → ending_as rest.last ≡ operands_ending (ending t) (operands_of os) → Makes result (λ e. ShowRanked (H.shows_expr i) e (pure.binary_case t os)) }
+        ensures makes { (i : Interpretation) (t : model.Expr) (os : List part.Operand) → ShowRanked (H.shows_expr i) first t
+            → ShowAll (ShowOperand (H.shows_expr i)) rest.items.items os
+            → ending_as rest.last ≡ operands_ending (ending t) (operands_of os)
+            → Makes result (λ e. ShowRanked (H.shows_expr i) e (pure.binary_case t os)) }
     {
         if rest.items.is_empty() {
             return Ok(first);

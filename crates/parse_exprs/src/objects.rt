@@ -30,7 +30,8 @@ impl<H: Handler> State<H> {
     #[tactic(auto, unfolding(grammar_parser_specs::specs::Exprs::key_of, grammar_parser_specs::specs::Exprs::computed_of))]
     fn key(&mut self, source: &Source, depth: u32) -> Result<NodeKey<H::E>, ParseFault>
         requires { IsSource source.now }
-        ensures { (i : Interpretation) → Reads (KeyOf i (H.shows_expr i)) (pure.key_of (env_at i depth)) source.now i self.old.place self.new.place result }
+        ensures { (i : Interpretation) → Reads (KeyOf i (H.shows_expr i))
+            (pure.key_of (env_at i depth)) source.now i self.old.place self.new.place result }
     {
         let token = self.place.token(source);
         if kinds::is_any_word(token.kind) {
@@ -64,7 +65,8 @@ impl<H: Handler> State<H> {
     #[tactic(auto, unfolding(grammar_parser_specs::specs::Exprs::keyed_of))]
     fn keyed(&mut self, source: &Source, key: NodeKey<H::E>, depth: u32) -> Result<H::P, ParseFault>
         requires { IsSource source.now }
-        ensures { (i : Interpretation) → (k : model.Key) → ShowKey i (H.shows_expr i) key k → Reads (NodeOf (H.shows_prop i)) (pure.keyed_of (env_at i depth) k) source.now i self.old.place self.new.place result }
+        ensures { (i : Interpretation) → (k : model.Key) → ShowKey i (H.shows_expr i) key k
+            → Reads (NodeOf (H.shows_prop i)) (pure.keyed_of (env_at i depth) k) source.now i self.old.place self.new.place result }
     {
         if self.place.is_mark(source, mark::COLON) {
             self.place.step(source);
@@ -87,7 +89,8 @@ impl<H: Handler> State<H> {
     #[tactic(auto, unfolding(grammar_parser_specs::specs::Exprs::short_of))]
     fn short(&mut self, source: &Source, name: Ident, depth: u32) -> Result<H::P, ParseFault>
         requires { IsSource source.now }
-        ensures { (i : Interpretation) → Reads (NodeOf (H.shows_prop i)) (pure.short_of (env_at i depth) (named i name)) source.now i self.old.place self.new.place result }
+        ensures { (i : Interpretation) → Reads (NodeOf (H.shows_prop i))
+            (pure.short_of (env_at i depth) (named i name)) source.now i self.old.place self.new.place result }
     {
         if self.place.is_mark(source, mark::COLON) || self.place.is_mark(source, mark::OPEN_PAREN) {
             return self.keyed(source, NodeKey::Word(name), depth);
@@ -101,7 +104,8 @@ impl<H: Handler> State<H> {
     #[tactic(auto, unfolding(grammar_parser_specs::specs::Exprs::accessor_of, grammar_parser_specs::specs::Exprs::getter_of))]
     fn getter(&mut self, source: &Source, name: Ident, depth: u32) -> Result<H::P, ParseFault>
         requires { IsSource source.now }
-        ensures { (i : Interpretation) → Reads (NodeOf (H.shows_prop i)) (pure.accessor_of (env_at i depth) (named i name) (pure.getter_of (env_at i depth))) source.now i self.old.place self.new.place result }
+        ensures { (i : Interpretation) → Reads (NodeOf (H.shows_prop i))
+            (pure.accessor_of (env_at i depth) (named i name) (pure.getter_of (env_at i depth))) source.now i self.old.place self.new.place result }
     {
         if kinds::ends_key(self.place.kind(source)) {
             return self.short(source, name, depth);
@@ -117,7 +121,8 @@ impl<H: Handler> State<H> {
     #[tactic(auto, unfolding(grammar_parser_specs::specs::Exprs::accessor_of, grammar_parser_specs::specs::Exprs::setter_of))]
     fn setter(&mut self, source: &Source, name: Ident, depth: u32) -> Result<H::P, ParseFault>
         requires { IsSource source.now }
-        ensures { (i : Interpretation) → Reads (NodeOf (H.shows_prop i)) (pure.accessor_of (env_at i depth) (named i name) (pure.setter_of (env_at i depth))) source.now i self.old.place self.new.place result }
+        ensures { (i : Interpretation) → Reads (NodeOf (H.shows_prop i))
+            (pure.accessor_of (env_at i depth) (named i name) (pure.setter_of (env_at i depth))) source.now i self.old.place self.new.place result }
     {
         if kinds::ends_key(self.place.kind(source)) {
             return self.short(source, name, depth);
@@ -132,7 +137,8 @@ impl<H: Handler> State<H> {
     #[tactic(auto, unfolding(grammar_parser_specs::specs::Exprs::prop_of))]
     fn prop(&mut self, source: &Source, depth: u32) -> Result<H::P, ParseFault>
         requires { IsSource source.now }
-        ensures { (i : Interpretation) → Reads (NodeOf (H.shows_prop i)) (pure.prop_of (env_at i depth)) source.now i self.old.place self.new.place result }
+        ensures { (i : Interpretation) → Reads (NodeOf (H.shows_prop i))
+            (pure.prop_of (env_at i depth)) source.now i self.old.place self.new.place result }
     {
         let token = self.place.token(source);
         if !kinds::is_name(token.kind) {
@@ -154,7 +160,8 @@ impl<H: Handler> State<H> {
     #[tactic(auto, unfolding(grammar_parser_specs::specs::Exprs::props_turn, grammar_parser_specs::specs::Exprs::props_next))]
     fn props_turn(&mut self, source: &Source, depth: u32) -> Result<Turned<H::P, bool>, ParseFault>
         requires { IsSource source.now }
-        ensures { (i : Interpretation) → Reads (TurnOf (NodeOf (H.shows_prop i)) Itself) (pure.props_turn (env_at i depth)) source.now i self.old.place self.new.place result }
+        ensures { (i : Interpretation) → Reads (TurnOf (NodeOf (H.shows_prop i)) Itself)
+            (pure.props_turn (env_at i depth)) source.now i self.old.place self.new.place result }
     {
         if !self.place.is_mark(source, mark::COMMA) {
             return Ok(Turned::Last(false));
@@ -175,7 +182,8 @@ impl<H: Handler> State<H> {
         depth: u32,
     ) -> Result<Items<H::P, bool>, ParseFault>
         requires { IsSource source.now }
-        ensures { (i : Interpretation) → (t : model.Prop) → H.shows_prop i first t → Reads (ItemsOf (H.shows_prop i) Itself) (led (pure.props_turn (env_at i depth)) t) source.now i self.old.place self.new.place result }
+        ensures { (i : Interpretation) → (t : model.Prop) → H.shows_prop i first t
+            → Reads (ItemsOf (H.shows_prop i) Itself) (led (pure.props_turn (env_at i depth)) t) source.now i self.old.place self.new.place result }
     {
         let mut items = Vec::new(self.alloc);
         items.push(first)?;
@@ -191,7 +199,8 @@ impl<H: Handler> State<H> {
     #[tactic(auto, unfolding(grammar_parser_specs::specs::Exprs::more_props))]
     fn more_props(&mut self, source: &Source, depth: u32) -> Result<Items<H::P, bool>, ParseFault>
         requires { IsSource source.now }
-        ensures { (i : Interpretation) → Reads (ItemsOf (H.shows_prop i) Itself) (pure.more_props (env_at i depth)) source.now i self.old.place self.new.place result }
+        ensures { (i : Interpretation) → Reads (ItemsOf (H.shows_prop i) Itself)
+            (pure.more_props (env_at i depth)) source.now i self.old.place self.new.place result }
     {
         if self.place.is_mark(source, mark::CLOSE_BRACE) {
             return Ok(Items {
@@ -213,7 +222,8 @@ impl<H: Handler> State<H> {
         depth: u32,
     ) -> Result<H::E, ParseFault>
         requires { IsSource source.now }
-        ensures { (i : Interpretation) → Reads (AtomOf (H.shows_expr i)) (pure.object_of (env_at i depth) at) source.now i self.old.place self.new.place result }
+        ensures { (i : Interpretation) → Reads (AtomOf (H.shows_expr i))
+            (pure.object_of (env_at i depth) at) source.now i self.old.place self.new.place result }
     {
         let props = self.more_props(source, depth)?;
         self.place.expect(source, mark::CLOSE_BRACE)?;

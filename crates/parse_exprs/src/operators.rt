@@ -34,7 +34,9 @@ impl<H: Handler> State<H> {
         first: Ranked<H::E>,
     ) -> Result<Ranked<H::E>, ParseFault>
         requires { IsSource source.now }
-        ensures { (i : Interpretation) → (t : model.Expr) → H.shows_expr i first.node t → first.rank ≡ rank_of t → ending_as first.ending ≡ ending t → Reads (RankedOf (H.shows_expr i)) (pure.postfix_of at t) source.now i self.old.place self.new.place result }
+        ensures { (i : Interpretation) → (t : model.Expr) → H.shows_expr i first.node t → first.rank ≡ rank_of t
+            → ending_as first.ending ≡ ending t → Reads (RankedOf (H.shows_expr i))
+            (pure.postfix_of at t) source.now i self.old.place self.new.place result }
     {
         let token = self.place.token(source);
         if !kinds::is_update(token.kind) || token.after_line {
@@ -61,7 +63,8 @@ impl<H: Handler> State<H> {
         depth: u32,
     ) -> Result<Ranked<H::E>, ParseFault>
         requires { IsSource source.now }
-        ensures { (i : Interpretation) → Reads (RankedOf (H.shows_expr i)) (pure.unary_of (env_at i depth) heads) source.now i self.old.place self.new.place result }
+        ensures { (i : Interpretation) → Reads (RankedOf (H.shows_expr i))
+            (pure.unary_of (env_at i depth) heads) source.now i self.old.place self.new.place result }
     {
         let kind = self.place.kind(source);
         if kinds::is_prefix(kind) || kinds::is_update(kind) {
@@ -80,7 +83,8 @@ impl<H: Handler> State<H> {
         depth: u32,
     ) -> Result<Ranked<H::E>, ParseFault>
         requires { IsSource source.now }
-        ensures { (i : Interpretation) → Reads (RankedOf (H.shows_expr i)) (pure.prefix_of (env_at i depth)) source.now i self.old.place self.new.place result }
+        ensures { (i : Interpretation) → Reads (RankedOf (H.shows_expr i))
+            (pure.prefix_of (env_at i depth)) source.now i self.old.place self.new.place result }
     {
         let token = self.place.token(source);
         if kinds::is_prefix(token.kind) {
@@ -121,7 +125,8 @@ impl<H: Handler> State<H> {
         depth: u32,
     ) -> Result<Turned<Ended<NodeOperand<H::E>>, Option<Ended<NodeOperand<H::E>>>>, ParseFault>
         requires { IsSource source.now }
-        ensures { (i : Interpretation) → Reads (TurnOf (EndedOf (H.shows_expr i)) (MaybeEndedOf (H.shows_expr i))) (pure.power_turn (env_at i depth)) source.now i self.old.place self.new.place result }
+        ensures { (i : Interpretation) → Reads (TurnOf (EndedOf (H.shows_expr i)) (MaybeEndedOf (H.shows_expr i)))
+            (pure.power_turn (env_at i depth)) source.now i self.old.place self.new.place result }
     {
         let kind = self.place.kind(source);
         if !kinds::is_mark(kind, mark::POWER) {
@@ -153,7 +158,9 @@ impl<H: Handler> State<H> {
         depth: u32,
     ) -> Result<Items<NodeOperand<H::E>, Ending>, ParseFault>
         requires { IsSource source.now }
-        ensures { (i : Interpretation) → Reads (OperandsOf (H.shows_expr i) (ending_as ending)) (bind (loop (pure.power_turn (env_at i depth))) (λ m. ret (pure.with_last m.items m.last))) source.now i self.old.place self.new.place result }
+        ensures { (i : Interpretation) → Reads (OperandsOf (H.shows_expr i) (ending_as ending))
+            (bind (loop (pure.power_turn (env_at i depth)))
+            (λ m. ret (pure.with_last m.items m.last))) source.now i self.old.place self.new.place result }
     {
         let mut items = Vec::new(self.alloc);
         let mut last = ending;
@@ -184,7 +191,8 @@ impl<H: Handler> State<H> {
         depth: u32,
     ) -> Result<Ranked<H::E>, ParseFault>
         requires { IsSource source.now }
-        ensures { (i : Interpretation) → Reads (RankedOf (H.shows_expr i)) (pure.power_of (env_at i depth) heads) source.now i self.old.place self.new.place result }
+        ensures { (i : Interpretation) → Reads (RankedOf (H.shows_expr i))
+            (pure.power_of (env_at i depth) heads) source.now i self.old.place self.new.place result }
     {
         let first = self.unary(source, heads, depth)?;
         if !self.place.is_mark(source, mark::POWER) {
@@ -210,7 +218,8 @@ impl<H: Handler> State<H> {
         requires source { IsSource source.now }
         requires of { of < 12 }
         requires lower { lower ≤ 10 }
-        ensures { (i : Interpretation) → Reads (TurnOf (EndedOf (H.shows_expr i)) Itself) (pure.op_turn with_in of (pure.level_of (env_at i depth) with_in lower false)) source.now i self.old.place self.new.place result }
+        ensures { (i : Interpretation) → Reads (TurnOf (EndedOf (H.shows_expr i)) Itself)
+            (pure.op_turn with_in of (pure.level_of (env_at i depth) with_in lower false)) source.now i self.old.place self.new.place result }
     {
         let kind = self.place.kind(source);
         if !precedence::is_op(kind, with_in, of) {
@@ -242,7 +251,9 @@ impl<H: Handler> State<H> {
         requires source { IsSource source.now }
         requires of { of < 12 }
         requires lower { lower ≤ 10 }
-        ensures { (i : Interpretation) → Reads (EndsOf (ShowOperand (H.shows_expr i)) (λ os. operands_ending (ending_as ending) (operands_of os))) (loop (pure.op_turn with_in of (pure.level_of (env_at i depth) with_in lower false))) source.now i self.old.place self.new.place result }
+        ensures { (i : Interpretation) → Reads (EndsOf (ShowOperand (H.shows_expr i))
+            (λ os. operands_ending (ending_as ending) (operands_of os))) (loop
+            (pure.op_turn with_in of (pure.level_of (env_at i depth) with_in lower false))) source.now i self.old.place self.new.place result }
     {
         let mut items = Vec::new(self.alloc);
         let mut last = ending;
@@ -271,7 +282,9 @@ impl<H: Handler> State<H> {
         requires source { IsSource source.now }
         requires of { of < 12 }
         requires lower { lower ≤ 10 }
-        ensures { (i : Interpretation) → (t : model.Expr) → H.shows_expr i first.node t → first.rank ≡ rank_of t → ending_as first.ending ≡ ending t → Reads (RankedOf (H.shows_expr i)) (pure.operands_from with_in of (pure.level_of (env_at i depth) with_in lower false) t) source.now i self.old.place self.new.place result }
+        ensures { (i : Interpretation) → (t : model.Expr) → H.shows_expr i first.node t → first.rank ≡ rank_of t
+            → ending_as first.ending ≡ ending t → Reads (RankedOf (H.shows_expr i))
+            (pure.operands_from with_in of (pure.level_of (env_at i depth) with_in lower false) t) source.now i self.old.place self.new.place result }
     {
         let rest = self.operands(source, with_in, of, lower, first.ending, depth)?;
         self.make_binary(first, rest)
@@ -290,7 +303,8 @@ impl<H: Handler> State<H> {
     ) -> Result<Ranked<H::E>, ParseFault>
         requires source { IsSource source.now }
         requires of { of ≤ 11 }
-        ensures { (i : Interpretation) → Reads (RankedOf (H.shows_expr i)) (up_to (env_at i depth) with_in of heads) source.now i self.old.place self.new.place result }
+        ensures { (i : Interpretation) → Reads (RankedOf (H.shows_expr i))
+            (up_to (env_at i depth) with_in of heads) source.now i self.old.place self.new.place result }
     {
         let mut left = self.power(source, heads, depth)?;
         let mut read = precedence::EXPONENTIATION;
@@ -315,7 +329,9 @@ impl<H: Handler> State<H> {
         depth: u32,
     ) -> Result<Ranked<H::E>, ParseFault>
         requires { IsSource source.now }
-        ensures { (i : Interpretation) → (t : model.Expr) → H.shows_expr i first.node t → first.rank ≡ rank_of t → ending_as first.ending ≡ ending t → Reads (RankedOf (H.shows_expr i)) (pure.cond_tail (env_at i depth) with_in t) source.now i self.old.place self.new.place result }
+        ensures { (i : Interpretation) → (t : model.Expr) → H.shows_expr i first.node t → first.rank ≡ rank_of t
+            → ending_as first.ending ≡ ending t → Reads (RankedOf (H.shows_expr i))
+            (pure.cond_tail (env_at i depth) with_in t) source.now i self.old.place self.new.place result }
     {
         if !self.place.is_mark(source, mark::QUESTION) {
             return Ok(first);
@@ -343,7 +359,8 @@ impl<H: Handler> State<H> {
         depth: u32,
     ) -> Result<Ranked<H::E>, ParseFault>
         requires { IsSource source.now }
-        ensures { (i : Interpretation) → Reads (RankedOf (H.shows_expr i)) (pure.cond_of (env_at i depth) with_in heads) source.now i self.old.place self.new.place result }
+        ensures { (i : Interpretation) → Reads (RankedOf (H.shows_expr i))
+            (pure.cond_of (env_at i depth) with_in heads) source.now i self.old.place self.new.place result }
     {
         let first = self.level(source, with_in, precedence::COALESCE, heads, depth)?;
         if !self.place.is_mark(source, mark::QUESTION) {

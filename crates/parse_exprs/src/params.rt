@@ -25,7 +25,8 @@ impl<H: Handler> State<H> {
     #[tactic(auto, unfolding(grammar_parser_specs::specs::Exprs::initializer_of))]
     fn initializer(&mut self, source: &Source, depth: u32) -> Result<Option<H::E>, ParseFault>
         requires { IsSource source.now }
-        ensures { (i : Interpretation) → Reads (MaybeOf (H.shows_expr i)) (pure.initializer_of (env_at i depth)) source.now i self.old.place self.new.place result }
+        ensures { (i : Interpretation) → Reads (MaybeOf (H.shows_expr i))
+            (pure.initializer_of (env_at i depth)) source.now i self.old.place self.new.place result }
     {
         if !self.place.is_mark(source, mark::ASSIGN) {
             return Ok(None);
@@ -43,7 +44,8 @@ impl<H: Handler> State<H> {
         depth: u32,
     ) -> Result<NodeParam<H::E>, ParseFault>
         requires { IsSource source.now }
-        ensures { (i : Interpretation) → Reads (ParamOf i (H.shows_expr i)) (pure.param_of (env_at i depth)) source.now i self.old.place self.new.place result }
+        ensures { (i : Interpretation) → Reads (ParamOf i (H.shows_expr i))
+            (pure.param_of (env_at i depth)) source.now i self.old.place self.new.place result }
     {
         let name = self.place.name(source)?;
         let value = self.initializer(source, depth)?;
@@ -62,7 +64,8 @@ impl<H: Handler> State<H> {
         depth: u32,
     ) -> Result<Turned<NodeParam<H::E>, ParamsEnd>, ParseFault>
         requires { IsSource source.now }
-        ensures { (i : Interpretation) → Reads (TurnOf (ParamOf i (H.shows_expr i)) (ParamsEndOf i)) (pure.param_turn (env_at i depth)) source.now i self.old.place self.new.place result }
+        ensures { (i : Interpretation) → Reads (TurnOf (ParamOf i (H.shows_expr i)) (ParamsEndOf i))
+            (pure.param_turn (env_at i depth)) source.now i self.old.place self.new.place result }
     {
         if self.place.is_mark(source, mark::ELLIPSIS) {
             self.place.step(source);
@@ -81,7 +84,8 @@ impl<H: Handler> State<H> {
         depth: u32,
     ) -> Result<Turned<NodeParam<H::E>, ParamsEnd>, ParseFault>
         requires { IsSource source.now }
-        ensures { (i : Interpretation) → Reads (TurnOf (ParamOf i (H.shows_expr i)) (ParamsEndOf i)) (pure.params_turn (env_at i depth)) source.now i self.old.place self.new.place result }
+        ensures { (i : Interpretation) → Reads (TurnOf (ParamOf i (H.shows_expr i)) (ParamsEndOf i))
+            (pure.params_turn (env_at i depth)) source.now i self.old.place self.new.place result }
     {
         if !self.place.is_mark(source, mark::COMMA) {
             return Ok(Turned::Last(ParamsEnd::Plain));
@@ -101,7 +105,9 @@ impl<H: Handler> State<H> {
         depth: u32,
     ) -> Result<Items<NodeParam<H::E>, ParamsEnd>, ParseFault>
         requires { IsSource source.now }
-        ensures { (i : Interpretation) → (t : part.Param) → ShowParam i (H.shows_expr i) first t → Reads (ItemsOf (ShowParam i (H.shows_expr i)) (ParamsEndOf i)) (led (pure.params_turn (env_at i depth)) t) source.now i self.old.place self.new.place result }
+        ensures { (i : Interpretation) → (t : part.Param) → ShowParam i (H.shows_expr i) first t
+            → Reads (ItemsOf (ShowParam i (H.shows_expr i)) (ParamsEndOf i))
+            (led (pure.params_turn (env_at i depth)) t) source.now i self.old.place self.new.place result }
     {
         let mut items = Vec::new(self.alloc);
         items.push(first)?;
@@ -121,7 +127,8 @@ impl<H: Handler> State<H> {
         depth: u32,
     ) -> Result<Items<NodeParam<H::E>, ParamsEnd>, ParseFault>
         requires { IsSource source.now }
-        ensures { (i : Interpretation) → Reads (ItemsOf (ShowParam i (H.shows_expr i)) (ParamsEndOf i)) (pure.more_params (env_at i depth)) source.now i self.old.place self.new.place result }
+        ensures { (i : Interpretation) → Reads (ItemsOf (ShowParam i (H.shows_expr i)) (ParamsEndOf i))
+            (pure.more_params (env_at i depth)) source.now i self.old.place self.new.place result }
     {
         if self.place.is_mark(source, mark::CLOSE_PAREN) {
             return Ok(Items {
@@ -143,7 +150,9 @@ impl<H: Handler> State<H> {
         start: u32,
         read: Items<NodeParam<H::E>, ParamsEnd>,
     ) -> Result<Params<H::E>, ParseFault>
-        ensures { (i : Interpretation) (m : Many part.Param pure.ParamsEnd) → ShowAll (ShowParam i (H.shows_expr i)) read.items.items m.items → ParamsEndOf i read.last (λ x. m.last ≡ x) → Makes result (λ p. ParamsOf i (H.shows_expr i) p (λ h. pure.head_case start m ≡ h)) }
+        ensures { (i : Interpretation) (m : Many part.Param pure.ParamsEnd)
+            → ShowAll (ShowParam i (H.shows_expr i)) read.items.items m.items → ParamsEndOf i read.last (λ x. m.last ≡ x)
+            → Makes result (λ p. ParamsOf i (H.shows_expr i) p (λ h. pure.head_case start m ≡ h)) }
     {
         let mut params = read.items;
         let comma = matches!(read.last, ParamsEnd::Trailing);
@@ -171,7 +180,8 @@ impl<H: Handler> State<H> {
         depth: u32,
     ) -> Result<Params<H::E>, ParseFault>
         requires { IsSource source.now }
-        ensures { (i : Interpretation) → Reads (ParamsOf i (H.shows_expr i)) (pure.listed_params (env_at i depth) start) source.now i self.old.place self.new.place result }
+        ensures { (i : Interpretation) → Reads (ParamsOf i (H.shows_expr i))
+            (pure.listed_params (env_at i depth) start) source.now i self.old.place self.new.place result }
     {
         let read = self.more_params(source, depth)?;
         self.place.expect(source, mark::CLOSE_PAREN)?;
@@ -180,7 +190,8 @@ impl<H: Handler> State<H> {
 
     fn no_params(&mut self, source: &Source, start: u32) -> Result<Params<H::E>, ParseFault>
         requires { IsSource source.now }
-        ensures { (i : Interpretation) → Reads (ParamsOf i (H.shows_expr i)) (pure.no_params start) source.now i self.old.place self.new.place result }
+        ensures { (i : Interpretation) → Reads (ParamsOf i (H.shows_expr i))
+            (pure.no_params start) source.now i self.old.place self.new.place result }
     {
         self.place.expect(source, mark::CLOSE_PAREN)?;
         Ok(Params {
@@ -199,7 +210,8 @@ impl<H: Handler> State<H> {
         depth: u32,
     ) -> Result<Params<H::E>, ParseFault>
         requires { IsSource source.now }
-        ensures { (i : Interpretation) → Reads (ParamsOf i (H.shows_expr i)) (pure.one_param (env_at i depth) start) source.now i self.old.place self.new.place result }
+        ensures { (i : Interpretation) → Reads (ParamsOf i (H.shows_expr i))
+            (pure.one_param (env_at i depth) start) source.now i self.old.place self.new.place result }
     {
         let param = self.param(source, depth)?;
         self.place.expect(source, mark::CLOSE_PAREN)?;
@@ -222,7 +234,8 @@ impl<H: Handler> State<H> {
         depth: u32,
     ) -> Result<Params<H::E>, ParseFault>
         requires { IsSource source.now }
-        ensures { (i : Interpretation) → Reads (ParamsOf i (H.shows_expr i)) (pure.params_head (env_at i depth) form) source.now i self.old.place self.new.place result }
+        ensures { (i : Interpretation) → Reads (ParamsOf i (H.shows_expr i))
+            (pure.params_head (env_at i depth) form) source.now i self.old.place self.new.place result }
     {
         let start = self.place.token(source).start;
         if !self.place.is_mark(source, mark::OPEN_PAREN) {

@@ -32,7 +32,8 @@ impl<H: Handler> State<H> {
     #[tactic(auto, unfolding(grammar_parser_specs::specs::Exprs::items_from))]
     pub(crate) fn items(&mut self, source: &Source, depth: u32) -> Result<Vec<H::E>, ParseFault>
         requires { IsSource source.now }
-        ensures { (i : Interpretation) → Reads (ListOf (H.shows_expr i)) (pure.items_from (env_at i depth)) source.now i self.old.place self.new.place result }
+        ensures { (i : Interpretation) → Reads (ListOf (H.shows_expr i))
+            (pure.items_from (env_at i depth)) source.now i self.old.place self.new.place result }
     {
         let first = self.assign(source, true, depth)?;
         let more = self.more(source, true, first.ending, depth)?;
@@ -46,7 +47,8 @@ impl<H: Handler> State<H> {
         item: H::E,
     ) -> Result<Turned<H::E, Vec<H::E>>, ParseFault>
         requires { IsSource source.now }
-        ensures { (i : Interpretation) → (t : model.Expr) → H.shows_expr i item t → Reads (TurnOf (NodeOf (H.shows_expr i)) (ListOf (H.shows_expr i))) (pure.lead_end t) source.now i self.old.place self.new.place result }
+        ensures { (i : Interpretation) → (t : model.Expr) → H.shows_expr i item t
+            → Reads (TurnOf (NodeOf (H.shows_expr i)) (ListOf (H.shows_expr i))) (pure.lead_end t) source.now i self.old.place self.new.place result }
     {
         if self.place.is_mark(source, mark::COMMA) {
             self.place.step(source);
@@ -64,7 +66,8 @@ impl<H: Handler> State<H> {
         depth: u32,
     ) -> Result<Turned<H::E, Vec<H::E>>, ParseFault>
         requires { IsSource source.now }
-        ensures { (i : Interpretation) → Reads (TurnOf (NodeOf (H.shows_expr i)) (ListOf (H.shows_expr i))) (pure.doomed_rest (env_at i depth)) source.now i self.old.place self.new.place result }
+        ensures { (i : Interpretation) → Reads (TurnOf (NodeOf (H.shows_expr i)) (ListOf (H.shows_expr i)))
+            (pure.doomed_rest (env_at i depth)) source.now i self.old.place self.new.place result }
     {
         self.rest_call(source, depth)?;
         Err(self.place.doomed(source))
@@ -78,7 +81,8 @@ impl<H: Handler> State<H> {
         depth: u32,
     ) -> Result<Turned<H::E, Vec<H::E>>, ParseFault>
         requires { IsSource source.now }
-        ensures { (i : Interpretation) → Reads (TurnOf (NodeOf (H.shows_expr i)) (ListOf (H.shows_expr i))) (pure.lead_turn (env_at i depth)) source.now i self.old.place self.new.place result }
+        ensures { (i : Interpretation) → Reads (TurnOf (NodeOf (H.shows_expr i)) (ListOf (H.shows_expr i)))
+            (pure.lead_turn (env_at i depth)) source.now i self.old.place self.new.place result }
     {
         if self.place.is_mark(source, mark::CLOSE_PAREN) {
             return Err(self.place.doomed(source));
@@ -97,7 +101,8 @@ impl<H: Handler> State<H> {
     #[cycle(exprs)]
     fn lead(&mut self, source: &Source, depth: u32) -> Result<Items<H::E, Vec<H::E>>, ParseFault>
         requires { IsSource source.now }
-        ensures { (i : Interpretation) → Reads (ItemsOf (H.shows_expr i) (ListOf (H.shows_expr i))) (loop (pure.lead_turn (env_at i depth))) source.now i self.old.place self.new.place result }
+        ensures { (i : Interpretation) → Reads (ItemsOf (H.shows_expr i) (ListOf (H.shows_expr i)))
+            (loop (pure.lead_turn (env_at i depth))) source.now i self.old.place self.new.place result }
     {
         let mut items = Vec::new(self.alloc);
         loop {
@@ -122,7 +127,8 @@ impl<H: Handler> State<H> {
     #[tactic(auto, unfolding(grammar_parser_specs::specs::Exprs::lead_items))]
     fn lead_items(&mut self, source: &Source, depth: u32) -> Result<Vec<H::E>, ParseFault>
         requires { IsSource source.now }
-        ensures { (i : Interpretation) → Reads (ListOf (H.shows_expr i)) (pure.lead_items (env_at i depth)) source.now i self.old.place self.new.place result }
+        ensures { (i : Interpretation) → Reads (ListOf (H.shows_expr i))
+            (pure.lead_items (env_at i depth)) source.now i self.old.place self.new.place result }
     {
         let read = self.lead(source, depth)?;
         Self::joined(read.items, read.last)
@@ -131,7 +137,8 @@ impl<H: Handler> State<H> {
     /// One expression, or a list of several.
     fn make_list(&mut self, items: Vec<H::E>) -> Result<H::E, ParseFault>
         ensures place { self.new.place ≡ self.old.place }
-        ensures makes { (i : Interpretation) (ts : List model.Expr) → ShowAll (H.shows_expr i) items.items ts → Makes result (λ e. H.shows_expr i e (pure.list_case ts)) }
+        ensures makes { (i : Interpretation) (ts : List model.Expr) → ShowAll (H.shows_expr i) items.items ts
+            → Makes result (λ e. H.shows_expr i e (pure.list_case ts)) }
     {
         let mut items = items;
         if items.len() == 1
@@ -150,7 +157,8 @@ impl<H: Handler> State<H> {
         depth: u32,
     ) -> Result<Vec<H::E>, ParseFault>
         requires { IsSource source.now }
-        ensures { (i : Interpretation) → Reads (ListOf (H.shows_expr i)) (when heads (pure.lead_items (env_at i depth)) (pure.items_from (env_at i depth))) source.now i self.old.place self.new.place result }
+        ensures { (i : Interpretation) → Reads (ListOf (H.shows_expr i))
+            (when heads (pure.lead_items (env_at i depth)) (pure.items_from (env_at i depth))) source.now i self.old.place self.new.place result }
     {
         if heads {
             return self.lead_items(source, depth);
@@ -169,7 +177,8 @@ impl<H: Handler> State<H> {
         depth: u32,
     ) -> Result<H::E, ParseFault>
         requires { IsSource source.now }
-        ensures { (i : Interpretation) → Reads (AtomOf (H.shows_expr i)) (pure.paren_of (env_at i depth) heads at) source.now i self.old.place self.new.place result }
+        ensures { (i : Interpretation) → Reads (AtomOf (H.shows_expr i))
+            (pure.paren_of (env_at i depth) heads at) source.now i self.old.place self.new.place result }
     {
         let items = self.paren_items(source, heads, depth)?;
         self.place.expect(source, mark::CLOSE_PAREN)?;

@@ -199,7 +199,8 @@ impl Cursor {
     /// Whether a name stands here, and `,`, `)` or `=` after it.
     pub fn is_param_form(&self, source: &Source) -> bool
         requires { IsSource source.now }
-        ensures { (i : Interpretation) → result ≡ pure.is_param_form (head_of (front source.now i self.now.at)) (head_of (rest_of (front source.now i self.now.at))) }
+        ensures { (i : Interpretation) → result ≡ pure.is_param_form (head_of (front source.now i self.now.at))
+            (head_of (rest_of (front source.now i self.now.at))) }
     {
         heads::is_param_form(source, self.at)
     }
@@ -208,7 +209,8 @@ impl Cursor {
     #[tactic(auto, unfolding(grammar_parser_specs::specs::Exprs::expect))]
     pub fn doomed(&mut self, source: &Source) -> ParseFault
         requires { IsSource source.now }
-        ensures { (i : Interpretation) → Refuses {A = Turn Expr (List Expr)} source.now i self.new result (records source.now i self.old) (pure.doomed (front source.now i self.old.at)) }
+        ensures { (i : Interpretation) → Refuses {A = Turn Expr (List Expr)} source.now i self.new result (records source.now i self.old)
+            (pure.doomed (front source.now i self.old.at)) }
     {
         if self.is_mark(source, mark::CLOSE_PAREN) {
             self.step(source);
@@ -265,7 +267,8 @@ impl Cursor {
         depth: u32,
     ) -> Result<u32, ParseFault>
         requires { IsSource source.now }
-        ensures { (i : Interpretation) (start : ℕ) → Reads (PassedOf i start) ((env_at i depth).body form start simple) source.now i self.old self.new result }
+        ensures { (i : Interpretation) (start : ℕ) → Reads (PassedOf i start)
+            ((env_at i depth).body form start simple) source.now i self.old self.new result }
     {
         if !self.is_mark(source, mark::OPEN_BRACE) {
             return Err(ParseFault::Unexpected { token: self.at });

@@ -14,7 +14,8 @@ use Rattle.parse_exprs.specs.declared.place.Pending.{Pending}
 use Rattle.parse_exprs.specs.declared.source.Source.{Source}
 use Rattle.parse_exprs.specs.Source.{front}
 use Rattle.parse_bodies.specs.declared.part.BodyNode.{BodyNode}
-use Rattle.parse_parts.specs.Parts.{Refused, NoneWhole, NoHead, NoBody, NoFunction, HeadPart, TakesAssign, TakesExpression, TakesHead, TakesBody, TakesAlone}
+use Rattle.parse_parts.specs.Parts.{Refused, NoneWhole, NoHead, NoBody, NoFunction, HeadPart, TakesAssign, TakesExpression, TakesHead}
+use Rattle.parse_parts.specs.Parts.{TakesBody, TakesAlone}
 
 -- There is no such part, and its first fault in the tokens from there on is the one that is named. Nothing is said where memory
 -- ran out.
@@ -31,28 +32,39 @@ IsUnread P i s start faults.NoMemory = Unit {0}
 
 -- What each call answers: the part was read, up to a token of the text, or there is none.
 
-abbrev pub IsAssignment : {E : Type 0} → Interpretation → (E → Expr → Type 0) → Source → (with_in : Bool) → (depth start stop : ℕ) → Result E ParseFault → Type 0
-IsAssignment i shows s with_in depth start stop (Ok node) = (stop < length s.tokens.now) × TakesAssign i shows with_in depth (front s i start) (front s i stop) node
+abbrev pub IsAssignment : {E : Type 0} → Interpretation → (E → Expr → Type 0) → Source → (with_in : Bool) → (depth start stop : ℕ)
+    → Result E ParseFault → Type 0
+IsAssignment i shows s with_in depth start stop (Ok node) = (stop < length s.tokens.now)
+    × TakesAssign i shows with_in depth (front s i start) (front s i stop) node
 IsAssignment i shows s with_in depth start stop (Err fault) = IsUnread (AssignPart passed with_in depth) i s start fault
 
-abbrev pub IsExpression : {E : Type 0} → Interpretation → (E → Expr → Type 0) → Source → (with_in : Bool) → (depth start stop : ℕ) → Result E ParseFault → Type 0
-IsExpression i shows s with_in depth start stop (Ok node) = (stop < length s.tokens.now) × TakesExpression i shows with_in depth (front s i start) (front s i stop) node
+abbrev pub IsExpression : {E : Type 0} → Interpretation → (E → Expr → Type 0) → Source → (with_in : Bool) → (depth start stop : ℕ)
+    → Result E ParseFault → Type 0
+IsExpression i shows s with_in depth start stop (Ok node) = (stop < length s.tokens.now)
+    × TakesExpression i shows with_in depth (front s i start) (front s i stop) node
 IsExpression i shows s with_in depth start stop (Err fault) = IsUnread (ExpressionPart passed with_in depth) i s start fault
 
 -- a function that is no arrow, from its parameters on
-abbrev pub IsHeaded : {E B : Type 0} → Interpretation → (E → Expr → Type 0) → (B → Stmts → Type 0) → Source → FuncForm → Option Named → (depth start stop : ℕ) → Result (NodeFunc E B) ParseFault → Type 0
-IsHeaded i shows shows_body s form name depth start stop (Ok node) = (stop < length s.tokens.now) × TakesHead i shows shows_body form name depth (front s i start) (front s i stop) node
-IsHeaded i shows shows_body s form name depth start stop (Err fault) = IsRefused (HeadPart passed form name depth) (NoHead form name depth (front s i start)) i s start fault
+abbrev pub IsHeaded : {E B : Type 0} → Interpretation → (E → Expr → Type 0) → (B → Stmts → Type 0) → Source → FuncForm → Option Named
+    → (depth start stop : ℕ) → Result (NodeFunc E B) ParseFault → Type 0
+IsHeaded i shows shows_body s form name depth start stop (Ok node) = (stop < length s.tokens.now)
+    × TakesHead i shows shows_body form name depth (front s i start) (front s i stop) node
+IsHeaded i shows shows_body s form name depth start stop (Err fault) = IsRefused (HeadPart passed form name depth)
+    (NoHead form name depth (front s i start)) i s start fault
 
 -- a braced body, and the offset where it ends
 abbrev pub IsBraced : {B : Type 0} → Interpretation → (B → Stmts → Type 0) → Source → (depth start stop : ℕ) → Result (BodyNode B) ParseFault → Type 0
-IsBraced i shows s depth start stop (Ok read) = (stop < length s.tokens.now) × TakesBody i shows depth read.end (front s i start) (front s i stop) read.node
+IsBraced i shows s depth start stop (Ok read) = (stop < length s.tokens.now)
+    × TakesBody i shows depth read.end (front s i start) (front s i stop) read.node
 IsBraced i shows s depth start stop (Err fault) = IsRefused (BodyPart passed depth) (NoBody depth (front s i start)) i s start fault
 
 -- a function that is all of the text, from its parameters on
-abbrev pub IsAlone : {E B : Type 0} → Interpretation → (E → Expr → Type 0) → (B → Stmts → Type 0) → Source → FuncForm → (start stop : ℕ) → Result (NodeFunc E B) ParseFault → Type 0
-IsAlone i shows shows_body s form start stop (Ok node) = (stop < length s.tokens.now) × TakesAlone i shows shows_body form 0 (front s i start) (front s i stop) node
-IsAlone i shows shows_body s form start stop (Err fault) = IsRefused (FunctionPart passed form None 0) (NoFunction form 0 (front s i start)) i s start fault
+abbrev pub IsAlone : {E B : Type 0} → Interpretation → (E → Expr → Type 0) → (B → Stmts → Type 0) → Source → FuncForm → (start stop : ℕ)
+    → Result (NodeFunc E B) ParseFault → Type 0
+IsAlone i shows shows_body s form start stop (Ok node) = (stop < length s.tokens.now)
+    × TakesAlone i shows shows_body form 0 (front s i start) (front s i stop) node
+IsAlone i shows shows_body s form start stop (Err fault) = IsRefused (FunctionPart passed form None 0)
+    (NoFunction form 0 (front s i start)) i s start fault
 
 -- the last of these bodies, where it stands in nothing
 abbrev pub IsOutermost : List Pending → Option Pending → Type 0

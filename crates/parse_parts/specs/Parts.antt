@@ -57,36 +57,42 @@ fill_own bodies (tree.BracedBody items) = tree.BracedBody (fill_stmts bodies ite
 fill_own bodies (tree.ShortBody value) = tree.ShortBody (fill bodies value)
 
 abbrev pub fill_inside : (ℕ → Body) → Function → Function
-fill_inside bodies (function form start end name ps comma bare body) = function form start end name (fill_params bodies ps) comma bare (fill_own bodies body)
+fill_inside bodies (function form start end name ps comma bare body) = function form start end name (fill_params bodies ps) comma bare
+    (fill_own bodies body)
 
 -- In each of these the node stands for the tree of the tokens that were taken, where each body that was passed over has the
 -- statements that the interpretation gives to its function.
 
-pub record TakesAssign {E : Type 0} (i : Interpretation) (shows : E → Expr → Type 0) (with_in : Bool) (depth : ℕ) (from behind : List Lexeme) (node : E) : Type 0 where
+pub record TakesAssign {E : Type 0} (i : Interpretation) (shows : E → Expr → Type 0) (with_in : Bool) (depth : ℕ)
+    (from behind : List Lexeme) (node : E) : Type 0 where
   pub taken : Taken (AssignPart passed with_in depth) from behind
   pub next : taken.part.next ≡ head_of behind
   pub shown : shows node (fill (body_at i) taken.part.tree)
   pub longest : IsLongest (AssignPart passed with_in depth) taken.tokens behind
 
-pub record TakesExpression {E : Type 0} (i : Interpretation) (shows : E → Expr → Type 0) (with_in : Bool) (depth : ℕ) (from behind : List Lexeme) (node : E) : Type 0 where
+pub record TakesExpression {E : Type 0} (i : Interpretation) (shows : E → Expr → Type 0) (with_in : Bool) (depth : ℕ)
+    (from behind : List Lexeme) (node : E) : Type 0 where
   pub taken : Taken (ExpressionPart passed with_in depth) from behind
   pub next : taken.part.next ≡ head_of behind
   pub shown : shows node (fill (body_at i) taken.part.tree)
   pub longest : IsLongest (ExpressionPart passed with_in depth) taken.tokens behind
 
-pub record TakesHead {E B : Type 0} (i : Interpretation) (shows : E → Expr → Type 0) (shows_body : B → Stmts → Type 0) (form : FuncForm) (name : Option Named) (depth : ℕ) (from behind : List Lexeme) (node : NodeFunc E B) : Type 0 where
+pub record TakesHead {E B : Type 0} (i : Interpretation) (shows : E → Expr → Type 0) (shows_body : B → Stmts → Type 0) (form : FuncForm)
+    (name : Option Named) (depth : ℕ) (from behind : List Lexeme) (node : NodeFunc E B) : Type 0 where
   pub taken : Taken (HeadPart passed form name depth) from behind
   pub next : taken.part.next ≡ head_of behind
   pub shown : ShowFunc i shows shows_body node (fill_function (body_at i) taken.part.tree)
 
-pub record TakesBody {B : Type 0} (i : Interpretation) (shows : B → Stmts → Type 0) (depth end : ℕ) (from behind : List Lexeme) (node : B) : Type 0 where
+pub record TakesBody {B : Type 0} (i : Interpretation) (shows : B → Stmts → Type 0) (depth end : ℕ) (from behind : List Lexeme)
+    (node : B) : Type 0 where
   pub taken : Taken (BodyPart passed depth) from behind
   pub next : taken.part.next ≡ head_of behind
   pub ends : taken.part.end ≡ end
   pub shown : shows node (fill_stmts (body_at i) taken.part.items)
 
 -- after the function only the End token stands
-pub record TakesAlone {E B : Type 0} (i : Interpretation) (shows : E → Expr → Type 0) (shows_body : B → Stmts → Type 0) (form : FuncForm) (depth : ℕ) (from behind : List Lexeme) (node : NodeFunc E B) : Type 0 where
+pub record TakesAlone {E B : Type 0} (i : Interpretation) (shows : E → Expr → Type 0) (shows_body : B → Stmts → Type 0) (form : FuncForm)
+    (depth : ℕ) (from behind : List Lexeme) (node : NodeFunc E B) : Type 0 where
   pub taken : Taken (FunctionPart passed form None depth) from behind
   pub next : taken.part.next ≡ head_of behind
   pub ends : (head_of behind).kind ≡ kind.End
@@ -107,4 +113,5 @@ pub record NoBody (depth : ℕ) (from : List Lexeme) : Type 0 where
   pub none : (behind : List Lexeme) (there : Taken (BodyPart passed depth) from behind) → there.part.next ≡ head_of behind → ⊥
 
 pub record NoFunction (form : FuncForm) (depth : ℕ) (from : List Lexeme) : Type 0 where
-  pub none : (behind : List Lexeme) (there : Taken (FunctionPart passed form None depth) from behind) → there.part.next ≡ head_of behind → (head_of behind).kind ≡ kind.End → ⊥
+  pub none : (behind : List Lexeme) (there : Taken (FunctionPart passed form None depth) from behind) → there.part.next ≡ head_of behind
+      → (head_of behind).kind ≡ kind.End → ⊥

@@ -82,27 +82,31 @@ inside (function form start end name ps comma bare body) = in_params false ps (i
 -- statements, in the order of the source. The node stands for its tree, where each body has the statements that the
 -- interpretation gives to its function.
 
-pub record WholeAssign {E : Type 0} (i : Interpretation) (shows : E → Expr → Type 0) (with_in : Bool) (depth : ℕ) (from behind : List Lexeme) (node : E) (bodies : List Stmts) : Type 0 where
+pub record WholeAssign {E : Type 0} (i : Interpretation) (shows : E → Expr → Type 0) (with_in : Bool) (depth : ℕ)
+    (from behind : List Lexeme) (node : E) (bodies : List Stmts) : Type 0 where
   pub taken : Taken (AssignPart whole with_in depth) from behind
   pub next : taken.part.next ≡ head_of behind
   pub shown : shows node (fill (body_at i) taken.part.tree)
   pub are : in_expr false taken.part.tree [] ≡ bodies
 
-pub record WholeExpression {E : Type 0} (i : Interpretation) (shows : E → Expr → Type 0) (with_in : Bool) (depth : ℕ) (from behind : List Lexeme) (node : E) (bodies : List Stmts) : Type 0 where
+pub record WholeExpression {E : Type 0} (i : Interpretation) (shows : E → Expr → Type 0) (with_in : Bool) (depth : ℕ)
+    (from behind : List Lexeme) (node : E) (bodies : List Stmts) : Type 0 where
   pub taken : Taken (ExpressionPart whole with_in depth) from behind
   pub next : taken.part.next ≡ head_of behind
   pub shown : shows node (fill (body_at i) taken.part.tree)
   pub are : in_expr false taken.part.tree [] ≡ bodies
 
 -- the function's own body is the last of them
-pub record WholeHead {E B : Type 0} (i : Interpretation) (shows : E → Expr → Type 0) (shows_body : B → Stmts → Type 0) (form : FuncForm) (name : Option Named) (depth : ℕ) (from behind : List Lexeme) (node : NodeFunc E B) (bodies : List Stmts) : Type 0 where
+pub record WholeHead {E B : Type 0} (i : Interpretation) (shows : E → Expr → Type 0) (shows_body : B → Stmts → Type 0) (form : FuncForm)
+    (name : Option Named) (depth : ℕ) (from behind : List Lexeme) (node : NodeFunc E B) (bodies : List Stmts) : Type 0 where
   pub taken : Taken (HeadPart whole form name depth) from behind
   pub next : taken.part.next ≡ head_of behind
   pub shown : ShowFunc i shows shows_body node (fill_function (body_at i) taken.part.tree)
   pub are : in_function false taken.part.tree [] ≡ bodies
 
 -- those inside the body
-pub record WholeBody {B : Type 0} (i : Interpretation) (shows : B → Stmts → Type 0) (depth end : ℕ) (from behind : List Lexeme) (node : B) (bodies : List Stmts) : Type 0 where
+pub record WholeBody {B : Type 0} (i : Interpretation) (shows : B → Stmts → Type 0) (depth end : ℕ) (from behind : List Lexeme) (node : B)
+    (bodies : List Stmts) : Type 0 where
   pub taken : Taken (BodyPart whole depth) from behind
   pub next : taken.part.next ≡ head_of behind
   pub ends : taken.part.end ≡ end
@@ -110,7 +114,8 @@ pub record WholeBody {B : Type 0} (i : Interpretation) (shows : B → Stmts → 
   pub are : in_stmts false taken.part.items [] ≡ bodies
 
 -- those inside the function
-pub record WholeAlone {E B : Type 0} (i : Interpretation) (shows : E → Expr → Type 0) (shows_body : B → Stmts → Type 0) (form : FuncForm) (depth : ℕ) (from behind : List Lexeme) (node : NodeFunc E B) (bodies : List Stmts) : Type 0 where
+pub record WholeAlone {E B : Type 0} (i : Interpretation) (shows : E → Expr → Type 0) (shows_body : B → Stmts → Type 0) (form : FuncForm)
+    (depth : ℕ) (from behind : List Lexeme) (node : NodeFunc E B) (bodies : List Stmts) : Type 0 where
   pub taken : Taken (FunctionPart whole form None depth) from behind
   pub next : taken.part.next ≡ head_of behind
   pub ends : (head_of behind).kind ≡ kind.End
@@ -119,22 +124,37 @@ pub record WholeAlone {E B : Type 0} (i : Interpretation) (shows : E → Expr �
 
 -- so after Ok of each call
 
-abbrev pub CompletesAssignment : {E : Type 0} → Interpretation → (E → Expr → Type 0) → Source → (with_in : Bool) → (depth : ℕ) → Cursor → Cursor → Result E ParseFault → Type 0
-CompletesAssignment i shows s with_in depth old new (Ok node) = (bodies : List Stmts) → HaveStatements i s (gained old.pending.items new.pending.items) bodies → WholeAssign i shows with_in depth (front s i old.at) (front s i new.at) node bodies
+abbrev pub CompletesAssignment : {E : Type 0} → Interpretation → (E → Expr → Type 0) → Source → (with_in : Bool) → (depth : ℕ) → Cursor
+    → Cursor → Result E ParseFault → Type 0
+CompletesAssignment i shows s with_in depth old new (Ok node) = (bodies : List Stmts)
+    → HaveStatements i s (gained old.pending.items new.pending.items) bodies
+    → WholeAssign i shows with_in depth (front s i old.at) (front s i new.at) node bodies
 CompletesAssignment i shows s with_in depth old new (Err _) = Unit {0}
 
-abbrev pub CompletesExpression : {E : Type 0} → Interpretation → (E → Expr → Type 0) → Source → (with_in : Bool) → (depth : ℕ) → Cursor → Cursor → Result E ParseFault → Type 0
-CompletesExpression i shows s with_in depth old new (Ok node) = (bodies : List Stmts) → HaveStatements i s (gained old.pending.items new.pending.items) bodies → WholeExpression i shows with_in depth (front s i old.at) (front s i new.at) node bodies
+abbrev pub CompletesExpression : {E : Type 0} → Interpretation → (E → Expr → Type 0) → Source → (with_in : Bool) → (depth : ℕ) → Cursor
+    → Cursor → Result E ParseFault → Type 0
+CompletesExpression i shows s with_in depth old new (Ok node) = (bodies : List Stmts)
+    → HaveStatements i s (gained old.pending.items new.pending.items) bodies
+    → WholeExpression i shows with_in depth (front s i old.at) (front s i new.at) node bodies
 CompletesExpression i shows s with_in depth old new (Err _) = Unit {0}
 
-abbrev pub CompletesHead : {E B : Type 0} → Interpretation → (E → Expr → Type 0) → (B → Stmts → Type 0) → Source → FuncForm → Option Named → (depth : ℕ) → Cursor → Cursor → Result (NodeFunc E B) ParseFault → Type 0
-CompletesHead i shows shows_body s form name depth old new (Ok node) = (bodies : List Stmts) → HaveStatements i s (gained old.pending.items new.pending.items) bodies → WholeHead i shows shows_body form name depth (front s i old.at) (front s i new.at) node bodies
+abbrev pub CompletesHead : {E B : Type 0} → Interpretation → (E → Expr → Type 0) → (B → Stmts → Type 0) → Source → FuncForm → Option Named
+    → (depth : ℕ) → Cursor → Cursor → Result (NodeFunc E B) ParseFault → Type 0
+CompletesHead i shows shows_body s form name depth old new (Ok node) = (bodies : List Stmts)
+    → HaveStatements i s (gained old.pending.items new.pending.items) bodies
+    → WholeHead i shows shows_body form name depth (front s i old.at) (front s i new.at) node bodies
 CompletesHead i shows shows_body s form name depth old new (Err _) = Unit {0}
 
-abbrev pub CompletesBody : {B : Type 0} → Interpretation → (B → Stmts → Type 0) → Source → (depth : ℕ) → Cursor → Cursor → Result (BodyNode B) ParseFault → Type 0
-CompletesBody i shows s depth old new (Ok read) = (bodies : List Stmts) → HaveStatements i s (gained old.pending.items new.pending.items) bodies → WholeBody i shows depth read.end (front s i old.at) (front s i new.at) read.node bodies
+abbrev pub CompletesBody : {B : Type 0} → Interpretation → (B → Stmts → Type 0) → Source → (depth : ℕ) → Cursor → Cursor
+    → Result (BodyNode B) ParseFault → Type 0
+CompletesBody i shows s depth old new (Ok read) = (bodies : List Stmts)
+    → HaveStatements i s (gained old.pending.items new.pending.items) bodies
+    → WholeBody i shows depth read.end (front s i old.at) (front s i new.at) read.node bodies
 CompletesBody i shows s depth old new (Err _) = Unit {0}
 
-abbrev pub CompletesAlone : {E B : Type 0} → Interpretation → (E → Expr → Type 0) → (B → Stmts → Type 0) → Source → FuncForm → Cursor → Cursor → Result (NodeFunc E B) ParseFault → Type 0
-CompletesAlone i shows shows_body s form old new (Ok node) = (bodies : List Stmts) → HaveStatements i s (gained old.pending.items new.pending.items) bodies → WholeAlone i shows shows_body form 0 (front s i old.at) (front s i new.at) node bodies
+abbrev pub CompletesAlone : {E B : Type 0} → Interpretation → (E → Expr → Type 0) → (B → Stmts → Type 0) → Source → FuncForm → Cursor
+    → Cursor → Result (NodeFunc E B) ParseFault → Type 0
+CompletesAlone i shows shows_body s form old new (Ok node) = (bodies : List Stmts)
+    → HaveStatements i s (gained old.pending.items new.pending.items) bodies
+    → WholeAlone i shows shows_body form 0 (front s i old.at) (front s i new.at) node bodies
 CompletesAlone i shows shows_body s form old new (Err _) = Unit {0}

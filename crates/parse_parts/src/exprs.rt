@@ -26,7 +26,8 @@ pub fn assignment<H: Handler>(
     requires depth { depth ≤ depth_limit }
     ensures answer { (i : Interpretation) → IsAssignment i (H.shows_expr i) source.now with_in depth state.old.place.at state.new.place.at result }
     ensures pending { IsGained source.now state.old.place state.new.place result }
-    ensures completes { (i : Interpretation) → CompletesAssignment i (H.shows_expr i) source.now with_in depth state.old.place state.new.place result }
+    ensures completes { (i : Interpretation) → CompletesAssignment i
+        (H.shows_expr i) source.now with_in depth state.old.place state.new.place result }
 {
     let read = state.assign(source, with_in, depth)?;
     Ok(read.node)
@@ -44,7 +45,8 @@ pub fn expression<H: Handler>(
     requires depth { depth ≤ depth_limit }
     ensures answer { (i : Interpretation) → IsExpression i (H.shows_expr i) source.now with_in depth state.old.place.at state.new.place.at result }
     ensures pending { IsGained source.now state.old.place state.new.place result }
-    ensures completes { (i : Interpretation) → CompletesExpression i (H.shows_expr i) source.now with_in depth state.old.place state.new.place result }
+    ensures completes { (i : Interpretation) → CompletesExpression i
+        (H.shows_expr i) source.now with_in depth state.old.place state.new.place result }
 {
     let read = state.expr(source, with_in, depth)?;
     Ok(read.node)

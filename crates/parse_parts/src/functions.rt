@@ -31,9 +31,11 @@ pub fn head<H: Handler>(
     requires depth { depth ≤ depth_limit }
     requires no_script { form ≡ FuncForm.Script → ⊥ }
     requires no_arrow { form ≡ FuncForm.Arrow → ⊥ }
-    ensures answer { (i : Interpretation) → IsHeaded i (H.shows_expr i) (H.shows_body i) source.now form (maybe_named i name) depth state.old.place.at state.new.place.at result }
+    ensures answer { (i : Interpretation) → IsHeaded i (H.shows_expr i) (H.shows_body i) source.now form
+        (maybe_named i name) depth state.old.place.at state.new.place.at result }
     ensures pending { IsGained source.now state.old.place state.new.place result }
-    ensures completes { (i : Interpretation) → CompletesHead i (H.shows_expr i) (H.shows_body i) source.now form (maybe_named i name) depth state.old.place state.new.place result }
+    ensures completes { (i : Interpretation) → CompletesHead i (H.shows_expr i) (H.shows_body i) source.now form
+        (maybe_named i name) depth state.old.place state.new.place result }
 {
     let read = state.function(source, form, name, depth)?;
     Ok(read)
@@ -69,7 +71,8 @@ pub fn alone<H: Handler>(
     requires no_script { form ≡ FuncForm.Script → ⊥ }
     ensures answer { (i : Interpretation) → IsAlone i (H.shows_expr i) (H.shows_body i) source.now form state.old.place.at state.new.place.at result }
     ensures pending { IsGained source.now state.old.place state.new.place result }
-    ensures completes { (i : Interpretation) → CompletesAlone i (H.shows_expr i) (H.shows_body i) source.now form state.old.place state.new.place result }
+    ensures completes { (i : Interpretation) → CompletesAlone i (H.shows_expr i)
+        (H.shows_body i) source.now form state.old.place state.new.place result }
 {
     let passed = scripts::alone(state, source, form, 0);
     if lacks_memory(&passed) {

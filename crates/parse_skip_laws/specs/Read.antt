@@ -31,6 +31,7 @@ pub record ReadSkipped (chosen : ℕ → Bool) (i : Inner) (end : ℕ) (text : L
   pub last : Lexeme
   pub alone : map lexeme_of (tokens_within (suc (length text)) end [] false text) ≡ all ++ last ∷ []
   pub leaves : LeavesOut holes all left
-  pub scanned : (others : List Point) → Blanked end (map span_of holes) text others → map lexeme_of (tokens_within (suc (length others)) end [] false others) ≡ left ++ last ∷ []
+  pub scanned : (others : List Point) → Blanked end (map span_of holes) text others
+      → map lexeme_of (tokens_within (suc (length others)) end [] false others) ≡ left ++ last ∷ []
   pub is : IsFunction whole (function_form i.func) None 0 left last (hollow_inside chosen (nameless i.func))
   pub shallow : (j : ℕ) → get_or (depths (print_alone whole 0 (hollow_inside chosen (nameless i.func))) left last is.fits) j 0 ≤ depth_limit

@@ -1,7 +1,8 @@
 -- The scopes of a region with their names, and which names are closed over: those that a use inside an inner function
 -- finds.
 use Rattle.std.specs.Prelude.{ℕ, ◌+◌, Bool, true, false, cond, not, ◌||◌, ◌&&◌, Option, None, Some, List, [], ◌∷◌, ◌++◌, map, length}
-use Rattle.parse_track.specs.Told.{Name, Region, Script, Function, Arrow, Lambda, Block, Switch, ForHead, Catch, Loop, Label, VarBody, Declared, Used, Jumped, Told, nothing, leaf, inner, KnownNames}
+use Rattle.parse_track.specs.Told.{Name, Region, Script, Function, Arrow, Lambda, Block, Switch, ForHead, Catch, Loop, Label, VarBody}
+use Rattle.parse_track.specs.Told.{Declared, Used, Jumped, Told, nothing, leaf, inner, KnownNames}
 use Rattle.parse_track.specs.RegionNames.{is_lexical, is_param, is_catch_param, is_lambda, is_function, is_body, directly, vars}
 use Rattle.parse_track.specs.EarlyErrors.{has}
 

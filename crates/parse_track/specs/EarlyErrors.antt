@@ -4,7 +4,8 @@ use Rattle.std.specs.Prelude.{ℕ, max, min, Bool, true, false, cond, ◌||◌, 
 use Rattle.std.specs.List.{list_any}
 use Rattle.parse_track.specs.declared.region.Early.{Early}
 use Rattle.parse_track.specs.declared.region.Jump.TheVariants.{Break, Continue}
-use Rattle.parse_track.specs.Told.{Name, Region, Script, Function, Arrow, Lambda, Block, Switch, ForHead, Catch, Loop, Label, VarBody, Leaf, Declared, Used, Jumped, Told, nothing, leaf, inner, KnownNames}
+use Rattle.parse_track.specs.Told.{Name, Region, Script, Function, Arrow, Lambda, Block, Switch, ForHead, Catch, Loop, Label, VarBody}
+use Rattle.parse_track.specs.Told.{Leaf, Declared, Used, Jumped, Told, nothing, leaf, inner, KnownNames}
 use Rattle.parse_track.specs.RegionNames.{is_lexical, is_param, is_catch_param, is_head, is_block, is_body, directly, vars, lexical_below}
 
 -- whether a name is among these
@@ -104,7 +105,11 @@ within Function i around = nothing_around
 within Arrow i around = nothing_around
 within Loop i around = record around { loop = true; leaves = true }
 within Switch i around = record around { leaves = true }
-within (Label name) i around = record around { labels = around.labels ++ name.name ∷ []; loops = around.loops ++ cond (is_loop i) (name.name ∷ []) [] }
+within (Label name) i around = record around {
+  labels = around.labels ++ name.name ∷ [];
+  loops = around.loops
+      ++ cond (is_loop i) (name.name ∷ []) [];
+}
 within (Lambda _) i around = around
 within Block i around = around
 within ForHead i around = around

@@ -1,12 +1,18 @@
 -- The early errors of a tree that look at no region: those on targets of assignments, on `const` without an initializer, on
 -- `delete` of a name, on `__proto__` twice in an object literal, on too many parameters or arguments, and on `use strict`
 -- where a function has an initializer or a rest parameter. Each is its offset and the number of its rule.
-use Rattle.std.specs.Prelude.{ℕ, ◌-◌, Bool, true, false, cond, codes, not, ◌||◌, ◌&&◌, nat_eq, bytes_eq, zero, suc, Option, None, Some, List, [], ◌∷◌, ◌++◌}
+use Rattle.std.specs.Prelude.{ℕ, ◌-◌, Bool, true, false, cond, codes, not, ◌||◌, ◌&&◌, nat_eq, bytes_eq, zero, suc, Option, None, Some}
+use Rattle.std.specs.Prelude.{List, [], ◌∷◌, ◌++◌}
 use Rattle.script_grammar.specs.declared.token.Decl.{Decl}
 use Rattle.script_grammar.specs.declared.token.Decl.TheVariants as decl
 use Rattle.script_grammar.specs.declared.token.word.TheConstants as word
 use Rattle.script_grammar.specs.Tree as tree
-use Rattle.script_grammar.specs.Tree.{Named, Expr, MaybeExpr, no_expr, some_expr, Exprs, no_exprs, more_exprs, MaybeArgs, no_args, some_args, Parts, no_parts, more_parts, Items, no_items, more_items, Operands, no_operands, more_operands, Tail, Tails, no_tails, more_tails, Key, Prop, Props, no_props, more_props, function, Params, no_params, more_params, Body, BracedBody, ShortBody, Binds, no_binds, more_binds, Init, NoInit, ValueInit, BindsInit, Each, TargetEach, BindEach, Clauses, no_clauses, more_clauses, Stmt, Stmts, no_stmts, more_stmts, MaybeStmt, no_stmt, some_stmt}
+use Rattle.script_grammar.specs.Tree.{Named, Expr, MaybeExpr, no_expr, some_expr, Exprs, no_exprs, more_exprs, MaybeArgs, no_args}
+use Rattle.script_grammar.specs.Tree.{some_args, Parts, no_parts, more_parts, Items, no_items, more_items, Operands, no_operands}
+use Rattle.script_grammar.specs.Tree.{more_operands, Tail, Tails, no_tails, more_tails, Key, Prop, Props, no_props, more_props, function}
+use Rattle.script_grammar.specs.Tree.{Params, no_params, more_params, Body, BracedBody, ShortBody, Binds, no_binds, more_binds, Init}
+use Rattle.script_grammar.specs.Tree.{NoInit, ValueInit, BindsInit, Each, TargetEach, BindEach, Clauses, no_clauses, more_clauses, Stmt}
+use Rattle.script_grammar.specs.Tree.{Stmts, no_stmts, more_stmts, MaybeStmt, no_stmt, some_stmt}
 use Rattle.parse_track.specs.declared.region.Early.{Early}
 use Rattle.parse_track.specs.EarlyErrors.{sooner, first_error}
 use Rattle.parse_track.specs.ClosedNames.{Bound, closed}

@@ -2,7 +2,8 @@
 use Rattle.std.specs.Prelude.{Bool, true, false, cond, List, [], ◌∷◌, ◌++◌}
 use Rattle.parse_track.specs.declared.region.Declare.{Declare}
 use Rattle.parse_track.specs.declared.region.Declare.TheVariants.{Lexical, Var, Param, Catch as CatchParam}
-use Rattle.parse_track.specs.Told.{Name, Region, Script, Function, Arrow, Lambda, Block, ForHead, VarBody, Leaf, Declared, Used, Jumped, Told, nothing, leaf, inner}
+use Rattle.parse_track.specs.Told.{Name, Region, Script, Function, Arrow, Lambda, Block, ForHead, VarBody, Leaf, Declared, Used, Jumped}
+use Rattle.parse_track.specs.Told.{Told, nothing, leaf, inner}
 
 -- how a name may be declared
 abbrev pub is_lexical : Declare → Bool

@@ -1,5 +1,6 @@
 -- How the rows that a track keeps stand for the parts of its log.
-use Rattle.std.specs.Prelude.{ℕ, zero, suc, ◌≡◌, ◌+◌, ◌<◌, ◌≤◌, ◌^◌, ◌-◌, ◌⊎◌, Option, None, Some, List, [], ◌∷◌, ◌++◌, length, slice_get, map, IfSome}
+use Rattle.std.specs.Prelude.{ℕ, zero, suc, ◌≡◌, ◌+◌, ◌<◌, ◌≤◌, ◌^◌, ◌-◌, ◌⊎◌, Option, None, Some, List, [], ◌∷◌, ◌++◌, length, slice_get}
+use Rattle.std.specs.Prelude.{map, IfSome}
 use Rattle.script_grammar.specs.declared.tree.Ident.{Ident}
 use Rattle.parse_track.specs.declared.track.Item.{Item as Told}
 use Rattle.parse_track.specs.declared.track.Item.TheVariants as code

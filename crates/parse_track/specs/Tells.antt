@@ -6,7 +6,12 @@ use Rattle.script_grammar.specs.declared.token.Decl.{Decl}
 use Rattle.script_grammar.specs.declared.token.Decl.TheVariants as decl
 use Rattle.script_grammar.specs.Kinds.{is_arrow_form}
 use Rattle.script_grammar.specs.Tree as tree
-use Rattle.script_grammar.specs.Tree.{Named, Expr, MaybeExpr, no_expr, some_expr, Exprs, no_exprs, more_exprs, MaybeArgs, no_args, some_args, Parts, no_parts, more_parts, Items, no_items, more_items, Operands, no_operands, more_operands, Tail, Tails, no_tails, more_tails, Key, Prop, Props, no_props, more_props, function, Params, no_params, more_params, Body, BracedBody, ShortBody, Binds, no_binds, more_binds, Init, NoInit, ValueInit, BindsInit, Each, TargetEach, BindEach, Clauses, no_clauses, more_clauses, Stmt, Stmts, no_stmts, more_stmts, MaybeStmt, no_stmt, some_stmt}
+use Rattle.script_grammar.specs.Tree.{Named, Expr, MaybeExpr, no_expr, some_expr, Exprs, no_exprs, more_exprs, MaybeArgs, no_args}
+use Rattle.script_grammar.specs.Tree.{some_args, Parts, no_parts, more_parts, Items, no_items, more_items, Operands, no_operands}
+use Rattle.script_grammar.specs.Tree.{more_operands, Tail, Tails, no_tails, more_tails, Key, Prop, Props, no_props, more_props, function}
+use Rattle.script_grammar.specs.Tree.{Params, no_params, more_params, Body, BracedBody, ShortBody, Binds, no_binds, more_binds, Init}
+use Rattle.script_grammar.specs.Tree.{NoInit, ValueInit, BindsInit, Each, TargetEach, BindEach, Clauses, no_clauses, more_clauses, Stmt}
+use Rattle.script_grammar.specs.Tree.{Stmts, no_stmts, more_stmts, MaybeStmt, no_stmt, some_stmt}
 use Rattle.parse_track.specs.declared.region.Declare.{Declare}
 use Rattle.parse_track.specs.declared.region.Declare.TheVariants as how
 use Rattle.parse_track.specs.declared.region.Jump.{Jump}
@@ -206,7 +211,8 @@ abbrev mutual
   tells_stmt top (tree.Do body test semi) t = tells_region told.Loop (tells_stmt false body (tells_expr test nothing)) t
   tells_stmt top (tree.While test body) t = tells_region told.Loop (tells_expr test (tells_stmt false body nothing)) t
   tells_stmt top (tree.For init test update body) t =
-      tells_region told.Loop (tells_region told.ForHead (tells_init init (tells_maybe test (tells_maybe update (tells_stmt false body nothing)))) nothing) t
+      tells_region told.Loop (tells_region told.ForHead
+      (tells_init init (tells_maybe test (tells_maybe update (tells_stmt false body nothing)))) nothing) t
   tells_stmt top (tree.ForIn each over body) t =
       tells_region told.Loop (tells_region told.ForHead (tells_each each (tells_expr over (tells_stmt false body nothing))) nothing) t
   tells_stmt top (tree.Continue at label semi) t = tells_jump word.Continue at label t

@@ -1,6 +1,7 @@
 //! The names that inner functions close over, by one walk from the outside in.
 
-ghost use Rattle.std.specs.Prelude.{◌≡◌, ◌<◌, ◌≤◌, ◌+◌, ◌^◌, ◌++◌, ◌∷◌, [], ℕ, Option, List, Bool, false, length, slice_get, cond, Some, None, IfOk, OnOk, map, nat_eq};
+ghost use Rattle.std.specs.Prelude.{◌≡◌, ◌<◌, ◌≤◌, ◌+◌, ◌^◌, ◌++◌, ◌∷◌, [], ℕ, Option, List, Bool, false, length, slice_get, cond, Some};
+ghost use Rattle.std.specs.Prelude.{None, IfOk, OnOk, map, nat_eq};
 ghost use Rattle.parse_track.specs.AtomTables.{entry};
 ghost use Rattle.parse_track.specs.RegionNames.{is_lambda};
 ghost use Rattle.parse_track.specs.ClosedNames.{begins, joined, bound_in, bound_by, first_at};

@@ -1,6 +1,7 @@
 //! The first jump without its target, and the first label inside the same label.
 
-ghost use Rattle.std.specs.Prelude.{◌≡◌, ◌<◌, ◌≤◌, ◌-◌, ◌^◌, ◌∷◌, [], ℕ, Bool, Option, None, Some, false, cond, length, slice_get, IfOk, OnOk, IsSome, ◌++◌, map, nat_eq};
+ghost use Rattle.std.specs.Prelude.{◌≡◌, ◌<◌, ◌≤◌, ◌-◌, ◌^◌, ◌∷◌, [], ℕ, Bool, Option, None, Some, false, cond, length, slice_get, IfOk};
+ghost use Rattle.std.specs.Prelude.{OnOk, IsSome, ◌++◌, map, nat_eq};
 ghost use Rattle.std.specs.List.{list_any};
 ghost use Rattle.parse_track.specs.Told.{Jumped, Loop as LoopRegion, Switch as SwitchRegion, Label as LabelRegion};
 ghost use Rattle.parse_track.specs.EarlyErrors.{smaller, smallest, nothing_around, is_loop, wrong_jump, wrong_label, wrong_jumps};

@@ -1,6 +1,7 @@
 //! The early errors that look at one region: the smallest offset of each over all regions, by one walk.
 
-ghost use Rattle.std.specs.Prelude.{◌≡◌, ◌<◌, ◌≤◌, ◌-◌, ◌^◌, ◌++◌, ◌∷◌, [], ℕ, Bool, true, None, length, slice_get, IfOk, OnOk, map, nat_eq, filter_map};
+ghost use Rattle.std.specs.Prelude.{◌≡◌, ◌<◌, ◌≤◌, ◌-◌, ◌^◌, ◌++◌, ◌∷◌, [], ℕ, Bool, true, None, length, slice_get, IfOk, OnOk, map};
+ghost use Rattle.std.specs.Prelude.{nat_eq, filter_map};
 ghost use Rattle.std.specs.List.{list_any};
 ghost use Rattle.parse_track.specs.Told.{Told};
 ghost use Rattle.parse_track.specs.RegionNames.{is_lexical, is_param, directly, lexical_below};

@@ -38,5 +38,6 @@ pub record IsIndexed (texts : List (List ℕ)) (firsts : Firsts) (others : Other
 
 -- After a text that stood nowhere was put at the end of the texts, the new trees fit them as the old ones did before.
 abbrev pub Indexes : Firsts → Others → List ℕ → ℕ → Firsts → Others → Type 0
-Indexes firsts others text place now_firsts now_others = (texts : List (List ℕ)) → IsIndexed texts firsts others → ¬ (StandsIn texts text) → place ≡ length texts → length texts < 2 ^ 32 - 1
+Indexes firsts others text place now_firsts now_others = (texts : List (List ℕ)) → IsIndexed texts firsts others → ¬ (StandsIn texts text)
+    → place ≡ length texts → length texts < 2 ^ 32 - 1
     → IsIndexed (texts ++ text ∷ []) now_firsts now_others

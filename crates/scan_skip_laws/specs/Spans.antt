@@ -21,7 +21,8 @@ blank from to = if nat_lt from to then record { code = 0x20; start = from; end =
 -- offset.
 pub data Blanked (to : ℕ) : List Span → List Point → List Point → Type 0 where
   whole : (ps : List Point) → Blanked to [] ps ps
-  part : (s : Span) (spans : List Span) (front inside rest others all left : List Point) → place to (inside ++ rest) ≡ s.from → place to rest ≡ s.to → all ≡ front ++ (inside ++ rest) → left ≡ front ++ (blank s.from s.to ++ others)
+  part : (s : Span) (spans : List Span) (front inside rest others all left : List Point) → place to (inside ++ rest) ≡ s.from
+      → place to rest ≡ s.to → all ≡ front ++ (inside ++ rest) → left ≡ front ++ (blank s.from s.to ++ others)
       → Blanked to spans rest others → Blanked to (s ∷ spans) all left
 
 -- the same token with no line end before it
@@ -40,5 +41,7 @@ CloseInside ks = IsBalanced (filter (λ k. opens_or_closes_brace (part_of k)) ks
 pub data LeavesSpans : List Span → List Lexed → List Lexed → Type 0 where
   nothing : LeavesSpans [] [] []
   keeps : (t : Lexed) (spans : List Span) (ts us : List Lexed) → LeavesSpans spans ts us → LeavesSpans spans (t ∷ ts) (t ∷ us)
-  skips : (opener closer : Lexed) (inside : List Lexed) (spans : List Span) (ts us all left : List Lexed) → opener.kind ≡ kind.Mark mark.OPEN_BRACE → CloseInside (kinds_of inside)
-      → all ≡ opener ∷ (inside ++ closer ∷ ts) → left ≡ opener ∷ at_front closer ∷ us → LeavesSpans spans ts us → LeavesSpans (record { from = opener.end; to = closer.start } ∷ spans) all left
+  skips : (opener closer : Lexed) (inside : List Lexed) (spans : List Span) (ts us all left : List Lexed)
+      → opener.kind ≡ kind.Mark mark.OPEN_BRACE → CloseInside (kinds_of inside)
+      → all ≡ opener ∷ (inside ++ closer ∷ ts) → left ≡ opener ∷ at_front closer ∷ us → LeavesSpans spans ts us
+      → LeavesSpans (record { from = opener.end; to = closer.start } ∷ spans) all left

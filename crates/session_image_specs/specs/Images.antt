@@ -50,7 +50,8 @@ IsVerifiedBefore number code notes out unsound Rest =
 abbrev pub AreVerified : ℕ → List Entry → List ℕ → Bool → Type 0
 AreVerified number [] out unsound = (out ≡ []) × (unsound ≡ false)
 AreVerified number (entry.Lazy ∷ rest) out unsound = AreVerified (number + 1) rest out unsound
-AreVerified number (entry.Compiled f ∷ rest) out unsound = IsVerifiedBefore number f.code f.notes out unsound (λ later u. AreVerified (number + 1) rest later u)
+AreVerified number (entry.Compiled f ∷ rest) out unsound = IsVerifiedBefore number f.code f.notes out unsound
+    (λ later u. AreVerified (number + 1) rest later u)
 
 -- the lines of all scripts of an image
 pub record AreVerifiedLines (bytes : List ℕ) (out : List ℕ) (unsound : Bool) : Type 0 where

@@ -13,7 +13,8 @@ use stencil_xdr_read::{ImageFault, read_image};
 
 /// Appends the listing of the code of all scripts that stand in an image. After an error nothing is said of what was appended.
 pub fn append_listing(alloc: Global, out: &mut Vec<u8>, bytes: &[u8]) -> Result<(), ImageFault>
-    ensures listing { OnOk result ((merged : NamedMerged (List Listed)) × IsImageFor bytes.now merged × (out.new.items ≡ out.old.items ++ lines.code_text merged)) }
+    ensures listing { OnOk result ((merged : NamedMerged (List Listed)) × IsImageFor bytes.now merged
+        × (out.new.items ≡ out.old.items ++ lines.code_text merged)) }
     ensures none { result ≡ Err NoImage → IsNoImage bytes.now }
 {
     let stencil = read_image(alloc, bytes)?;

@@ -72,7 +72,8 @@ fn append_entry(
     number: u64,
     entry: &Entry,
 ) -> Result<bool, AllocError>
-    ensures { IfOk result (λ unsound. (lines : List ℕ) × AreVerified number (entry.now ∷ []) lines unsound × (out.new.items ≡ out.old.items ++ lines)) }
+    ensures { IfOk result (λ unsound. (lines : List ℕ) × AreVerified number (entry.now ∷ []) lines unsound
+        × (out.new.items ≡ out.old.items ++ lines)) }
 {
     match entry {
         Entry::Lazy => Ok(false),
@@ -96,7 +97,8 @@ fn append_functions(alloc: Global, out: &mut Vec<u8>, entries: &[Entry]) -> Resu
 /// Appends a line for each script that is compiled in an image, and answers whether the code of one is unsound. After an error
 /// nothing is said of what was appended.
 pub fn append_verdicts(alloc: Global, out: &mut Vec<u8>, bytes: &[u8]) -> Result<bool, ImageFault>
-    ensures verdicts { IfOk result (λ unsound. (lines : List ℕ) × AreVerifiedLines bytes.now lines unsound × (out.new.items ≡ out.old.items ++ lines)) }
+    ensures verdicts { IfOk result (λ unsound. (lines : List ℕ) × AreVerifiedLines bytes.now lines unsound
+        × (out.new.items ≡ out.old.items ++ lines)) }
     ensures none { result ≡ Err NoImage → IsNoImage bytes.now }
 {
     let stencil = read_image(alloc, bytes)?;

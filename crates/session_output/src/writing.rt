@@ -46,7 +46,8 @@ fn write_round<R: Threads + Wait + Sync, G: Gate, K: Sink>(
     requires few { length pieces.now ≤ 128 }
     requires workers { (1 ≤ workers) × (workers ≤ 16) }
     ensures count { CountsSink (K.faults sink.old) (K.faults sink.new) result }
-    ensures took { (from to : Place) → Lead script.now.listing script.now.stencil from pieces.now to → GainsBetween script.now from to (K.taken sink.old) (K.taken sink.new) result }
+    ensures took { (from to : Place) → Lead script.now.listing script.now.stencil from pieces.now to
+        → GainsBetween script.now from to (K.taken sink.old) (K.taken sink.new) result }
 {
     match texts_of(rt, alloc, script, pieces, workers, gate) {
         Ok(texts) => write_each(sink, &texts),

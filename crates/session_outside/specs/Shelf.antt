@@ -1,6 +1,7 @@
 -- What the calls of a shelf do to its five meanings, each by cases on the call's answer. The shelf is
 -- this project's own: nothing outside is named by it.
-use Rattle.std.specs.Prelude.{◌≡◌, ℕ, ◌<◌, Bool, true, false, List, [], ◌∷◌, ◌++◌, suc, zero, take, drop, Option, Some, None, Vec, Result, Ok, Err, ◌⊎◌}
+use Rattle.std.specs.Prelude.{◌≡◌, ℕ, ◌<◌, Bool, true, false, List, [], ◌∷◌, ◌++◌, suc, zero, take, drop, Option, Some, None, Vec, Result}
+use Rattle.std.specs.Prelude.{Ok, Err, ◌⊎◌}
 use Rattle.std.specs.declared.alloc.Global.{Global}
 use Rattle.session_outside.specs.declared.shelf.ShelfRefusal.{ShelfRefusal}
 use Rattle.session_outside.specs.declared.shelf.ShelfRefusal.TheVariants.{Failed, NoMemory}

@@ -1,6 +1,7 @@
 //! Shelves that hold their files in memory.
 
-ghost use Rattle.std.specs.Prelude.{◌≡◌, ℕ, ◌-◌, ◌^◌, ◌<◌, ◌≤◌, false, [], ◌∷◌, ◌++◌, map, length, take, drop, min, Some, None, OnOk, OnErr, IfOk, IsTrue, ◌↔◌, ◌⊎◌};
+ghost use Rattle.std.specs.Prelude.{◌≡◌, ℕ, ◌-◌, ◌^◌, ◌<◌, ◌≤◌, false, [], ◌∷◌, ◌++◌, map, length, take, drop, min, Some, None, OnOk};
+ghost use Rattle.std.specs.Prelude.{OnErr, IfOk, IsTrue, ◌↔◌, ◌⊎◌};
 ghost use Rattle.std.specs.String.{string_bytes};
 ghost use Rattle.std.specs.Prelude.{true};
 ghost use Rattle.session_outside.specs.Files.{bytes_at, held_by, place_of};
@@ -250,7 +251,8 @@ impl Shelf for MapShelf {
         ensures names { AddsName (⟦<MapShelf as Shelf>⟧.turned self.old) (⟦<MapShelf as Shelf>⟧.turned self.new) name.now result }
         ensures same { ⟦<MapShelf as Shelf>⟧.held self.new ≡ ⟦<MapShelf as Shelf>⟧.held self.old }
         ensures opens { Opens (⟦<MapShelf as Shelf>⟧.is_open self.old) (⟦<MapShelf as Shelf>⟧.is_open self.new) result }
-        ensures leaves { LeavesAfterTurn (⟦<MapShelf as Shelf>⟧.held self.old) (⟦<MapShelf as Shelf>⟧.left self.old) (⟦<MapShelf as Shelf>⟧.left self.new) name.now result }
+        ensures leaves { LeavesAfterTurn (⟦<MapShelf as Shelf>⟧.held self.old) (⟦<MapShelf as Shelf>⟧.left self.old)
+            (⟦<MapShelf as Shelf>⟧.left self.new) name.now result }
         ensures missing { ¬ HasName self.old name.now → Fails result }
         ensures told { IsTold self.old → Fails result }
         ensures failed { result ≡ Err ShelfRefusal.Failed → IsTold self.old ⊎ (¬ HasName self.old name.now) }

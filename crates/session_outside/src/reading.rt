@@ -3,7 +3,8 @@
 ghost use Rattle.std.specs.Prelude.{◌≡◌, ℕ, ◌+◌, ◌-◌, ◌^◌, ◌<◌, ◌≤◌, true, [], ◌++◌, List, Some, length, map, IfOk, IfSome, OnOk};
 ghost use Rattle.std.specs.String.{string_bytes};
 ghost use Rattle.session_outside.specs.Shelf.{CountsShelf, TurnsToNext, TurnsToOpened, TurnsToRead};
-ghost use Rattle.session_outside.specs.Loops.{AreLeft, EndsWithin, GoesOn, HasAtMost, HasLeft, HasRead, HaveAtMost, IsWholeBehind, ReadsAllWithin, ReadsBehind, ReadsNameWithin, TurnsWithin, opened_within};
+ghost use Rattle.session_outside.specs.Loops.{AreLeft, EndsWithin, GoesOn, HasAtMost, HasLeft, HasRead, HaveAtMost, IsWholeBehind};
+ghost use Rattle.session_outside.specs.Loops.{ReadsAllWithin, ReadsBehind, ReadsNameWithin, TurnsWithin, opened_within};
 
 use crate::shelf::{Shelf, ShelfRefusal};
 use std::alloc::Global;
@@ -104,7 +105,8 @@ fn read_next<L: Shelf>(
 fn left_behind(left: Option<usize>, read: &Option<Vec<u8>>) -> Option<usize>
     requires { HasLeft left read.now }
     ensures within { (most : ℕ) → IfSome left (λ l. l ≤ most) → IfSome result (λ l. l ≤ most) }
-    ensures left { (most before : ℕ) (file : List ℕ) → AreLeft most before left → IsWholeBehind most before file read.now → AreLeft most (before + length file) result }
+    ensures left { (most before : ℕ) (file : List ℕ) → AreLeft most before left → IsWholeBehind most before file read.now
+        → AreLeft most (before + length file) result }
     ensures on { GoesOn left read.now result }
 {
     match (left, read) {

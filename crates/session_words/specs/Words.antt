@@ -3,7 +3,8 @@
 --   `code`, `scopes`, `check` or `save`, then options, then file names, of which `save` takes one;
 --   `load` or `verify` and one file name;
 --   `trial` or `churn`, a number and a size, and perhaps `--workers` with a number.
-use Rattle.std.specs.Prelude.{ℕ, Bool, true, false, not, ◌&&◌, ◌||◌, nat_eq, nat_le, if◌then◌else◌, List, [], ◌∷◌, length, Option, Some, None, option_and_then, option_map, codes, bytes_eq}
+use Rattle.std.specs.Prelude.{ℕ, Bool, true, false, not, ◌&&◌, ◌||◌, nat_eq, nat_le, if◌then◌else◌, List, [], ◌∷◌, length, Option, Some}
+use Rattle.std.specs.Prelude.{None, option_and_then, option_map, codes, bytes_eq}
 use Rattle.session_words.specs.declared.options.Command.{Command}
 use Rattle.session_words.specs.declared.options.Command.TheVariants as command
 use Rattle.session_words.specs.declared.options.Order.{Order}
@@ -96,7 +97,8 @@ or_else default None = default
 or_else default (Some value) = value
 
 abbrev pub job_of : Command → Given → List (List ℕ) → Asked
-job_of c given names = Files (record { command = c; want = or_else All given.want; workers = or_else 4 given.workers; order = or_else order.First given.order; files = names })
+job_of c given names = Files
+    (record { command = c; want = or_else All given.want; workers = or_else 4 given.workers; order = or_else order.First given.order; files = names })
 
 -- of at most n files
 abbrev pub with_names : Command → ℕ → Taken → Option Asked

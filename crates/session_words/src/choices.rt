@@ -3,7 +3,8 @@
 ghost use Rattle.std.specs.Prelude.{◌≡◌, [], Some, None, IfOk, option_map, map, string_bytes};
 ghost use Rattle.session_words.specs.Asked.{wanted};
 ghost use Rattle.session_words.specs.Chosen.{given};
-ghost use Rattle.session_words.specs.Words.{is_option, nothing_given, once, order_of, want_of, with_option, with_order, with_want, with_workers, workers_of};
+ghost use Rattle.session_words.specs.Words.{is_option, nothing_given, once, order_of, want_of, with_option, with_order, with_want};
+ghost use Rattle.session_words.specs.Words.{with_workers, workers_of};
 
 use crate::numbers::{number_in, numbers_in};
 use crate::options::{Order, Want};

@@ -114,7 +114,8 @@ fn with_names(
     choices: Choices,
     names: &[String],
 ) -> Result<Option<Options>, AllocError>
-    ensures { IfOk result (λ o. option_map asked o ≡ form.with_names command most (record { given = given choices; names = map string_bytes names.now })) }
+    ensures { IfOk result (λ o. option_map asked o ≡ form.with_names command most
+        (record { given = given choices; names = map string_bytes names.now })) }
 {
     if !are_names(most, names) {
         return Ok(None);

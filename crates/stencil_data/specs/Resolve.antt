@@ -55,7 +55,8 @@ place_or hops (Some binding) further = place_of hops binding.kind binding.slot
 abbrev pub resolve_beyond : ℕ → List LinkView → List ℕ → Place
 resolve_beyond hops [] name = place.Global
 resolve_beyond hops (link ∷ outer) name =
-    if is_global link.kind then place.Global else place_or hops (first_named name link.names) (resolve_beyond (hops + environments_of link) outer name)
+    if is_global link.kind then place.Global else place_or hops (first_named name link.names)
+    (resolve_beyond (hops + environments_of link) outer name)
 
 -- The place of the first binding of this name on the chain; the hops are the environments of the
 -- scopes inside the binding's own. Global where the global scope is reached.

@@ -26,13 +26,26 @@ abbrev pub named_bindings : List (List ℕ) → List Binding → List LinkName
 named_bindings texts bindings = map (named_binding texts) bindings
 
 abbrev pub named_scope : List (List ℕ) → ScopeView → NamedScope
-named_scope texts scope = record { kind = scope.kind; parent = scope.parent; bindings = named_bindings texts scope.bindings; env_slots = scope.env_slots }
+named_scope texts scope = record {
+  kind = scope.kind;
+  parent = scope.parent;
+  bindings = named_bindings texts scope.bindings;
+  env_slots =
+      scope.env_slots;
+}
 
 abbrev pub named_closed : List (List ℕ) → ClosedName → NamedClosed
 named_closed texts name = record { scope = name.scope; text = text_at texts name.atom }
 
 abbrev pub named_record : List (List ℕ) → RecordView → NamedRecord
-named_record texts lazy = record { extent = lazy.extent; kind = lazy.kind; name = option_map (text_at texts) lazy.name; inner = lazy.inner; closed = map (named_closed texts) lazy.closed }
+named_record texts lazy = record {
+  extent = lazy.extent;
+  kind = lazy.kind;
+  name = option_map
+      (text_at texts) lazy.name;
+  inner = lazy.inner;
+  closed = map (named_closed texts) lazy.closed;
+}
 
 -- every atom of these bindings is the index of a text; and so on for scopes, closed names and records
 abbrev pub BindingsWithin : ℕ → List Binding → Type 0
@@ -73,7 +86,8 @@ pub record RecordsStandFor (texts : List (List ℕ)) (records : List RecordView)
   pub are : map (named_record texts) records ≡ named
 
 -- a compiled function stands for this, its code by `shows`
-pub record FunctionStandsFor {Code : Type 0} (shows : List (List ℕ) → List ℕ → Code → Type 0) (texts : List (List ℕ)) (part : FunctionView) (named : NamedFunction Code) : Type 0 where
+pub record FunctionStandsFor {Code : Type 0} (shows : List (List ℕ) → List ℕ → Code → Type 0) (texts : List (List ℕ)) (part : FunctionView)
+    (named : NamedFunction Code) : Type 0 where
   pub extent : part.extent ≡ named.extent
   pub kind : part.kind ≡ named.kind
   pub name_within : NameWithin (length texts) part.name
@@ -92,19 +106,22 @@ EntryStandsFor shows texts (entry.Compiled part) None = ⊥
 EntryStandsFor shows texts (entry.Compiled part) (Some named) = FunctionStandsFor shows texts part named
 
 -- the entries stand for these, each for its own
-abbrev pub EntriesStandFor : {Code : Type 0} → (List (List ℕ) → List ℕ → Code → Type 0) → List (List ℕ) → List Entry → List (Option (NamedFunction Code)) → Type 0
+abbrev pub EntriesStandFor : {Code : Type 0} → (List (List ℕ) → List ℕ → Code → Type 0) → List (List ℕ) → List Entry
+    → List (Option (NamedFunction Code)) → Type 0
 EntriesStandFor shows texts [] [] = Unit {0}
 EntriesStandFor shows texts [] (n ∷ named) = ⊥
 EntriesStandFor shows texts (e ∷ entries) [] = ⊥
 EntriesStandFor shows texts (e ∷ entries) (n ∷ named) = EntryStandsFor shows texts e n × EntriesStandFor shows texts entries named
 
 -- initial parts stand for this
-pub record InitialStandsFor {Code : Type 0} (shows : List (List ℕ) → List ℕ → Code → Type 0) (parts : InitialView) (named : NamedInitial Code) : Type 0 where
+pub record InitialStandsFor {Code : Type 0} (shows : List (List ℕ) → List ℕ → Code → Type 0) (parts : InitialView)
+    (named : NamedInitial Code) : Type 0 where
   pub top : FunctionStandsFor shows parts.texts parts.top named.top
   pub records : RecordsStandFor parts.texts parts.records named.records
 
 -- a merged stencil stands for this
-pub record MergedStandsFor {Code : Type 0} (shows : List (List ℕ) → List ℕ → Code → Type 0) (merged : MergedView) (named : NamedMerged Code) : Type 0 where
+pub record MergedStandsFor {Code : Type 0} (shows : List (List ℕ) → List ℕ → Code → Type 0) (merged : MergedView)
+    (named : NamedMerged Code) : Type 0 where
   pub top : FunctionStandsFor shows merged.texts merged.top named.top
   pub records : RecordsStandFor merged.texts merged.records named.records
   pub entries : EntriesStandFor shows merged.texts merged.entries named.entries

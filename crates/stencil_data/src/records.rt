@@ -25,5 +25,12 @@ impl Model for LazyRecord {
 
     ghost Value = { RecordView };
 
-    ghost view = { λ lazy. record { extent = lazy.extent; kind = lazy.kind; name = lazy.name; inner = lazy.inner.items; closed = lazy.closed.items } };
+    ghost view = { λ lazy. record {
+      extent = lazy.extent;
+      kind = lazy.kind;
+      name = lazy.name;
+      inner = lazy.inner.items;
+      closed =
+          lazy.closed.items;
+    } };
 }

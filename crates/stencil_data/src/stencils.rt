@@ -33,7 +33,17 @@ impl Model for FunctionStencil {
 
     ghost Value = { FunctionView };
 
-    ghost view = { λ stencil. record { extent = stencil.extent; kind = stencil.kind; name = stencil.name; params = stencil.params; scopes = stencil.scopes.items; code = stencil.code.items; notes = stencil.notes.items; inner = stencil.inner.items } };
+    ghost view = { λ stencil. record {
+      extent = stencil.extent;
+      kind = stencil.kind;
+      name = stencil.name;
+      params = stencil.params;
+      scopes =
+          stencil.scopes.items;
+      code = stencil.code.items;
+      notes = stencil.notes.items;
+      inner = stencil.inner.items;
+    } };
 }
 
 /// A script compiled lazily: the code of its top, and a record for every function. `records[i]` belongs
@@ -75,5 +85,11 @@ impl Model for MergedStencil {
 
     ghost Value = { MergedView };
 
-    ghost view = { λ merged. record { texts = merged.texts.items; top = merged.top; records = merged.records.items; entries = merged.entries.items } };
+    ghost view = { λ merged. record {
+      texts = merged.texts.items;
+      top = merged.top;
+      records = merged.records.items;
+      entries =
+          merged.entries.items;
+    } };
 }

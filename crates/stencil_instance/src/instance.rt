@@ -23,7 +23,13 @@ impl Model for Instance {
 
     ghost Value = { InstanceView };
 
-    ghost view = { λ instance. record { atoms = instance.atoms.items; top = instance.top; records = instance.records.items; entries = instance.entries.items } };
+    ghost view = { λ instance. record {
+      atoms = instance.atoms.items;
+      top = instance.top;
+      records = instance.records.items;
+      entries =
+          instance.entries.items;
+    } };
 }
 
 /// The instance of a stencil whose texts stand in the table's list from a number on. It looks each text up once.

@@ -13,7 +13,8 @@ use Rattle.bytecode_buf.specs.Command as command
 use Rattle.bytecode_buf.specs.Layout.{laid}
 use Rattle.bytecode_buf.specs.Table.{number_of}
 use Rattle.bytecode_buf.specs.Width.{width_of}
-use Rattle.stencil_xdr_specs.specs.Image.{Item, Bytes, Atom, firsts, place_in, text_bytes, magic, extent, whole, maybe, function_kind, scope_kind, bind_kind, slot_items, note_items}
+use Rattle.stencil_xdr_specs.specs.Image.{Item, Bytes, Atom, firsts, place_in, text_bytes, magic, extent, whole, maybe, function_kind}
+use Rattle.stencil_xdr_specs.specs.Image.{scope_kind, bind_kind, slot_items, note_items}
 
 -- bytes, or a text that is named
 pub data Piece : Type 0 where

@@ -13,7 +13,8 @@ use Rattle.bytecode_buf.specs.Width.{width_of}
 -- each scope's parent is below its own number, and its counts are small
 abbrev pub ScopesSmall : ℕ → List NamedScope → Type 0
 ScopesSmall number [] = Unit {0}
-ScopesSmall number (s ∷ ss) = IfSome s.parent (λ parent. parent < number) × Small (length s.bindings) × Small s.env_slots × ScopesSmall (number + 1) ss
+ScopesSmall number (s ∷ ss) = IfSome s.parent (λ parent. parent < number) × Small (length s.bindings) × Small s.env_slots
+    × ScopesSmall (number + 1) ss
 
 -- an instruction that makes a function names it by a number, of which this holds
 abbrev pub Makes : (ℕ → Type 0) → Op → Operand → Type 0
@@ -63,7 +64,8 @@ pub record PartSmall (functions : ℕ) (part : NamedFunction (List Command)) : T
 
 abbrev pub RecordsSmall : ℕ → List NamedRecord → Type 0
 RecordsSmall functions [] = Unit {0}
-RecordsSmall functions (lazy ∷ records) = Small (length lazy.inner) × Small (length lazy.closed) × NumbersWithin functions lazy.inner × RecordsSmall functions records
+RecordsSmall functions (lazy ∷ records) = Small (length lazy.inner) × Small (length lazy.closed) × NumbersWithin functions lazy.inner
+    × RecordsSmall functions records
 
 abbrev pub extent_or : Option NamedRecord → Extent
 extent_or None = record { start = 0; end = 0 }

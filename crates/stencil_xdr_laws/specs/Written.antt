@@ -11,4 +11,5 @@ use Rattle.stencil_xdr_laws.specs.Sizes.{MergedSmall}
 -- the bytes are the image of each small script that the stencil stands for, if its texts are small
 abbrev pub IsWrittenOf : MergedView → List ℕ → Type 0
 IsWrittenOf merged bytes =
-    TextsSmall merged.texts → (named : NamedMerged (List Command)) → MergedStandsFor ShowsCommands merged named → MergedSmall named → IsImage named bytes
+    TextsSmall merged.texts → (named : NamedMerged (List Command)) → MergedStandsFor ShowsCommands merged named → MergedSmall named
+    → IsImage named bytes

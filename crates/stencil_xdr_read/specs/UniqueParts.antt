@@ -19,10 +19,16 @@ use Rattle.stencil_data.specs.Views.{ScopeView, RecordView, FunctionView}
 use Rattle.stencil_xdr_specs.specs.Image.{function_kind, scope_kind, bind_kind}
 use Rattle.stencil_xdr_read.specs.Reading.{AreUnique, number, byte, Fits, pair_bytes, FitPair, maybe_bytes, FitMaybe, list_bytes, FitList}
 use Rattle.stencil_xdr_read.specs.Unique.{unique_numbers, unique_pairs, unique_maybes, unique_lists}
-use Rattle.stencil_xdr_read.specs.Parts.{Always, text_bytes, FitText, extent_bytes, FitExtent, extent_parts, function_kind_bytes, scope_kind_bytes, bind_kind_bytes, slot_bytes, FitSlot, binding_bytes, binding_parts, FitBinding, scope_bytes, scope_parts, FitScope, note_bytes, note_parts, FitNote, code_bytes, FitCode, FunctionParts, function_parts, function_parts_bytes, FitFunctionParts, function_bytes, FitFunction, closed_bytes, closed_parts, FitClosed, RecordParts, record_parts, record_parts_bytes, FitRecordParts, record_bytes, FitRecord, entry_part, entry_bytes, FitEntry}
+use Rattle.stencil_xdr_read.specs.Parts.{Always, text_bytes, FitText, extent_bytes, FitExtent, extent_parts, function_kind_bytes}
+use Rattle.stencil_xdr_read.specs.Parts.{scope_kind_bytes, bind_kind_bytes, slot_bytes, FitSlot, binding_bytes, binding_parts, FitBinding}
+use Rattle.stencil_xdr_read.specs.Parts.{scope_bytes, scope_parts, FitScope, note_bytes, note_parts, FitNote, code_bytes, FitCode}
+use Rattle.stencil_xdr_read.specs.Parts.{FunctionParts, function_parts, function_parts_bytes, FitFunctionParts, function_bytes}
+use Rattle.stencil_xdr_read.specs.Parts.{FitFunction, closed_bytes, closed_parts, FitClosed, RecordParts, record_parts, record_parts_bytes}
+use Rattle.stencil_xdr_read.specs.Parts.{FitRecordParts, record_bytes, FitRecord, entry_part, entry_bytes, FitEntry}
 
 -- what has the bytes of another part, from which it is made again
-pub unique_mapped : {S T : Type 0} (p : T → List ℕ) (P : T → Type 0) (to : S → T) (from : T → S) → ((s : S) → from (to s) ≡ s) → AreUnique p P → AreUnique (λ s. p (to s)) (λ s. P (to s))
+pub unique_mapped : {S T : Type 0} (p : T → List ℕ) (P : T → Type 0) (to : S → T) (from : T → S) → ((s : S) → from (to s) ≡ s)
+    → AreUnique p P → AreUnique (λ s. p (to s)) (λ s. P (to s))
 unique_mapped p P to from back u x y r s fx fy e =
     let h = u (to x) (to y) r s fx fy e in
     (sym (back x) ∙ (ap from h.0 ∙ back y), h.1)
@@ -34,7 +40,8 @@ abbrev extent_of_parts : ℕ × ℕ → Extent
 extent_of_parts p = record { start = p.0; end = p.1 }
 
 pub unique_extents : AreUnique extent_bytes FitExtent
-unique_extents = unique_mapped (pair_bytes (number 4) (number 4)) (FitPair (Fits 4) (Fits 4)) extent_parts extent_of_parts (λ e. refl) (unique_pairs (number 4) (Fits 4) (number 4) (Fits 4) (unique_numbers 4) (unique_numbers 4))
+unique_extents = unique_mapped (pair_bytes (number 4) (number 4)) (FitPair (Fits 4) (Fits 4)) extent_parts extent_of_parts (λ e. refl)
+    (unique_pairs (number 4) (Fits 4) (number 4) (Fits 4) (unique_numbers 4) (unique_numbers 4))
 
 -- ---- kinds
 
@@ -130,8 +137,10 @@ binding_of_parts p = record { atom = p.0; kind = p.1.0; slot = p.1.1 }
 
 pub unique_bindings : AreUnique binding_bytes FitBinding
 unique_bindings =
-    unique_mapped (pair_bytes (number 4) (pair_bytes bind_kind_bytes slot_bytes)) (FitPair (Fits 4) (FitPair Always FitSlot)) binding_parts binding_of_parts (λ b. refl)
-    (unique_pairs (number 4) (Fits 4) (pair_bytes bind_kind_bytes slot_bytes) (FitPair Always FitSlot) (unique_numbers 4) (unique_pairs bind_kind_bytes Always slot_bytes FitSlot unique_bind_kinds unique_slots))
+    unique_mapped (pair_bytes (number 4) (pair_bytes bind_kind_bytes slot_bytes))
+    (FitPair (Fits 4) (FitPair Always FitSlot)) binding_parts binding_of_parts (λ b. refl)
+    (unique_pairs (number 4) (Fits 4) (pair_bytes bind_kind_bytes slot_bytes) (FitPair Always FitSlot) (unique_numbers 4)
+    (unique_pairs bind_kind_bytes Always slot_bytes FitSlot unique_bind_kinds unique_slots))
 
 abbrev scope_of_parts : ScopeKind × (Option ℕ × (List Binding × ℕ)) → ScopeView
 scope_of_parts p = record { kind = p.0; parent = p.1.0; bindings = p.1.1.0; env_slots = p.1.1.1 }
@@ -141,18 +150,24 @@ unique_names = unique_maybes (number 4) (Fits 4) (unique_numbers 4)
 
 pub unique_scopes : AreUnique scope_bytes FitScope
 unique_scopes =
-    unique_mapped (pair_bytes scope_kind_bytes (pair_bytes (maybe_bytes (number 4)) (pair_bytes (list_bytes binding_bytes) (number 4)))) (FitPair Always (FitPair (FitMaybe (Fits 4)) (FitPair (FitList FitBinding) (Fits 4)))) scope_parts scope_of_parts (λ s. refl)
-    (unique_pairs scope_kind_bytes Always (pair_bytes (maybe_bytes (number 4)) (pair_bytes (list_bytes binding_bytes) (number 4))) (FitPair (FitMaybe (Fits 4)) (FitPair (FitList FitBinding) (Fits 4))) unique_scope_kinds
-    (unique_pairs (maybe_bytes (number 4)) (FitMaybe (Fits 4)) (pair_bytes (list_bytes binding_bytes) (number 4)) (FitPair (FitList FitBinding) (Fits 4)) unique_names
-    (unique_pairs (list_bytes binding_bytes) (FitList FitBinding) (number 4) (Fits 4) (unique_lists binding_bytes FitBinding unique_bindings) (unique_numbers 4))))
+    unique_mapped (pair_bytes scope_kind_bytes (pair_bytes (maybe_bytes (number 4)) (pair_bytes (list_bytes binding_bytes) (number 4))))
+    (FitPair Always (FitPair (FitMaybe (Fits 4)) (FitPair (FitList FitBinding) (Fits 4)))) scope_parts scope_of_parts (λ s. refl)
+    (unique_pairs scope_kind_bytes Always (pair_bytes (maybe_bytes (number 4)) (pair_bytes (list_bytes binding_bytes) (number 4)))
+    (FitPair (FitMaybe (Fits 4)) (FitPair (FitList FitBinding) (Fits 4))) unique_scope_kinds
+    (unique_pairs (maybe_bytes (number 4)) (FitMaybe (Fits 4)) (pair_bytes (list_bytes binding_bytes) (number 4))
+    (FitPair (FitList FitBinding) (Fits 4)) unique_names
+    (unique_pairs (list_bytes binding_bytes) (FitList FitBinding) (number 4) (Fits 4)
+    (unique_lists binding_bytes FitBinding unique_bindings) (unique_numbers 4))))
 
 abbrev note_of_parts : ℕ × (ℕ × ℕ) → TryNote
 note_of_parts p = record { start = p.0; end = p.1.0; depth = p.1.1 }
 
 pub unique_notes : AreUnique note_bytes FitNote
 unique_notes =
-    unique_mapped (pair_bytes (number 8) (pair_bytes (number 8) (number 4))) (FitPair (Fits 8) (FitPair (Fits 8) (Fits 4))) note_parts note_of_parts (λ n. refl)
-    (unique_pairs (number 8) (Fits 8) (pair_bytes (number 8) (number 4)) (FitPair (Fits 8) (Fits 4)) (unique_numbers 8) (unique_pairs (number 8) (Fits 8) (number 4) (Fits 4) (unique_numbers 8) (unique_numbers 4)))
+    unique_mapped (pair_bytes (number 8) (pair_bytes (number 8) (number 4)))
+    (FitPair (Fits 8) (FitPair (Fits 8) (Fits 4))) note_parts note_of_parts (λ n. refl)
+    (unique_pairs (number 8) (Fits 8) (pair_bytes (number 8) (number 4)) (FitPair (Fits 8) (Fits 4)) (unique_numbers 8)
+    (unique_pairs (number 8) (Fits 8) (number 4) (Fits 4) (unique_numbers 8) (unique_numbers 4)))
 
 -- ---- codes
 
@@ -160,7 +175,8 @@ pub unique_codes : AreUnique code_bytes FitCode
 unique_codes x y r s fx fy e = (same, rest)
   where
     count : (length x ≡ length y) × (x ++ r ≡ y ++ s)
-    count = unique_numbers 8 (length x) (length y) (x ++ r) (y ++ s) fx fy (sym (append_assoc (number 8 (length x)) x r) ∙ (e ∙ append_assoc (number 8 (length y)) y s))
+    count = unique_numbers 8 (length x) (length y) (x ++ r) (y ++ s) fx fy
+        (sym (append_assoc (number 8 (length x)) x r) ∙ (e ∙ append_assoc (number 8 (length y)) y s))
 
     same : x ≡ y
     same = sym (take_at x r (length x) refl) ∙ (ap (take (length x)) count.1 ∙ take_at y s (length x) (sym count.0))
@@ -171,17 +187,36 @@ unique_codes x y r s fx fy e = (same, rest)
 -- ---- functions, records and entries
 
 abbrev function_of_parts : FunctionParts → FunctionView
-function_of_parts p = record { extent = p.0.0; kind = p.0.1.0; name = p.0.1.1.0; params = p.0.1.1.1; scopes = p.1.0; code = p.1.1.0; notes = p.1.1.1.0; inner = p.1.1.1.1 }
+function_of_parts p = record {
+  extent = p.0.0;
+  kind = p.0.1.0;
+  name = p.0.1.1.0;
+  params = p.0.1.1.1;
+  scopes = p.1.0;
+  code = p.1.1.0;
+  notes
+      = p.1.1.1.0;
+  inner = p.1.1.1.1;
+}
 
 unique_function_parts : AreUnique function_parts_bytes FitFunctionParts
 unique_function_parts =
-    unique_pairs (pair_bytes extent_bytes (pair_bytes function_kind_bytes (pair_bytes (maybe_bytes (number 4)) (number 4)))) (FitPair FitExtent (FitPair Always (FitPair (FitMaybe (Fits 4)) (Fits 4)))) (pair_bytes (list_bytes scope_bytes) (pair_bytes code_bytes (pair_bytes (list_bytes note_bytes) (list_bytes extent_bytes)))) (FitPair (FitList FitScope) (FitPair FitCode (FitPair (FitList FitNote) (FitList FitExtent))))
-    (unique_pairs extent_bytes FitExtent (pair_bytes function_kind_bytes (pair_bytes (maybe_bytes (number 4)) (number 4))) (FitPair Always (FitPair (FitMaybe (Fits 4)) (Fits 4))) unique_extents
-    (unique_pairs function_kind_bytes Always (pair_bytes (maybe_bytes (number 4)) (number 4)) (FitPair (FitMaybe (Fits 4)) (Fits 4)) unique_function_kinds
+    unique_pairs (pair_bytes extent_bytes (pair_bytes function_kind_bytes (pair_bytes (maybe_bytes (number 4)) (number 4))))
+    (FitPair FitExtent (FitPair Always (FitPair (FitMaybe (Fits 4)) (Fits 4))))
+    (pair_bytes (list_bytes scope_bytes) (pair_bytes code_bytes (pair_bytes (list_bytes note_bytes) (list_bytes extent_bytes))))
+    (FitPair (FitList FitScope) (FitPair FitCode (FitPair (FitList FitNote) (FitList FitExtent))))
+    (unique_pairs extent_bytes FitExtent (pair_bytes function_kind_bytes (pair_bytes (maybe_bytes (number 4)) (number 4)))
+    (FitPair Always (FitPair (FitMaybe (Fits 4)) (Fits 4))) unique_extents
+    (unique_pairs function_kind_bytes Always (pair_bytes (maybe_bytes (number 4)) (number 4))
+    (FitPair (FitMaybe (Fits 4)) (Fits 4)) unique_function_kinds
     (unique_pairs (maybe_bytes (number 4)) (FitMaybe (Fits 4)) (number 4) (Fits 4) unique_names (unique_numbers 4))))
-    (unique_pairs (list_bytes scope_bytes) (FitList FitScope) (pair_bytes code_bytes (pair_bytes (list_bytes note_bytes) (list_bytes extent_bytes))) (FitPair FitCode (FitPair (FitList FitNote) (FitList FitExtent))) (unique_lists scope_bytes FitScope unique_scopes)
-    (unique_pairs code_bytes FitCode (pair_bytes (list_bytes note_bytes) (list_bytes extent_bytes)) (FitPair (FitList FitNote) (FitList FitExtent)) unique_codes
-    (unique_pairs (list_bytes note_bytes) (FitList FitNote) (list_bytes extent_bytes) (FitList FitExtent) (unique_lists note_bytes FitNote unique_notes) (unique_lists extent_bytes FitExtent unique_extents))))
+    (unique_pairs (list_bytes scope_bytes) (FitList FitScope)
+    (pair_bytes code_bytes (pair_bytes (list_bytes note_bytes) (list_bytes extent_bytes)))
+    (FitPair FitCode (FitPair (FitList FitNote) (FitList FitExtent))) (unique_lists scope_bytes FitScope unique_scopes)
+    (unique_pairs code_bytes FitCode (pair_bytes (list_bytes note_bytes) (list_bytes extent_bytes))
+    (FitPair (FitList FitNote) (FitList FitExtent)) unique_codes
+    (unique_pairs (list_bytes note_bytes) (FitList FitNote) (list_bytes extent_bytes) (FitList FitExtent)
+    (unique_lists note_bytes FitNote unique_notes) (unique_lists extent_bytes FitExtent unique_extents))))
 
 pub unique_functions : AreUnique function_bytes FitFunction
 unique_functions = unique_mapped function_parts_bytes FitFunctionParts function_parts function_of_parts (λ f. refl) unique_function_parts
@@ -190,16 +225,22 @@ abbrev closed_of_parts : ℕ × ℕ → ClosedName
 closed_of_parts p = record { scope = p.0; atom = p.1 }
 
 pub unique_closed : AreUnique closed_bytes FitClosed
-unique_closed = unique_mapped (pair_bytes (number 4) (number 4)) (FitPair (Fits 4) (Fits 4)) closed_parts closed_of_parts (λ c. refl) (unique_pairs (number 4) (Fits 4) (number 4) (Fits 4) (unique_numbers 4) (unique_numbers 4))
+unique_closed = unique_mapped (pair_bytes (number 4) (number 4)) (FitPair (Fits 4) (Fits 4)) closed_parts closed_of_parts (λ c. refl)
+    (unique_pairs (number 4) (Fits 4) (number 4) (Fits 4) (unique_numbers 4) (unique_numbers 4))
 
 abbrev record_of_parts : RecordParts → RecordView
 record_of_parts p = record { extent = p.0.0; kind = p.0.1.0; name = p.0.1.1; inner = p.1.0; closed = p.1.1 }
 
 unique_record_parts : AreUnique record_parts_bytes FitRecordParts
 unique_record_parts =
-    unique_pairs (pair_bytes extent_bytes (pair_bytes function_kind_bytes (maybe_bytes (number 4)))) (FitPair FitExtent (FitPair Always (FitMaybe (Fits 4)))) (pair_bytes (list_bytes (number 4)) (list_bytes closed_bytes)) (FitPair (FitList (Fits 4)) (FitList FitClosed))
-    (unique_pairs extent_bytes FitExtent (pair_bytes function_kind_bytes (maybe_bytes (number 4))) (FitPair Always (FitMaybe (Fits 4))) unique_extents (unique_pairs function_kind_bytes Always (maybe_bytes (number 4)) (FitMaybe (Fits 4)) unique_function_kinds unique_names))
-    (unique_pairs (list_bytes (number 4)) (FitList (Fits 4)) (list_bytes closed_bytes) (FitList FitClosed) (unique_lists (number 4) (Fits 4) (unique_numbers 4)) (unique_lists closed_bytes FitClosed unique_closed))
+    unique_pairs (pair_bytes extent_bytes (pair_bytes function_kind_bytes (maybe_bytes (number 4))))
+    (FitPair FitExtent (FitPair Always (FitMaybe (Fits 4)))) (pair_bytes (list_bytes (number 4)) (list_bytes closed_bytes))
+    (FitPair (FitList (Fits 4)) (FitList FitClosed))
+    (unique_pairs extent_bytes FitExtent (pair_bytes function_kind_bytes (maybe_bytes (number 4)))
+    (FitPair Always (FitMaybe (Fits 4))) unique_extents
+    (unique_pairs function_kind_bytes Always (maybe_bytes (number 4)) (FitMaybe (Fits 4)) unique_function_kinds unique_names))
+    (unique_pairs (list_bytes (number 4)) (FitList (Fits 4)) (list_bytes closed_bytes) (FitList FitClosed)
+    (unique_lists (number 4) (Fits 4) (unique_numbers 4)) (unique_lists closed_bytes FitClosed unique_closed))
 
 pub unique_records : AreUnique record_bytes FitRecord
 unique_records = unique_mapped record_parts_bytes FitRecordParts record_parts record_of_parts (λ r. refl) unique_record_parts
@@ -213,4 +254,5 @@ entry_back entry.Lazy = refl
 entry_back (entry.Compiled f) = refl
 
 pub unique_entries : AreUnique entry_bytes FitEntry
-unique_entries = unique_mapped (maybe_bytes function_bytes) (FitMaybe FitFunction) entry_part entry_of_part entry_back (unique_maybes function_bytes FitFunction unique_functions)
+unique_entries = unique_mapped (maybe_bytes function_bytes) (FitMaybe FitFunction) entry_part entry_of_part entry_back
+    (unique_maybes function_bytes FitFunction unique_functions)

@@ -20,9 +20,12 @@ unique_magic x y r s fx fy e =
 
 pub unique_fronts : AreUnique front_bytes FitFront
 unique_fronts =
-    unique_pairs magic_bytes IsMagic (pair_bytes (list_bytes text_bytes) (pair_bytes function_bytes (list_bytes record_bytes))) (FitPair (FitList FitText) (FitPair FitFunction (FitList FitRecord))) unique_magic
-    (unique_pairs (list_bytes text_bytes) (FitList FitText) (pair_bytes function_bytes (list_bytes record_bytes)) (FitPair FitFunction (FitList FitRecord)) (unique_lists text_bytes FitText unique_texts)
-    (unique_pairs function_bytes FitFunction (list_bytes record_bytes) (FitList FitRecord) unique_functions (unique_lists record_bytes FitRecord unique_records)))
+    unique_pairs magic_bytes IsMagic (pair_bytes (list_bytes text_bytes) (pair_bytes function_bytes (list_bytes record_bytes)))
+    (FitPair (FitList FitText) (FitPair FitFunction (FitList FitRecord))) unique_magic
+    (unique_pairs (list_bytes text_bytes) (FitList FitText) (pair_bytes function_bytes (list_bytes record_bytes))
+    (FitPair FitFunction (FitList FitRecord)) (unique_lists text_bytes FitText unique_texts)
+    (unique_pairs function_bytes FitFunction (list_bytes record_bytes) (FitList FitRecord) unique_functions
+    (unique_lists record_bytes FitRecord unique_records)))
 
 -- a stencil of its front and its entries
 abbrev stencil_of : FrontParts → List Entry → MergedView
@@ -32,11 +35,14 @@ pub unique_stencils : AreUnique stencil_bytes FitStencil
 unique_stencils x y r s fx fy e = (ap₂ stencil_of front.0 entries.0, entries.1)
   where
     front : (front_parts x ≡ front_parts y) × (flat_map entry_bytes x.entries ++ r ≡ flat_map entry_bytes y.entries ++ s)
-    front = unique_fronts (front_parts x) (front_parts y) (flat_map entry_bytes x.entries ++ r) (flat_map entry_bytes y.entries ++ s) fx.front fy.front
-        (sym (append_assoc (front_bytes (front_parts x)) (flat_map entry_bytes x.entries) r) ∙ (e ∙ append_assoc (front_bytes (front_parts y)) (flat_map entry_bytes y.entries) s))
+    front = unique_fronts (front_parts x) (front_parts y) (flat_map entry_bytes x.entries ++ r)
+        (flat_map entry_bytes y.entries ++ s) fx.front fy.front
+        (sym (append_assoc (front_bytes (front_parts x)) (flat_map entry_bytes x.entries) r) ∙
+        (e ∙ append_assoc (front_bytes (front_parts y)) (flat_map entry_bytes y.entries) s))
 
     same_count : length y.records ≡ length x.records
     same_count = sym (ap (λ (f : FrontParts). length f.1.1.1) front.0)
 
     entries : (x.entries ≡ y.entries) × (r ≡ s)
-    entries = unique_items entry_bytes FitEntry unique_entries (length x.records) x.entries y.entries r s fx.entries (fy.entries.0 ∙ same_count, fy.entries.1) front.1
+    entries = unique_items entry_bytes FitEntry unique_entries (length x.records) x.entries y.entries r s fx.entries
+        (fy.entries.0 ∙ same_count, fy.entries.1) front.1

@@ -4,7 +4,8 @@
 //! (stencil_xdr_specs) and above texts without equals (parser_atoms); whoever takes a file as an image calls it.
 //!
 //! The main contract: [`read_image`] answers the stencil in range whose numbers stand in the bytes, which stands for the same as
-//! each stencil with this image, and refuses bytes exactly where they are the image of no stencil in range. It reads each part from the beginning of the bytes that are
+//! each stencil with this image, and refuses bytes exactly where they are the image of no stencil in range. It reads
+//! each part from the beginning of the bytes that are
 //! left, and takes no memory for items that are not there; then it tests ranges and the numbering of the texts.
 #![tactic(auto)]
 

@@ -8,4 +8,5 @@ pub more_none : (n : NumberingView) → NumbersMore n [] n
 more_none n = λ texts seen h. subst (λ (s : List Item). IsNumbered texts s n) (sym (append-nil seen)) h
 
 pub more_both : (a b c : NumberingView) (xs ys : List Item) → NumbersMore a xs b → NumbersMore b ys c → NumbersMore a (xs ++ ys) c
-more_both a b c xs ys f g = λ texts seen h. subst (λ (s : List Item). IsNumbered texts s c) (append_assoc seen xs ys) (g texts (seen ++ xs) (f texts seen h))
+more_both a b c xs ys f g = λ texts seen h. subst (λ (s : List Item). IsNumbered texts s c) (append_assoc seen xs ys)
+    (g texts (seen ++ xs) (f texts seen h))

@@ -8,7 +8,8 @@ use Rattle.stencil_data.specs.MergedView.{MergedView}
 use Rattle.bytecode_buf.specs.Bytes.{le_bytes}
 use Rattle.bytecode_buf.specs.Layout.{Numbered, instructions}
 use Rattle.bytecode_buf.specs.Width.{shape_of}
-use Rattle.stencil_xdr_specs.specs.Image.{Item, Bytes, Atom, number, list, maybe, atom, extent, function_kind, scope_kind, bind_kind, instruction_items, magic, text_bytes}
+use Rattle.stencil_xdr_specs.specs.Image.{Item, Bytes, Atom, number, list, maybe, atom, extent, function_kind, scope_kind, bind_kind}
+use Rattle.stencil_xdr_specs.specs.Image.{instruction_items, magic, text_bytes}
 use Rattle.stencil_xdr_specs.specs.Widths.{RecordFits}
 use Rattle.stencil_xdr_write.specs.Whole.{stencil_items, FunctionHolds, EntryHolds}
 

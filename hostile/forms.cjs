@@ -19,6 +19,13 @@ function parsed(text) {
   return null;
 }
 
+// Whether a parameter is a pattern with brackets, without its initializer or what is gathered in it.
+function hasPattern(param) {
+  if (param.type === "AssignmentPattern") return hasPattern(param.left);
+  if (param.type === "RestElement") return hasPattern(param.argument);
+  return param.type === "ArrayPattern" || param.type === "ObjectPattern";
+}
+
 // The offsets in bytes of offsets in units.
 function offsets(text) {
   const at = new Uint32Array(text.length + 1);
@@ -87,7 +94,16 @@ class Forms {
     if (holder) this.note("P3", holder.start);
   }
 
+  // At the `=>` of an arrow, before which all of it may be other code: `async (..)` a call, `({..})` an object.
+  arrow(node) {
+    const last = node.params[node.params.length - 1];
+    const from = last ? last.end : node.start;
+    if (node.async) this.noteToken("P10", "=>", from, node.body.start);
+    if (node.params.some(hasPattern)) this.noteToken("P3", "=>", from, node.body.start);
+  }
+
   func(node) {
+    if (node.type === "ArrowFunctionExpression") this.arrow(node);
     if (node.async) {
       this.note("P10", node.start);
       this.noteFirst("P10", node.start + 5);

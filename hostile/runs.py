@@ -49,6 +49,17 @@ def limits(stack, memory, processor, pipe):
     return apply
 
 
+def most_memory(pid):
+    """The most memory that a process has had, in bytes, or 0 where it cannot be told. `ru_maxrss` of a child is no less than what the process had
+    that it was forked from, which may be more than all that a small program takes."""
+    try:
+        with open(f"/proc/{pid}/status", encoding="ascii", errors="replace") as status:
+            found = [line.split()[1] for line in status if line.startswith("VmHWM:")]
+    except OSError:
+        return 0
+    return int(found[0]) * 1024 if found else 0
+
+
 class Program:
     """The program that is tried, and a folder for its files."""
 
@@ -78,26 +89,29 @@ class Program:
                 stderr=subprocess.DEVNULL,
                 preexec_fn=limits(stack, memory, processor, pipe),
             )
-            status, usage = self.wait(child, begun + seconds)
+            status, usage, memory = self.wait(child, begun + seconds)
             taken.seek(0)
             output = taken.read() if out is None else b""
         if status is None:
             return Answer(None, output, seconds, 0)
-        return Answer(status, output, usage.ru_utime + usage.ru_stime, usage.ru_maxrss * 1024)
+        return Answer(status, output, usage.ru_utime + usage.ru_stime, memory)
 
     @staticmethod
     def wait(child, until):
-        """The status of a child and what it used, or None where it is not done by then; it is ended then."""
+        """The status of a child, what it used, and the most memory that it had, as far as it was looked at; no status where it is not done by then,
+        and it is ended then."""
+        memory = 0
         while True:
             pid, status, usage = os.wait4(child.pid, os.WNOHANG)
             if pid:
                 child.returncode = os.waitstatus_to_exitcode(status)
-                return child.returncode, usage
+                return child.returncode, usage, memory or usage.ru_maxrss * 1024
             if time.monotonic() > until:
                 child.kill()
                 _, _, usage = os.wait4(child.pid, 0)
                 child.returncode = -signal.SIGKILL
-                return None, usage
+                return None, usage, memory
+            memory = most_memory(child.pid) or memory
             time.sleep(0.001)
 
 

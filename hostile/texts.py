@@ -87,40 +87,58 @@ REPEATED = {
 }
 
 
-def repeated(kind, size):
-    """A script of at most this many bytes, of one kind."""
-    unit = REPEATED[kind]
-    if "#" not in unit:
-        unit = unit.encode()
-        return unit * (size // len(unit))
-    out, length, number = [], 0, 0
+def filled(size, before, piece, after=""):
+    """A text of at most this many bytes: as many pieces as there is room for, between two ends. A `#` of a piece is its number, from 0."""
+    before, piece, after = before.encode(), piece.encode(), after.encode()
+    left, out = size - len(before) - len(after), [before]
+    if b"#" not in piece:
+        out.append(piece * (left // len(piece)))
+        return b"".join(out) + after
+    number = 0
     while True:
-        piece = unit.replace("#", str(number)).encode()
-        if length + len(piece) > size:
-            return b"".join(out)
-        out.append(piece)
-        length += len(piece)
+        one = piece.replace(b"#", b"%d" % number)
+        left -= len(one)
+        if left < 0:
+            return b"".join(out) + after
+        out.append(one)
         number += 1
 
 
-def one_list(size):
-    """Forms with one part that is large: a list, a name, a string, a switch. Each is a script of about this many bytes."""
-    count = size // 2
-    return {
-        "one array": "[" + "1," * count + "]",
-        "one call": "f(" + ",".join(["0"] * min(count, 65_535)) + ")",
-        "one sum": "a" + "+a" * count,
-        "one chain": "a" + ".a" * count,
-        "one comma": "a" + ",a" * count,
-        "one name": "a" * size,
-        "one string": "'" + "a" * size + "'",
-        "one template": "`" + "a" * size + "`",
-        "one comment": "/*" + "a" * size + "*/",
-        "one number": "1" + "_0" * min(count, 7),
-        "one object": "({" + "".join(f"a{n}:1," for n in range(size // 9)) + "})",
-        "one switch": "switch(a){" + "".join(f"case {n}:" for n in range(size // 12)) + "}",
-        "one let": "let " + ",".join(f"a{n}" for n in range(size // 8)) + ";",
-    }
+def repeated(kind, size):
+    """A script of at most this many bytes, of one kind."""
+    return filled(size, "", REPEATED[kind])
+
+
+# Forms with one part that is large: what stands before, the piece of which there are many, and what stands behind.
+ONE = {
+    "one array": ("[", "1,", "]"),
+    "one sum": ("a", "+a", ""),
+    "one chain": ("a", ".a", ""),
+    "one comma": ("a", ",a", ""),
+    "one name": ("a", "a", ""),
+    "one string": ("'", "a", "'"),
+    "one template": ("`", "a", "`"),
+    "one comment": ("/*", "a", "*/"),
+    "one object": ("({", "a#:1,", "})"),
+    "one switch": ("switch(a){", "case #:", "}"),
+    "one let": ("let a", ",a#", ";"),
+}
+
+# A call has 65,535 arguments at most, and so many bytes.
+MOST_CALL = 2 * 65_535 + 2
+
+
+def one_part(kind, size):
+    """A script of at most this many bytes, with one part that is large."""
+    return filled(size, *ONE[kind])
+
+
+def large(size):
+    """Of each kind of large texts a script of at most this many bytes, made when it is asked for."""
+    made = {kind: (lambda kind=kind: repeated(kind, size)) for kind in REPEATED}
+    made.update({kind: (lambda kind=kind: one_part(kind, size)) for kind in ONE})
+    made["one call"] = lambda: filled(min(size, MOST_CALL), "f(0", ",0", ")")
+    return made
 
 
 def leaving(loops, breaks):

@@ -2,7 +2,7 @@
 //!
 //! It stands on parser_atoms, which names texts by atoms, and on parse_track, which says which words there are. Whoever
 //! scans texts begins its list of them here, so that each of these words has an atom whether or not it is written.
-//! [`known_words`] interns them first of all, so their atoms are 0 to 6; `specs/WellKnownAtoms.antt` says which is which.
+//! [`known_words`] interns them first of all, so their atoms are 0 to 6; `specs/Known.antt` says which is which.
 #![tactic(auto)]
 
 ghost use Rattle.std.specs.Prelude.{◌≡◌, ◌≤◌, length, IfOk, OnOk};

@@ -1,5 +1,6 @@
 -- What is read from a function's extent is the function of the script.
 use Rattle.std.proofs.Common.{◌≡◌, ◌∙◌, ℕ, suc, ◌+◌, ◌≤◌, ◌<◌, ◌^◌, List, [], ◌∷◌, ◌++◌, length, map, Ok, Err, refl, sym, ap, subst, arith}
+use Rattle.std.specs.Prelude.{Some, slice_get}
 use Rattle.script_grammar.specs.declared.token.FuncForm.{FuncForm}
 use Rattle.script_grammar.specs.declared.token.Token.{Token}
 use Rattle.script_grammar.specs.declared.tree.Func.{Func, out-Func}
@@ -11,6 +12,7 @@ use Rattle.stencil_data.specs.declared.functions.Extent.{Extent}
 use Rattle.unit_text.specs.declared.Point.{Point}
 use Rattle.unit_text.specs.Points.{points}
 use Rattle.parser_atoms.specs.Places.{AreWithoutEquals}
+use Rattle.parser_atoms.proofs.Interning.{slice_get-append_old}
 use Rattle.script_scanner.specs.Order.{AreInOrder}
 use Rattle.script_scanner.specs.Stands.{StandFor, HasOneLast, GainsOnly, Keeps}
 use Rattle.script_scanner.specs.Tokens.{tokens}
@@ -18,6 +20,7 @@ use Rattle.parse_exprs.specs.declared.place.ParseFault.{ParseFault}
 use Rattle.parse_exprs.specs.declared.place.ParseFault.TheVariants as faults
 use Rattle.parse_exprs.specs.Env.{body_at}
 use Rattle.parse_exprs.specs.Source.{IsScanned}
+use Rattle.parse_token_laws.proofs.ScannedTokens.{scanned_lexemes, are_scanned}
 use Rattle.parse_parts.specs.Parts.{fill_inside}
 use Rattle.parse_track.specs.declared.region.WellKnownAtoms.{WellKnownAtoms}
 use Rattle.grammar_start_laws.specs.Own.{TokensRise}
@@ -39,7 +42,10 @@ use Rattle.parse_function.proofs.Fields.{start_there, end_there, nameless_start,
 use Rattle.parse_function.proofs.OwnInner.{own_inside}
 use Rattle.parse_function.proofs.Reading.{inside_same}
 use Rattle.parse_function.proofs.ReadingExtents.{in_file, one_there, are_parts, lie_in_order, few_points, are_function, gains_left}
-use Rattle.parse_function.proofs.Scanned.{scanned_lexemes, are_scanned, still_there}
+
+-- a text stays where it stands while others join
+still_there : (before after : List (List ℕ)) (text : List ℕ) (n : ℕ) → Keeps before after → slice_get before n ≡ Some text → slice_get after n ≡ Some text
+still_there before after text n k is = ap (λ (ts : List (List ℕ)). slice_get ts n) k.1 ∙ slice_get-append_old before k.0 n text is
 
 rise_front : (from : ℕ) (us vs : List Lexeme) → TokensRise from (us ++ vs) → TokensRise from us
 rise_front from [] vs h = tt

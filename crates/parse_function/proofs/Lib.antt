@@ -10,7 +10,6 @@ pub mod Standing
 pub mod Without
 pub mod TokenValues
 pub mod LeftValues
-pub mod Scanned
 pub mod Bodies
 pub mod Shifting
 pub mod ReadingExtents

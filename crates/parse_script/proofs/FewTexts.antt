@@ -6,7 +6,7 @@ use Rattle.parser_atoms.specs.Places.{AreWithoutEquals, StandsIn}
 use Rattle.unit_text.specs.declared.Point.{Point}
 use Rattle.script_scanner.specs.Stands.{IsValueAmong, GainsOnly}
 use Rattle.script_scanner.specs.Tokens.{Value, Text, Lexed, tokens}
-use Rattle.parse_script.proofs.TokenLemmas.{tokens_few}
+use Rattle.parse_token_laws.proofs.ScannedTokens.{tokens_few}
 
 -- the text is the value of one of these tokens
 abbrev pub HasText : List Lexed → List ℕ → Type 0
@@ -84,5 +84,5 @@ file_texts_few ps to before after made gains apart words short same =
     (λ text stands. gained_text (tokens ps 0 to) gains.gained gains.are_values stands.0 text stands.1) in
     let long = ap length (same ∙ gains.grown) in
     let both = length-append before gains.gained in
-    let few = tokens_few ps to in
+    let few = tokens_few ps 0 to in
     omega (arith, gained, long, both, few, words, short)

@@ -1,6 +1,6 @@
 -- Every text that a token of a file has is among the file's texts.
-use Rattle.std.proofs.Common.{◌≡◌, ◌∙◌, inl, inr, ℕ, ◌<◌, true, List, [], ◌∷◌, length, map, slice_index_or, refl, sym, ap, subst}
-use Rattle.std.specs.Prelude.{Some, slice_get}
+use Rattle.std.proofs.Common.{◌≡◌, ◌∙◌, inl, inr, ℕ, true, List, [], ◌∷◌, length, map, slice_index_or, refl, sym, ap, subst}
+use Rattle.std.specs.Prelude.{Some}
 use Rattle.std.specs.List.{AllByRecursion}
 use Rattle.std.proofs.lemmas.Option.{slice_get-get_or}
 use Rattle.parser_atoms.specs.Places.{StandsIn}
@@ -12,12 +12,12 @@ use Rattle.script_grammar.specs.Lexeme as token
 use Rattle.unit_text.specs.Points.{points}
 use Rattle.script_scanner.specs.Lexemes.{text_in, lexeme_of, lexemes}
 use Rattle.script_scanner.specs.Stands.{IsValueAmong}
-use Rattle.script_scanner.specs.Tokens.{Value, Text, Lexed, tokens}
+use Rattle.script_scanner.specs.Tokens.{Text, Lexed, tokens}
 use Rattle.parse_exprs.specs.Source.{has_atom}
+use Rattle.parse_token_laws.proofs.ScannedTokens.{Carries, AllCarry, tokens_carry}
 use Rattle.parse_script.specs.declared.file_tokens.FileTokens.{FileTokens}
 use Rattle.parse_script.specs.Tokens.{tokens_in, AtomWithin, IsSound}
 use Rattle.parse_script.proofs.FewTexts.{HasText, has_text}
-use Rattle.parse_script.proofs.TokenLemmas.{Carries, AllCarry, tokens_carry}
 
 -- a token with a text is of a kind that has an atom
 text_has_atom : (k : Kind) (text : List ℕ) → Carries k (Text text) → has_atom k ≡ true
@@ -77,4 +77,4 @@ pub file_texts : (file : FileTokens) (bytes text : List ℕ) → IsSound file �
 unfolding lexemes
 file_texts file bytes text sound same among =
     let ls = tokens (points bytes) 0 (length bytes) in
-    tokens_stand file.texts.items file.known.get file.known.set file.tokens.items ls text same (tokens_carry (points bytes) (length bytes)) sound.atoms (has_text ls text among)
+    tokens_stand file.texts.items file.known.get file.known.set file.tokens.items ls text same (tokens_carry (points bytes) 0 (length bytes)) sound.atoms (has_text ls text among)

@@ -1,21 +1,13 @@
 -- What was interned stays where it stands.
-use Rattle.std.proofs.Common.{◌≡◌, ℕ, zero, suc, ◌+◌, ◌≤◌, ◌<◌, ◌^◌, List, [], ◌∷◌, ◌++◌, length, refl, sym, ◌∙◌, ap, arith, length-append, inl, inr, subst}
+use Rattle.std.proofs.Common.{◌≡◌, ℕ, ◌+◌, ◌≤◌, ◌<◌, ◌^◌, List, [], ◌∷◌, ◌++◌, length, sym, ◌∙◌, ap, arith, length-append, inl, inr, subst}
 use Rattle.std.proofs.lemmas.List.{append-nil}
 use Rattle.std.specs.Prelude.{Some, slice_get}
 use Rattle.bytecode_buf.specs.InRange.{TextsSmall}
 use Rattle.parser_atoms.specs.Places.{Interns}
+use Rattle.parser_atoms.proofs.Interning.{slice_get-append_last, slice_get-append_old}
 use Rattle.parse_track.specs.declared.region.WellKnownAtoms.{WellKnownAtoms}
 use Rattle.script_scanner.specs.Stands.{Keeps}
 use Rattle.track_atoms.specs.Known.{HasWords}
-
-get_more : (texts more : List (List ℕ)) (n : ℕ) (text : List ℕ) → slice_get texts n ≡ Some text → slice_get (texts ++ more) n ≡ Some text
-get_more [] more n text h = absurd (cc)
-get_more (t ∷ texts) more zero text h = h
-get_more (t ∷ texts) more (suc n) text h = get_more texts more n text h
-
-get_last : (texts : List (List ℕ)) (text : List ℕ) → slice_get (texts ++ text ∷ []) (length texts) ≡ Some text
-get_last [] text = refl
-get_last (t ∷ texts) text = get_last texts text
 
 small_behind : (texts : List (List ℕ)) (text : List ℕ) → length text < 2 ^ 32 → TextsSmall texts → TextsSmall (texts ++ text ∷ [])
 small_behind [] text short small = (short, tt)
@@ -23,14 +15,14 @@ small_behind (t ∷ texts) text short small = (small.0, small_behind texts text 
 
 pub interned : (before after : List (List ℕ)) (text : List ℕ) (atom : ℕ) → Interns before after text atom → slice_get after atom ≡ Some text
 interned before after text atom (inl h) = ap (λ (ts : List (List ℕ)). slice_get ts atom) h.1 ∙ h.0
-interned before after text atom (inr h) = ap (λ (ts : List (List ℕ)). slice_get ts atom) h.2 ∙ ap (slice_get (before ++ text ∷ [])) h.1 ∙ get_last before text
+interned before after text atom (inr h) = ap (λ (ts : List (List ℕ)). slice_get ts atom) h.2 ∙ ap (slice_get (before ++ text ∷ [])) h.1 ∙ slice_get-append_last before text
 
 pub still_interned : (before after : List (List ℕ)) (text other : List ℕ) (atom n : ℕ) → Interns before after text atom → slice_get before n ≡ Some other → slice_get after n ≡ Some other
 still_interned before after text other atom n (inl h) is = ap (λ (ts : List (List ℕ)). slice_get ts n) h.1 ∙ is
-still_interned before after text other atom n (inr h) is = ap (λ (ts : List (List ℕ)). slice_get ts n) h.2 ∙ get_more before (text ∷ []) n other is
+still_interned before after text other atom n (inr h) is = ap (λ (ts : List (List ℕ)). slice_get ts n) h.2 ∙ slice_get-append_old before (text ∷ []) n other is
 
 pub still_kept : (before after : List (List ℕ)) (other : List ℕ) (n : ℕ) → Keeps before after → slice_get before n ≡ Some other → slice_get after n ≡ Some other
-still_kept before after other n k is = ap (λ (ts : List (List ℕ)). slice_get ts n) k.1 ∙ get_more before k.0 n other is
+still_kept before after other n k is = ap (λ (ts : List (List ℕ)). slice_get ts n) k.1 ∙ slice_get-append_old before k.0 n other is
 
 -- all texts from before stand where they stood
 pub interned_keeps : (before after : List (List ℕ)) (text : List ℕ) (atom : ℕ) → Interns before after text atom → Keeps before after

@@ -5,8 +5,8 @@ use Rattle.scope_analysis.specs.Functions.{function_form}
 use Rattle.script_scanner.specs.Stands.{StandFor}
 use Rattle.script_scanner.specs.Tokens.{Lexed}
 use Rattle.unit_text.specs.Points.{points_from}
+use Rattle.parse_token_laws.proofs.ScannedTokens.{are_scanned}
 use Rattle.parse_function.proofs.HoleTexts.{ends_within, front_slice, lie_in_order, few_points, same_tokens}
-use Rattle.parse_function.proofs.Scanned.{are_scanned}
 use Rattle.parse_function.proofs.holes.tokens_of.Goals as goal
 
 pub part_of-bytes-requires-clause-within : goal.part_of-bytes-requires-clause-within

@@ -7,10 +7,11 @@ use Rattle.scan_laws.proofs.FullNames.{names_are_full}
 use Rattle.track_atoms.specs.Known.{HasWords}
 use Rattle.track_atoms.proofs.Interning.{words_kept}
 use Rattle.unit_text.specs.Points.{points}
+use Rattle.parse_token_laws.proofs.ScannedTokens.{KnowsWords, are_scanned}
 use Rattle.parse_script.proofs.AsciiFiles.{file_points_few}
 use Rattle.parse_script.proofs.FewTexts.{file_texts_few}
 use Rattle.parse_script.proofs.SmallTexts.{file_texts_small}
-use Rattle.parse_script.proofs.TokenLemmas.{KnowsWords, file_tokens, file_scanned, file_atoms}
+use Rattle.parse_script.proofs.TokenLemmas.{file_tokens, file_atoms}
 use Rattle.parse_script.proofs.file_tokens.tokens_of.Goals as goal
 
 pub returns-clause-tokens : goal.returns-clause-tokens
@@ -21,7 +22,7 @@ returns-clause-tokens c =
 
 pub returns-clause-sound : goal.returns-clause-sound
 returns-clause-sound c = record {
-  scanned = file_scanned (points c.args.bytes.now) (length c.args.bytes.now) c.scan_file.new.atoms c.in_ok-tokens.tokens.items (subst (λ (ts : List (List ℕ)). length ts < 2 ^ 32) c.atoms-2.view_is c.atoms-2.invariant.few) (omega (arith, file_points_few c.args.bytes.now c.in_ok-tokens.ensures.utf8, c.requires)) c.in_ok-tokens.ensures.tokens c.in_ok-tokens.ensures.last;
+  scanned = are_scanned (points c.args.bytes.now) 0 (length c.args.bytes.now) c.scan_file.new.atoms c.in_ok-tokens.tokens.items (subst (λ (ts : List (List ℕ)). length ts < 2 ^ 32) c.atoms-2.view_is c.atoms-2.invariant.few) (omega (arith, file_points_few c.args.bytes.now c.in_ok-tokens.ensures.utf8, c.requires)) c.in_ok-tokens.ensures.tokens c.in_ok-tokens.ensures.last;
   last = c.in_ok-tokens.ensures.last;
   rise = subst (TokensRise 0) (sym (returns-clause-tokens c)) (lexemes_rise c.args.bytes.now);
   names = subst NamesAreFull (sym (returns-clause-tokens c)) (names_are_full c.args.bytes.now);

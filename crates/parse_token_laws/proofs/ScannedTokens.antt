@@ -1,4 +1,4 @@
--- The tokens that the scanner answers for a part of a text are those of the text, as a parser takes them.
+-- The tokens that the scanner answers for a text, or for a part of one, are those of the text, as a parser takes them.
 use Rattle.std.proofs.Common.{◌≡◌, ℕ, zero, suc, ◌^◌, ◌<◌, ◌≤◌, List, [], ◌∷◌, ◌++◌, map, length, drop, filter, Bool, true, false, refl, sym, ◌∙◌, ap, subst, arith, slice_index_or, length-append, length-drop}
 use Rattle.std.specs.Prelude.{Option, Some, None, ◌||◌, ◌&&◌, ◌==◌, slice_get, nat_eq, nat_le, nat_lt, if◌then◌else◌}
 use Rattle.std.proofs.lemmas.Bool.{eqb-true, eq-eqb}
@@ -16,7 +16,7 @@ use Rattle.script_scanner.specs.declared.braces.Brace.{Brace}
 use Rattle.script_scanner.specs.declared.blanks.Blank.{Blank}
 use Rattle.script_scanner.specs.Blanks.{blank_at, first_line_length}
 use Rattle.script_scanner.specs.Braces.{in_substitution}
-use Rattle.script_scanner.specs.Stands.{HasValue, StandsFor, StandFor, is_last, AreNoLast, HasOneLast, Keeps}
+use Rattle.script_scanner.specs.Stands.{HasValue, StandsFor, StandFor, is_last, AreNoLast, HasOneLast}
 use Rattle.script_scanner.specs.Tokens.{Value, Text, Number, Nothing, Piece, Lexed, Front, IsBlank, IsToken, IsNeither, front_of, front_at, token_at, then_tokens, tokens_within, tokens, last_token, part, without_first_line, braces_after}
 use Rattle.script_scanner.proofs.KindLemmas.{IsText, IsNumber, IsNothing, Suits, PieceSuits, token_suits}
 use Rattle.script_scanner.specs.Lexemes.{text_in, number_in, lexeme_of}
@@ -209,31 +209,28 @@ get_within [] i text h = absurd (cc)
 get_within (t ∷ texts) zero text h = omega arith
 get_within (t ∷ texts) (suc i) text h = omega (arith, get_within texts i text h)
 
-value_within : (texts : List (List ℕ)) (v : Value) (n : ℕ) → length texts < 2 ^ 32 → IsText v → HasValue texts v n → n < 2 ^ 32
-value_within texts (Text units) n few h has = omega (arith, few, get_within texts n units has)
-value_within texts (Number value) n few h has = absurd h
-value_within texts Nothing n few h has = absurd h
+value_within : (texts : List (List ℕ)) (v : Value) (n : ℕ) → IsText v → HasValue texts v n → n < length texts
+value_within texts (Text units) n h has = get_within texts n units has
+value_within texts (Number value) n h has = absurd h
+value_within texts Nothing n h has = absurd h
 
-has_no_atom : (b : Bool) → b ≡ false → b ≡ true → ⊥
-has_no_atom b none some = let e = sym none ∙ some in cc
-
-atom_fits : (texts : List (List ℕ)) (k : Kind) (v : Value) (n : ℕ) → length texts < 2 ^ 32 → Carries k v → HasValue texts v n → has_atom k ≡ true → n < 2 ^ 32
-atom_fits texts kind.Name v n few h has some = value_within texts v n few h has
-atom_fits texts kind.Number v n few h has some = absurd (cc)
-atom_fits texts kind.Str v n few h has some = value_within texts v n few h has
-atom_fits texts kind.TemplateWhole v n few h has some = value_within texts v n few h has
-atom_fits texts kind.TemplateHead v n few h has some = value_within texts v n few h has
-atom_fits texts kind.TemplateMiddle v n few h has some = value_within texts v n few h has
-atom_fits texts kind.TemplateTail v n few h has some = value_within texts v n few h has
-atom_fits texts (kind.Word i) v n few h has some = value_within texts v n few h has
-atom_fits texts (kind.Mark i) v n few h has some = absurd (cc)
-atom_fits texts kind.Bad v n few h has some = absurd (cc)
-atom_fits texts kind.End v n few h has some = absurd (cc)
+pub atom_within : (texts : List (List ℕ)) (k : Kind) (v : Value) (n : ℕ) → Carries k v → HasValue texts v n → has_atom k ≡ true → n < length texts
+atom_within texts kind.Name v n h has some = value_within texts v n h has
+atom_within texts kind.Number v n h has some = absurd (cc)
+atom_within texts kind.Str v n h has some = value_within texts v n h has
+atom_within texts kind.TemplateWhole v n h has some = value_within texts v n h has
+atom_within texts kind.TemplateHead v n h has some = value_within texts v n h has
+atom_within texts kind.TemplateMiddle v n h has some = value_within texts v n h has
+atom_within texts kind.TemplateTail v n h has some = value_within texts v n h has
+atom_within texts (kind.Word i) v n h has some = value_within texts v n h has
+atom_within texts (kind.Mark i) v n h has some = absurd (cc)
+atom_within texts kind.Bad v n h has some = absurd (cc)
+atom_within texts kind.End v n h has some = absurd (cc)
 
 atom_at : (texts : List (List ℕ)) (ts : List Token) (ls : List Lexed) → length texts < 2 ^ 32 → AllCarry ls → StandFor texts ts ls → (k : ℕ) (d : Token) → k < length ts → HasAtom (slice_index_or ts k d)
 atom_at texts [] ls few all stand k d l = absurd (omega (arith, l))
 atom_at texts (t ∷ ts) [] few all stand k d l = absurd stand
-atom_at texts (t ∷ ts) (x ∷ ls) few all stand zero d l = λ some. atom_fits texts x.kind x.value t.value few all.0 stand.0.value (ap has_atom (sym stand.0.kind) ∙ some)
+atom_at texts (t ∷ ts) (x ∷ ls) few all stand zero d l = λ some. let within = atom_within texts x.kind x.value t.value all.0 stand.0.value (ap has_atom (sym stand.0.kind) ∙ some) in omega (arith, few, within)
 atom_at texts (t ∷ ts) (x ∷ ls) few all stand (suc k) d l = atom_at texts ts ls few all.1 stand.1 k d (omega (arith, l))
 
 -- Only the last token ends all.
@@ -278,7 +275,7 @@ first_line_few : (b : Bool) (n : ℕ) (ps : List Point) → length (if b then dr
 first_line_few true n ps = let c = length-drop n ps in omega (arith, c)
 first_line_few false n ps = omega arith
 
-tokens_few : (ps : List Point) (from to : ℕ) → length (tokens ps from to) ≤ suc (length ps)
+pub tokens_few : (ps : List Point) (from to : ℕ) → length (tokens ps from to) ≤ suc (length ps)
 tokens_few ps from to =
     let text = without_first_line from (part from to ps) in
     let a = few_within (suc (length text)) to [] false text in
@@ -292,7 +289,7 @@ as_many texts [] (l ∷ ls) h = absurd h
 as_many texts (t ∷ ts) [] h = absurd h
 as_many texts (t ∷ ts) (l ∷ ls) h = ap suc (as_many texts ts ls h.1)
 
-tokens_carry : (ps : List Point) (from to : ℕ) → AllCarry (tokens ps from to)
+pub tokens_carry : (ps : List Point) (from to : ℕ) → AllCarry (tokens ps from to)
 tokens_carry ps from to = let text = without_first_line from (part from to ps) in all_carry (suc (length text)) to [] false text
 
 -- The scanned tokens of a part.
@@ -307,16 +304,3 @@ are_scanned ps from to texts ts few short stand one = record {
   inner = λ k d. subst (λ (xs : List Token). suc k < length xs → ends_all (slice_index_or xs k d).kind ≡ false) (sym one.split) (inner_at one.front one.last one.others k d);
   last = λ k d. subst (λ (xs : List Token). suc k ≡ length xs → ends_all (slice_index_or xs k d).kind ≡ true) (sym one.split) (last_at one.front one.last one.ends k d);
 }
-
--- there is one at least
-pub has_some : (ts : List Token) → HasOneLast ts → 0 < length ts
-has_some ts h = let z = ap length h.split ∙ length-append h.front (h.last ∷ []) in omega (arith, z)
-
--- a text stays where it stands while others join
-pub still_there : (before after : List (List ℕ)) (text : List ℕ) (n : ℕ) → Keeps before after → slice_get before n ≡ Some text → slice_get after n ≡ Some text
-still_there before after text n k is = ap (λ (ts : List (List ℕ)). slice_get ts n) k.1 ∙ more before k.0 n is
-  where
-    more : (ts us : List (List ℕ)) (m : ℕ) → slice_get ts m ≡ Some text → slice_get (ts ++ us) m ≡ Some text
-    more [] us m h = absurd (cc)
-    more (t ∷ ts) us zero h = h
-    more (t ∷ ts) us (suc m) h = more ts us m h

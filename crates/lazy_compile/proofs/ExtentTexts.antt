@@ -15,7 +15,7 @@ use Rattle.script_scanner.specs.Stands.{GainsOnly, IsValueAmong}
 use Rattle.script_scanner.specs.Tokens.{tokens}
 use Rattle.grammar_parser_specs.specs.Exprs.{last_end}
 use Rattle.scope_analysis.specs.Functions.{Inner}
-use Rattle.track_atoms.specs.Known.{HasWords, known_atoms}
+use Rattle.track_atoms.specs.Known.{HasWords, known_atoms, word_texts}
 use Rattle.scan_laws.specs.Inside.{end_from, end_of, end_token}
 use Rattle.scan_laws.proofs.Balanced.{pieces_close}
 use Rattle.scan_laws.proofs.ReadAlone.{read_alone}
@@ -23,7 +23,7 @@ use Rattle.grammar_alone_laws.specs.Alone.{StandsAlone, at_front}
 use Rattle.grammar_alone_laws.proofs.Alone.{stands_alone}
 use Rattle.parse_function.specs.Extents.{IsExtentOf}
 use Rattle.lazy_compile.specs.OwnTexts.{TakesFrom}
-use Rattle.lazy_compile.specs.Texts.{known_texts, IsTextOf, AreTextsOf}
+use Rattle.lazy_compile.specs.Texts.{IsTextOf, AreTextsOf}
 use Rattle.lazy_compile.proofs.OwnTexts.{either_at}
 use Rattle.parse_function.proofs.TokenValues.{has_text, IsAmong, value_among, among_value, among_left, among_right, among_either, tokens_suited}
 use Rattle.std.proofs.lemmas.List.{append_assoc}
@@ -73,10 +73,10 @@ module _ (file : List ℕ) (extent : Extent) (f : FuncForm) (items : Stmts) (i :
 -- ---- texts
 
 -- texts of at most seven, among which the seven words have their places, are these words
-pub only_words : (texts : List (List ℕ)) → HasWords texts known_atoms → length texts ≤ 7 → (text : List ℕ) → StandsIn texts text → StandsIn known_texts text
+pub only_words : (texts : List (List ℕ)) → HasWords texts known_atoms → length texts ≤ 7 → (text : List ℕ) → StandsIn texts text → StandsIn word_texts text
 only_words texts h few text s = (s.0, by s.0 s.1)
   where
-    by : (n : ℕ) → slice_get texts n ≡ Some text → slice_get known_texts n ≡ Some text
+    by : (n : ℕ) → slice_get texts n ≡ Some text → slice_get word_texts n ≡ Some text
     by zero e = sym h.eval ∙ e
     by (suc zero) e = sym h.arguments ∙ e
     by (suc (suc zero)) e = sym h.this ∙ e

@@ -5,17 +5,17 @@ use Rattle.std.proofs.lemmas.Option.{none-some, same_Some}
 use Rattle.std.proofs.lemmas.Slice.Eq.{bytes_eq-Decides}
 use Rattle.parser_atoms.specs.Places.{StandsIn}
 use Rattle.scope_analysis.specs.DeclaredNames.{has_text}
-use Rattle.track_atoms.specs.Known.{HasWords, known_atoms}
-use Rattle.lazy_compile.specs.Texts.{known_texts, IsTextOf, AreTextsOf}
+use Rattle.track_atoms.specs.Known.{HasWords, known_atoms, word_texts}
+use Rattle.lazy_compile.specs.Texts.{IsTextOf, AreTextsOf}
 use Rattle.compile_initial.specs.Initial.{HasTextsOf}
 use Rattle.lazy_function.specs.Texts.{AreAmong, are_among}
 
 -- ---- the script's own
 
-word_in : (texts : List (List ℕ)) → HasWords texts known_atoms → (text : List ℕ) → StandsIn known_texts text → StandsIn texts text
+word_in : (texts : List (List ℕ)) → HasWords texts known_atoms → (text : List ℕ) → StandsIn word_texts text → StandsIn texts text
 word_in texts h text s = (s.0, by s.0 s.1)
   where
-    by : (n : ℕ) → slice_get known_texts n ≡ Some text → slice_get texts n ≡ Some text
+    by : (n : ℕ) → slice_get word_texts n ≡ Some text → slice_get texts n ≡ Some text
     by zero e = h.eval ∙ e
     by (suc zero) e = h.arguments ∙ e
     by (suc (suc zero)) e = h.this ∙ e

@@ -1,9 +1,9 @@
 -- Where no name at a place of the print of a function is empty, nor its own name, no name of its scopes is.
-use Rattle.std.proofs.Common.{ℕ, Bool, true, false, cond, [], ◌∷◌, ◌++◌, Option, Some}
+use Rattle.std.proofs.Common.{ℕ, Bool, true, false, cond, List, [], ◌∷◌, ◌++◌, Option, Some}
 use Rattle.script_grammar.specs.Kinds.{is_arrow_form}
 use Rattle.script_grammar.specs.Tree.{Function, function, Body, BracedBody, ShortBody, Stmts}
-use Rattle.script_grammar.specs.Pieces.{whole}
-use Rattle.script_grammar.specs.Print.{print_body, print_function, print_stmts, param_depth, arrow_pieces}
+use Rattle.script_grammar.specs.Pieces.{whole, Piece}
+use Rattle.script_grammar.specs.Print.{print_body, print_function, print_stmts, parenthesized, param_depth, arrow_pieces}
 use Rattle.stencil_data.specs.declared.functions.FuncKind.{FuncKind}
 use Rattle.stencil_data.specs.declared.functions.FuncKind.TheVariants as func
 use Rattle.stencil_data.specs.declared.scopes.BindKind.{BindKind}
@@ -15,7 +15,6 @@ use Rattle.scope_analysis.specs.Scopes.{Within, scope_and, scope_around, block_i
 use Rattle.emit_limit_laws.proofs.Measures.{cons_none}
 use Rattle.scope_closed_laws.proofs.Places.{Hold}
 use Rattle.emit_limit_laws.specs.FullNames.{ScopesFull, NameFull}
-use Rattle.emit_limit_laws.proofs.FullInner.{in_listed}
 use Rattle.emit_limit_laws.proofs.FullLists.{TextsFull, DeclaredFull, declared_both, declared_full, first_ones_full, without_full, and_full, around_full}
 use Rattle.emit_limit_laws.proofs.FullPlaces.{Full, Given, given, so, both, before, past, after}
 use Rattle.emit_limit_laws.proofs.FullStatements.{params_full, FullStmts, stmts_full}
@@ -80,9 +79,13 @@ body_full d end (ShortBody value) = given (record { beside = none; scopes = λ b
 
 -- ---- the whole
 
+in_listed : {P : Type 0} (bare : Bool) (start d : ℕ) (comma : Bool) {ps : List Piece} → Given P ps → Given P (parenthesized bare start d ps comma)
+in_listed true start d comma k = k
+in_listed false start d comma k = past (after _ k)
+
 function_full : (kind : FuncKind) (name : Option Text) (d : ℕ) (f : Function) → NameFull name → Given (ScopesFull (function_scopes kind name f)) (print_function whole d f)
 function_full kind name d (function form start end who ps comma bare body) n =
-    so (both (in_listed bare form start d ps comma (params_full (param_depth form bare d) d ps)) (before (arrow_pieces form d) (body_full d end body)))
+    so (both (in_listed bare start d comma (params_full (param_depth form bare d) d ps)) (before (arrow_pieces form d) (body_full d end body)))
     (λ h.
     let own = declared_both (declarations bind.Param (param_names ps) ++ declarations bind.Var (texts_without (param_names ps) (beside_params (has_initializer ps) body))) (special_names form (function_uses ps body))
     (declared_both (declarations bind.Param (param_names ps)) (declarations bind.Var (texts_without (param_names ps) (beside_params (has_initializer ps) body)))

@@ -1,6 +1,6 @@
 -- Functions in places that are put together.
 use Rattle.std.specs.Prelude.{Contains}
-use Rattle.std.proofs.Common.{◌≡◌, ◌<◌, zero, suc, length, get_or, arith, ℕ, List, [], ◌∷◌, ◌++◌, append_assoc, sym, subst}
+use Rattle.std.proofs.Common.{◌≡◌, ◌<◌, zero, suc, length, get_or, arith, ℕ, List, [], ◌∷◌, ◌++◌, subst}
 use Rattle.script_grammar.specs.Pieces.{whole, Piece, from, glue, until}
 use Rattle.script_grammar.specs.Print.{print_function}
 use Rattle.script_grammar.specs.Proper.{ProperFunction}
@@ -53,14 +53,6 @@ inside_glue {is} {ps} h = record { held = held_tighter is ps (glue ps) (less_glu
 
 pub inside_until : {is : List Inner} {ps : List Piece} (n : ℕ) → Inside is ps → Inside is (until n ps)
 inside_until {is} {ps} n h = record { held = held_tighter is ps (until n ps) (less_until n ps) h.held }
-
--- three and four parts, listed from the left
-pub three : {is js ks : List Inner} {ps qs rs : List Piece} (p : Piece) → Inside is ps → Inside js qs → Inside ks rs → Inside ((is ++ js) ++ ks) (ps ++ (p ∷ (qs ++ rs)))
-three {is} {js} {ks} {ps} {qs} {rs} p h k l = subst (λ xs. Inside xs (ps ++ (p ∷ (qs ++ rs)))) (sym (append_assoc is js ks)) (both h (past {p = p} (both k l)))
-
-pub four : {is js ks xs : List Inner} {ps qs rs ss : List Piece} (p q : Piece) → Inside is ps → Inside js qs → Inside ks rs → Inside xs ss
-    → Inside (((is ++ js) ++ ks) ++ xs) (ps ++ (p ∷ (qs ++ (q ∷ (rs ++ ss)))))
-four {is} {js} {ks} {xs} {ps} {qs} {rs} {ss} p q h k l m = subst (λ ys. Inside ys (ps ++ (p ∷ (qs ++ (q ∷ (rs ++ ss)))))) (sym (append_assoc (is ++ js) ks xs)) (three p h k (past {p = q} (both l m)))
 
 -- one function
 pub alone : (d : ℕ) (i : Inner) → ProperFunction whole i.func → Inside (i ∷ []) (print_function whole d i.func)

@@ -3,6 +3,7 @@ pub mod Carrying
 pub mod Halves
 pub mod Holding
 pub mod InnerFunctions
+pub mod InnerWalk
 pub mod Lasting
 pub mod Loosening
 pub mod Matched

@@ -1,6 +1,6 @@
 -- A text that is cut: a string or a template part that lies in front of the cut is the same as in the whole text.
 use Rattle.std.proofs.Common.{◌≡◌, ℕ, zero, suc, ◌+◌, ◌-◌, ◌<◌, ◌≤◌, List, [], ◌∷◌, ◌++◌, length, take, drop, Bool, true, false, cond, refl, sym, ◌∙◌, ap, subst, arith, Option, Some, None, length-drop}
-use Rattle.std.specs.Prelude.{◌&&◌, ◌||◌, ◌==◌, not, nat_lt, nat_le, option_map}
+use Rattle.std.specs.Prelude.{◌&&◌, ◌||◌, ◌==◌, not, nat_lt, option_map}
 use Rattle.std.specs.Char.{is_digit}
 use Rattle.std.specs.List.{prefix_len}
 use Rattle.std.proofs.lemmas.List.{take-append-le, drop-append-le}
@@ -11,178 +11,26 @@ use Rattle.script_scanner.specs.declared.escapes.Step.TheVariants.{Add, Skip, Cl
 use Rattle.script_scanner.specs.declared.parts.Ending.{Ending}
 use Rattle.script_scanner.specs.declared.parts.Ending.TheVariants.{Quote, Template}
 use Rattle.script_scanner.specs.Blanks.{is_line_end, begins, line_end_length}
-use Rattle.script_scanner.specs.Escapes.{is_hex_digit, begins_with_digit, hex_byte, two_bytes, hex_unit, value_step, code_point_step, braced_step, unicode_step, single_escape, escape_step}
+use Rattle.script_scanner.specs.Escapes.{is_hex_digit, begins_with_digit, hex_byte, hex_unit, value_step, code_point_step, braced_step, unicode_step, single_escape, escape_step}
 use Rattle.script_scanner.specs.Numbers.{digits_value}
 use Rattle.script_scanner.specs.Parts.{Body, behind, then_body, body_within, body_of, string_step, template_step, step_at}
 use Rattle.script_scanner.specs.Tokens.{string_piece, template_piece}
-use Rattle.scan_laws.proofs.CutBlanks.{prefix_cut, begins_cut, begins_long}
+use Rattle.scan_laws.proofs.CutBlanks.{prefix_cut, begins_cut}
 use Rattle.scan_laws.proofs.CutNumbers.{PieceWithin, PieceCut}
-
--- A step takes n code points at least and m at most.
-
-abbrev StepWithin : ℕ → ℕ → Step → Type 0
-StepWithin low high (Add code n) = (low ≤ n) × (n ≤ high)
-StepWithin low high (Skip n) = (low ≤ n) × (n ≤ high)
-StepWithin low high (Close n) = (low ≤ n) × (n ≤ high)
-StepWithin low high Break = Unit {0}
-
-lower : (low less high : ℕ) (s : Step) → less ≤ low → StepWithin low high s → StepWithin less high s
-lower low less high (Add code n) le h = (omega (arith, le, h.0), h.1)
-lower low less high (Skip n) le h = (omega (arith, le, h.0), h.1)
-lower low less high (Close n) le h = (omega (arith, le, h.0), h.1)
-lower low less high Break le h = tt
-
-either_within : (low high : ℕ) (b : Bool) (s t : Step) → StepWithin low high s → StepWithin low high t → StepWithin low high (cond b s t)
-either_within low high true s t h k = h
-either_within low high false s t h k = k
-
-value_within : (low high : ℕ) (o : Option ℕ) (n : ℕ) → low ≤ n → ((v : ℕ) → o ≡ Some v → n ≤ high) → StepWithin low high (value_step o n)
-value_within low high None n le k = tt
-value_within low high (Some value) n le k = (le, k value refl)
-
-hex_byte_long : (codes : List ℕ) (v : ℕ) → hex_byte codes ≡ Some v → 2 ≤ length codes
-hex_byte_long [] v e = absurd (cc)
-hex_byte_long (c ∷ []) v e = absurd (cc)
-hex_byte_long (c ∷ d ∷ codes) v e = omega arith
-
-hex_unit_long : (codes : List ℕ) (v : ℕ) → hex_unit codes ≡ Some v → 4 ≤ length codes
-hex_unit_long codes v e = by (hex_byte codes) (hex_byte (drop 2 codes)) refl refl e
-  where
-    by : (high low : Option ℕ) → hex_byte codes ≡ high → hex_byte (drop 2 codes) ≡ low → two_bytes high low ≡ Some v → 4 ≤ length codes
-    by None low f g h = absurd (cc)
-    by (Some high) None f g h = absurd (cc)
-    by (Some high) (Some low) f g h =
-        let front : 2 ≤ length codes = hex_byte_long codes high f in
-        let back : 2 ≤ length (drop 2 codes) = hex_byte_long (drop 2 codes) low g in
-        let size : length (drop 2 codes) ≡ length codes - 2 = length-drop 2 codes in
-        omega (arith, front, back, size)
-
-code_point_within : (low high : ℕ) (o : Option ℕ) (n : ℕ) → (low ≤ n) × (n ≤ high) → StepWithin low high (code_point_step o n)
-code_point_within low high None n h = tt
-code_point_within low high (Some value) n h = either_within low high (nat_le value 0x10_FFFF) (Add value n) Break h tt
-
-braced_within : (codes : List ℕ) → StepWithin 4 (3 + length codes) (braced_step codes)
-braced_within codes = by (nat_lt 0 (prefix_len is_hex_digit codes)) (begins (0x7D ∷ []) (drop (prefix_len is_hex_digit codes) codes)) refl
-  where
-    by : (x y : Bool) → begins (0x7D ∷ []) (drop (prefix_len is_hex_digit codes) codes) ≡ y
-        → StepWithin 4 (3 + length codes) (cond (x && y) (code_point_step (digits_value 16 (take (prefix_len is_hex_digit codes) codes)) (4 + prefix_len is_hex_digit codes)) Break)
-    by false y e = tt
-    by true false e = tt
-    by true true e =
-        let some : 1 ≤ length (drop (prefix_len is_hex_digit codes) codes) = begins_long (0x7D ∷ []) (drop (prefix_len is_hex_digit codes) codes) e in
-        let size : length (drop (prefix_len is_hex_digit codes) codes) ≡ length codes - prefix_len is_hex_digit codes = length-drop (prefix_len is_hex_digit codes) codes in
-        code_point_within 4 (3 + length codes) (digits_value 16 (take (prefix_len is_hex_digit codes) codes)) (4 + prefix_len is_hex_digit codes) (omega arith, omega (arith, some, size))
-
-unicode_within : (codes : List ℕ) → StepWithin 4 (2 + length codes) (unicode_step codes)
-unicode_within [] = tt
-unicode_within (c ∷ codes) = either_within 4 (2 + suc (length codes)) ((c == 0x7B) && true) (braced_step codes) (value_step (hex_unit (c ∷ codes)) 6) (same (3 + length codes) (2 + suc (length codes)) (omega arith) (braced_within codes))
-    (value_within 4 (2 + suc (length codes)) (hex_unit (c ∷ codes)) 6 (omega arith) (λ v e. let h : 4 ≤ suc (length codes) = hex_unit_long (c ∷ codes) v e in omega (arith, h)))
-  where
-    same : (m n : ℕ) → m ≡ n → StepWithin 4 m (braced_step codes) → StepWithin 4 n (braced_step codes)
-    same m n e h = subst (λ k. StepWithin 4 k (braced_step codes)) e h
-
-line_end_within : (c : ℕ) (codes : List ℕ) → (1 ≤ line_end_length (c ∷ codes)) × (line_end_length (c ∷ codes) ≤ suc (length codes))
-line_end_within c [] = (omega arith, omega arith)
-line_end_within c (d ∷ codes) = by ((c == 0xD) && (d == 0xA))
-  where
-    by : (b : Bool) → (1 ≤ cond b 2 1) × (cond b 2 1 ≤ suc (suc (length codes)))
-    by true = (omega arith, omega arith)
-    by false = (omega arith, omega arith)
-
--- what is after a `\` takes one more, with it
-escape_within : (codes : List ℕ) → StepWithin 2 (suc (length codes)) (escape_step codes)
-escape_within [] = tt
-escape_within (c ∷ codes) =
-    either_within 2 (suc (suc (length codes))) (is_line_end c) (Skip (1 + line_end_length (c ∷ codes))) _
-    (let h : (1 ≤ line_end_length (c ∷ codes)) × (line_end_length (c ∷ codes) ≤ suc (length codes)) = line_end_within c codes in (omega (arith, h.0), omega (arith, h.1)))
-    (either_within 2 (suc (suc (length codes))) (is_digit c 10) _ _ (either_within 2 (suc (suc (length codes))) ((c == 0x30) && not (begins_with_digit codes)) (Add 0 2) Break (omega arith, omega arith) tt)
-    (either_within 2 (suc (suc (length codes))) (c == 0x78) (value_step (hex_byte codes) 4) _ (value_within 2 (suc (suc (length codes))) (hex_byte codes) 4 (omega arith) (λ v e. let h : 2 ≤ length codes = hex_byte_long codes v e in omega (arith, h)))
-    (either_within 2 (suc (suc (length codes))) (c == 0x75) (unicode_step codes) (Add (single_escape c) 2)
-    (lower 4 2 (suc (suc (length codes))) (unicode_step codes) (omega arith) (subst (λ n. StepWithin 4 n (unicode_step codes)) (two_more (length codes)) (unicode_within codes))) (omega arith, omega arith))))
-  where
-    two_more : (n : ℕ) → 2 + n ≡ suc (suc n)
-    two_more n = omega arith
-
-string_within : (quote : ℕ) (codes : List ℕ) → StepWithin 1 (length codes) (string_step quote codes)
-string_within quote [] = tt
-string_within quote (c ∷ codes) =
-    either_within 1 (suc (length codes)) (c == quote) (Close 1) _ (omega arith, omega arith)
-    (either_within 1 (suc (length codes)) (c == 0x5C) (escape_step codes) _ (lower 2 1 (suc (length codes)) (escape_step codes) (omega arith) (escape_within codes))
-    (either_within 1 (suc (length codes)) ((c == 0xA) || (c == 0xD)) Break (Add c 1) tt (omega arith, omega arith)))
-
-template_within : (codes : List ℕ) → StepWithin 1 (length codes) (template_step codes)
-template_within [] = tt
-template_within (c ∷ codes) =
-    either_within 1 (suc (length codes)) (c == 0x60) (Close 1) _ (omega arith, omega arith)
-    (dollar (c == 0x24) (begins (0x7B ∷ []) codes) _ refl
-    (either_within 1 (suc (length codes)) (c == 0x5C) (escape_step codes) _ (lower 2 1 (suc (length codes)) (escape_step codes) (omega arith) (escape_within codes))
-    (either_within 1 (suc (length codes)) (c == 0xD) (Add 0xA (line_end_length (c ∷ codes))) (Add c 1) (line_end_within c codes) (omega arith, omega arith))))
-  where
-    dollar : (x y : Bool) (s : Step) → begins (0x7B ∷ []) codes ≡ y → StepWithin 1 (suc (length codes)) s → StepWithin 1 (suc (length codes)) (cond (x && y) (Close 2) s)
-    dollar false y s e h = h
-    dollar true false s e h = h
-    dollar true true s e h = let some : 1 ≤ length codes = begins_long (0x7B ∷ []) codes e in (omega arith, omega (arith, some))
-
-step_within : (ending : Ending) (codes : List ℕ) → StepWithin 1 (length codes) (step_at ending codes)
-step_within (Quote quote) codes = string_within quote codes
-step_within Template codes = template_within codes
+use Rattle.scan_laws.proofs.Steps.{unicode_within, escape_within, string_within, template_within, step_within, StepWithin, StepSame, step_short, step_self, same_either, value_same, hex_byte_cut, hex_unit_cut, code_point_same, BodySame, then_same}
 
 -- A step that ends before the cut is the same in the text that is cut.
 
-abbrev StepCut : ℕ → Step → Step → Type 0
-StepCut room (Add code n) cut = n ≤ room → cut ≡ Add code n
-StepCut room (Skip n) cut = n ≤ room → cut ≡ Skip n
-StepCut room (Close n) cut = n ≤ room → cut ≡ Close n
-StepCut room Break cut = Unit {0}
-
-step_short : (low high room : ℕ) (s cut : Step) → room < low → StepWithin low high s → StepCut room s cut
-step_short low high room (Add code n) cut lt h = λ le. absurd (omega (arith, lt, h.0, le))
-step_short low high room (Skip n) cut lt h = λ le. absurd (omega (arith, lt, h.0, le))
-step_short low high room (Close n) cut lt h = λ le. absurd (omega (arith, lt, h.0, le))
-step_short low high room Break cut lt h = tt
-
-step_same : (room : ℕ) (s : Step) → StepCut room s s
-step_same room (Add code n) = λ le. refl
-step_same room (Skip n) = λ le. refl
-step_same room (Close n) = λ le. refl
-step_same room Break = tt
-
-cut_either : (room : ℕ) (b : Bool) (s t s_cut t_cut : Step) → StepCut room s s_cut → StepCut room t t_cut → StepCut room (cond b s t) (cond b s_cut t_cut)
-cut_either room true s t s_cut t_cut h k = h
-cut_either room false s t s_cut t_cut h k = k
-
-value_cut : (room : ℕ) (o cut : Option ℕ) (n : ℕ) → (n ≤ room → cut ≡ o) → StepCut room (value_step o n) (value_step cut n)
-value_cut room None cut n k = tt
-value_cut room (Some value) cut n k = λ le. ap (λ (x : Option ℕ). value_step x n) (k le)
-
-hex_byte_cut : (cs ds : List ℕ) → 2 ≤ length cs → hex_byte cs ≡ hex_byte (cs ++ ds)
-hex_byte_cut [] ds le = absurd (omega (arith, le))
-hex_byte_cut (c ∷ []) ds le = absurd (omega (arith, le))
-hex_byte_cut (c ∷ d ∷ cs) ds le = refl
-
-hex_unit_cut : (cs ds : List ℕ) → 4 ≤ length cs → hex_unit cs ≡ hex_unit (cs ++ ds)
-hex_unit_cut [] ds le = absurd (omega (arith, le))
-hex_unit_cut (a ∷ []) ds le = absurd (omega (arith, le))
-hex_unit_cut (a ∷ b ∷ cs) ds le = ap (two_bytes (hex_byte (a ∷ b ∷ []))) (hex_byte_cut cs ds (omega (arith, le)))
-
-code_point_cut : (room : ℕ) (o : Option ℕ) (n : ℕ) (cut : Step) → (n ≤ room → cut ≡ code_point_step o n) → StepCut room (code_point_step o n) cut
-code_point_cut room None n cut k = tt
-code_point_cut room (Some value) n cut k = by (nat_le value 0x10_FFFF) k
-  where
-    by : (b : Bool) → (n ≤ room → cut ≡ cond b (Add value n) Break) → StepCut room (cond b (Add value n) Break) cut
-    by true h = h
-    by false h = tt
-
-braced_cut : (cs ds : List ℕ) → StepCut (3 + length cs) (braced_step (cs ++ ds)) (braced_step cs)
+braced_cut : (cs ds : List ℕ) → StepSame (3 + length cs) (braced_step (cs ++ ds)) (braced_step cs)
 braced_cut cs ds = by (nat_lt 0 (prefix_len is_hex_digit (cs ++ ds)) && begins (0x7D ∷ []) (drop (prefix_len is_hex_digit (cs ++ ds)) (cs ++ ds))) refl
   where
     made : ℕ → Bool → List ℕ → Step
     made count closed front = cond (nat_lt 0 count && closed) (code_point_step (digits_value 16 front) (4 + count)) Break
 
     by : (b : Bool) → (nat_lt 0 (prefix_len is_hex_digit (cs ++ ds)) && begins (0x7D ∷ []) (drop (prefix_len is_hex_digit (cs ++ ds)) (cs ++ ds))) ≡ b
-        → StepCut (3 + length cs) (cond b (code_point_step (digits_value 16 (take (prefix_len is_hex_digit (cs ++ ds)) (cs ++ ds))) (4 + prefix_len is_hex_digit (cs ++ ds))) Break) (braced_step cs)
+        → StepSame (3 + length cs) (cond b (code_point_step (digits_value 16 (take (prefix_len is_hex_digit (cs ++ ds)) (cs ++ ds))) (4 + prefix_len is_hex_digit (cs ++ ds))) Break) (braced_step cs)
     by false e = tt
-    by true e = code_point_cut (3 + length cs) (digits_value 16 (take (prefix_len is_hex_digit (cs ++ ds)) (cs ++ ds))) (4 + prefix_len is_hex_digit (cs ++ ds)) (braced_step cs) (λ le.
+    by true e = code_point_same (3 + length cs) (digits_value 16 (take (prefix_len is_hex_digit (cs ++ ds)) (cs ++ ds))) (4 + prefix_len is_hex_digit (cs ++ ds)) (braced_step cs) (λ le.
         let count = prefix_len is_hex_digit (cs ++ ds) in
         let within : count ≤ length cs = omega (arith, le) in
         let same : count ≡ prefix_len is_hex_digit cs = prefix_cut is_hex_digit cs ds within in
@@ -194,11 +42,11 @@ braced_cut cs ds = by (nat_lt 0 (prefix_len is_hex_digit (cs ++ ds)) && begins (
         ∙ ap (λ b. made count b (take count (cs ++ ds))) (sym closed)
         ∙ ap (λ b. cond b (code_point_step (digits_value 16 (take count (cs ++ ds))) (4 + count)) Break) e)
 
-unicode_cut : (cs ds : List ℕ) → StepCut (2 + length cs) (unicode_step (cs ++ ds)) (unicode_step cs)
+unicode_cut : (cs ds : List ℕ) → StepSame (2 + length cs) (unicode_step (cs ++ ds)) (unicode_step cs)
 unicode_cut [] ds = step_short 4 (2 + length ds) (2 + 0) (unicode_step ds) Break (omega arith) (unicode_within ds)
-unicode_cut (c ∷ cs) ds = cut_either (2 + suc (length cs)) ((c == 0x7B) && true) (braced_step (cs ++ ds)) _ (braced_step cs) _
-    (subst (λ n. StepCut n (braced_step (cs ++ ds)) (braced_step cs)) (one_over (length cs)) (braced_cut cs ds))
-    (value_cut (2 + suc (length cs)) (hex_unit (c ∷ (cs ++ ds))) (hex_unit (c ∷ cs)) 6 (λ le. hex_unit_cut (c ∷ cs) ds (omega (arith, le))))
+unicode_cut (c ∷ cs) ds = same_either (2 + suc (length cs)) ((c == 0x7B) && true) (braced_step (cs ++ ds)) _ (braced_step cs) _
+    (subst (λ n. StepSame n (braced_step (cs ++ ds)) (braced_step cs)) (one_over (length cs)) (braced_cut cs ds))
+    (value_same (2 + suc (length cs)) (hex_unit (c ∷ (cs ++ ds))) (hex_unit (c ∷ cs)) 6 (λ le. hex_unit_cut (c ∷ cs) ds (omega (arith, le))))
   where
     one_over : (n : ℕ) → 3 + n ≡ 2 + suc n
     one_over n = omega arith
@@ -212,54 +60,54 @@ line_end_cut c [] (d ∷ ds) le = by ((c == 0xD) && (d == 0xA)) le
     by false h = refl
 line_end_cut c (d ∷ cs) ds le = refl
 
-nul_cut : (c : ℕ) (cs ds : List ℕ) (room : ℕ) → StepCut room (cond ((c == 0x30) && not (begins_with_digit (cs ++ ds))) (Add 0 2) Break) (cond ((c == 0x30) && not (begins_with_digit cs)) (Add 0 2) Break)
+nul_cut : (c : ℕ) (cs ds : List ℕ) (room : ℕ) → StepSame room (cond ((c == 0x30) && not (begins_with_digit (cs ++ ds))) (Add 0 2) Break) (cond ((c == 0x30) && not (begins_with_digit cs)) (Add 0 2) Break)
 nul_cut c [] ds room = by (c == 0x30) (begins_with_digit ds)
   where
-    by : (x y : Bool) → StepCut room (cond (x && not y) (Add 0 2) Break) (cond (x && true) (Add 0 2) Break)
+    by : (x y : Bool) → StepSame room (cond (x && not y) (Add 0 2) Break) (cond (x && true) (Add 0 2) Break)
     by false y = tt
     by true false = λ le. refl
     by true true = tt
-nul_cut c (d ∷ cs) ds room = step_same room (cond ((c == 0x30) && not (is_digit d 10)) (Add 0 2) Break)
+nul_cut c (d ∷ cs) ds room = step_self room (cond ((c == 0x30) && not (is_digit d 10)) (Add 0 2) Break)
 
-escape_cut : (cs ds : List ℕ) → StepCut (suc (length cs)) (escape_step (cs ++ ds)) (escape_step cs)
+escape_cut : (cs ds : List ℕ) → StepSame (suc (length cs)) (escape_step (cs ++ ds)) (escape_step cs)
 escape_cut [] ds = step_short 2 (suc (length ds)) 1 (escape_step ds) Break (omega arith) (escape_within ds)
 escape_cut (c ∷ cs) ds =
-    cut_either (suc (suc (length cs))) (is_line_end c) (Skip (1 + line_end_length (c ∷ (cs ++ ds)))) _ (Skip (1 + line_end_length (c ∷ cs))) _
+    same_either (suc (suc (length cs))) (is_line_end c) (Skip (1 + line_end_length (c ∷ (cs ++ ds)))) _ (Skip (1 + line_end_length (c ∷ cs))) _
     (λ le. ap (λ n. Skip (1 + n)) (line_end_cut c cs ds (omega (arith, le))))
-    (cut_either (suc (suc (length cs))) (is_digit c 10) _ _ _ _ (nul_cut c cs ds (suc (suc (length cs))))
-    (cut_either (suc (suc (length cs))) (c == 0x78) (value_step (hex_byte (cs ++ ds)) 4) _ (value_step (hex_byte cs) 4) _
-    (value_cut (suc (suc (length cs))) (hex_byte (cs ++ ds)) (hex_byte cs) 4 (λ le. hex_byte_cut cs ds (omega (arith, le))))
-    (cut_either (suc (suc (length cs))) (c == 0x75) (unicode_step (cs ++ ds)) (Add (single_escape c) 2) (unicode_step cs) (Add (single_escape c) 2)
-    (subst (λ n. StepCut n (unicode_step (cs ++ ds)) (unicode_step cs)) (two_more (length cs)) (unicode_cut cs ds)) (λ le. refl))))
+    (same_either (suc (suc (length cs))) (is_digit c 10) _ _ _ _ (nul_cut c cs ds (suc (suc (length cs))))
+    (same_either (suc (suc (length cs))) (c == 0x78) (value_step (hex_byte (cs ++ ds)) 4) _ (value_step (hex_byte cs) 4) _
+    (value_same (suc (suc (length cs))) (hex_byte (cs ++ ds)) (hex_byte cs) 4 (λ le. hex_byte_cut cs ds (omega (arith, le))))
+    (same_either (suc (suc (length cs))) (c == 0x75) (unicode_step (cs ++ ds)) (Add (single_escape c) 2) (unicode_step cs) (Add (single_escape c) 2)
+    (subst (λ n. StepSame n (unicode_step (cs ++ ds)) (unicode_step cs)) (two_more (length cs)) (unicode_cut cs ds)) (λ le. refl))))
   where
     two_more : (n : ℕ) → 2 + n ≡ suc (suc n)
     two_more n = omega arith
 
-string_step_cut : (quote : ℕ) (cs ds : List ℕ) → StepCut (length cs) (string_step quote (cs ++ ds)) (string_step quote cs)
+string_step_cut : (quote : ℕ) (cs ds : List ℕ) → StepSame (length cs) (string_step quote (cs ++ ds)) (string_step quote cs)
 string_step_cut quote [] ds = step_short 1 (length ds) 0 (string_step quote ds) Break (omega arith) (string_within quote ds)
 string_step_cut quote (c ∷ cs) ds =
-    cut_either (suc (length cs)) (c == quote) (Close 1) _ (Close 1) _ (λ le. refl)
-    (cut_either (suc (length cs)) (c == 0x5C) (escape_step (cs ++ ds)) _ (escape_step cs) _ (escape_cut cs ds)
-    (step_same (suc (length cs)) (cond ((c == 0xA) || (c == 0xD)) Break (Add c 1))))
+    same_either (suc (length cs)) (c == quote) (Close 1) _ (Close 1) _ (λ le. refl)
+    (same_either (suc (length cs)) (c == 0x5C) (escape_step (cs ++ ds)) _ (escape_step cs) _ (escape_cut cs ds)
+    (step_self (suc (length cs)) (cond ((c == 0xA) || (c == 0xD)) Break (Add c 1))))
 
-template_step_cut : (cs ds : List ℕ) → StepCut (length cs) (template_step (cs ++ ds)) (template_step cs)
+template_step_cut : (cs ds : List ℕ) → StepSame (length cs) (template_step (cs ++ ds)) (template_step cs)
 template_step_cut [] ds = step_short 1 (length ds) 0 (template_step ds) Break (omega arith) (template_within ds)
 template_step_cut (c ∷ cs) ds =
-    cut_either (suc (length cs)) (c == 0x60) (Close 1) _ (Close 1) _ (λ le. refl)
+    same_either (suc (length cs)) (c == 0x60) (Close 1) _ (Close 1) _ (λ le. refl)
     (dollar cs (c == 0x24) _ _
-    (cut_either (suc (length cs)) (c == 0x5C) (escape_step (cs ++ ds)) _ (escape_step cs) _ (escape_cut cs ds)
-    (cut_either (suc (length cs)) (c == 0xD) (Add 0xA (line_end_length (c ∷ (cs ++ ds)))) (Add c 1) (Add 0xA (line_end_length (c ∷ cs))) (Add c 1) (λ le. ap (Add 0xA) (line_end_cut c cs ds le)) (λ le. refl))))
+    (same_either (suc (length cs)) (c == 0x5C) (escape_step (cs ++ ds)) _ (escape_step cs) _ (escape_cut cs ds)
+    (same_either (suc (length cs)) (c == 0xD) (Add 0xA (line_end_length (c ∷ (cs ++ ds)))) (Add c 1) (Add 0xA (line_end_length (c ∷ cs))) (Add c 1) (λ le. ap (Add 0xA) (line_end_cut c cs ds le)) (λ le. refl))))
   where
-    dollar : (xs : List ℕ) (x : Bool) (s s_cut : Step) → StepCut (suc (length xs)) s s_cut → StepCut (suc (length xs)) (cond (x && begins (0x7B ∷ []) (xs ++ ds)) (Close 2) s) (cond (x && begins (0x7B ∷ []) xs) (Close 2) s_cut)
+    dollar : (xs : List ℕ) (x : Bool) (s s_cut : Step) → StepSame (suc (length xs)) s s_cut → StepSame (suc (length xs)) (cond (x && begins (0x7B ∷ []) (xs ++ ds)) (Close 2) s) (cond (x && begins (0x7B ∷ []) xs) (Close 2) s_cut)
     dollar [] x s s_cut h = by x (begins (0x7B ∷ []) ds)
       where
-        by : (y z : Bool) → StepCut 1 (cond (y && z) (Close 2) s) (cond (y && false) (Close 2) s_cut)
+        by : (y z : Bool) → StepSame 1 (cond (y && z) (Close 2) s) (cond (y && false) (Close 2) s_cut)
         by false z = h
         by true false = h
         by true true = λ le. absurd (omega (arith, le))
-    dollar (d ∷ xs) x s s_cut h = cut_either (suc (suc (length xs))) (x && ((d == 0x7B) && true)) (Close 2) s (Close 2) s_cut (λ le. refl) h
+    dollar (d ∷ xs) x s s_cut h = same_either (suc (suc (length xs))) (x && ((d == 0x7B) && true)) (Close 2) s (Close 2) s_cut (λ le. refl) h
 
-step_cut : (ending : Ending) (cs ds : List ℕ) → StepCut (length cs) (step_at ending (cs ++ ds)) (step_at ending cs)
+step_cut : (ending : Ending) (cs ds : List ℕ) → StepSame (length cs) (step_at ending (cs ++ ds)) (step_at ending cs)
 step_cut (Quote quote) cs ds = string_step_cut quote cs ds
 step_cut Template cs ds = template_step_cut cs ds
 
@@ -284,37 +132,21 @@ within_body ending zero codes = tt
 within_body ending (suc fuel) codes = then_within (length codes) (step_at ending codes) (λ n. body_within ending fuel (drop n codes)) (step_within ending codes)
     (λ n. subst (λ high. BodyWithin high (body_within ending fuel (drop n codes))) (length-drop n codes) (within_body ending fuel (drop n codes)))
 
-abbrev BodyCut : ℕ → Option Body → Option Body → Type 0
-BodyCut room None cut = Unit {0}
-BodyCut room (Some b) cut = b.inner + b.closing ≤ room → cut ≡ Some b
-
-behind_cut : (units : List ℕ) (n room : ℕ) (o cut : Option Body) (all : Option Body) → (n ≤ room → all ≡ option_map (behind units n) cut) → (n ≤ room → BodyCut (room - n) o cut) → BodyCut room (option_map (behind units n) o) all
-behind_cut units n room None cut all e k = tt
-behind_cut units n room (Some b) cut all e k = λ le. let within : n ≤ room = omega (arith, le) in
-    e within ∙ ap (option_map (behind units n)) (k within (omega (arith, le)))
-
-then_cut : (room : ℕ) (s s_cut : Step) (rest rest_cut : ℕ → Option Body) (high : ℕ) → StepWithin 1 high s → StepCut room s s_cut → ((n : ℕ) → 1 ≤ n → n ≤ room → BodyCut (room - n) (rest n) (rest_cut n))
-    → BodyCut room (then_body s rest) (then_body s_cut rest_cut)
-then_cut room (Add code n) s_cut rest rest_cut high h e k = behind_cut (code_units code) n room (rest n) (rest_cut n) (then_body s_cut rest_cut) (λ le. ap (λ (s : Step). then_body s rest_cut) (e le)) (λ le. k n h.0 le)
-then_cut room (Skip n) s_cut rest rest_cut high h e k = behind_cut [] n room (rest n) (rest_cut n) (then_body s_cut rest_cut) (λ le. ap (λ (s : Step). then_body s rest_cut) (e le)) (λ le. k n h.0 le)
-then_cut room (Close n) s_cut rest rest_cut high h e k = λ le. ap (λ (s : Step). then_body s rest_cut) (e (omega (arith, le)))
-then_cut room Break s_cut rest rest_cut high h e k = tt
-
-cut_body : (ending : Ending) (fuel fuel_cut : ℕ) (cs ds : List ℕ) → length cs < fuel_cut → BodyCut (length cs) (body_within ending fuel (cs ++ ds)) (body_within ending fuel_cut cs)
+cut_body : (ending : Ending) (fuel fuel_cut : ℕ) (cs ds : List ℕ) → length cs < fuel_cut → BodySame (length cs) (body_within ending fuel (cs ++ ds)) (body_within ending fuel_cut cs)
 cut_body ending zero fuel_cut cs ds lt = tt
 cut_body ending (suc fuel) zero cs ds lt = absurd (omega (arith, lt))
 cut_body ending (suc fuel) (suc fuel_cut) cs ds lt =
-    then_cut (length cs) (step_at ending (cs ++ ds)) (step_at ending cs) (λ n. body_within ending fuel (drop n (cs ++ ds))) (λ n. body_within ending fuel_cut (drop n cs)) (length (cs ++ ds))
+    then_same (length cs) (step_at ending (cs ++ ds)) (step_at ending cs) (λ n. body_within ending fuel (drop n (cs ++ ds))) (λ n. body_within ending fuel_cut (drop n cs)) (length (cs ++ ds))
     (step_within ending (cs ++ ds)) (step_cut ending cs ds) (λ n some le.
     let size : length (drop n cs) ≡ length cs - n = length-drop n cs in
-    subst (λ (rest : List ℕ). BodyCut (length cs - n) (body_within ending fuel rest) (body_within ending fuel_cut (drop n cs))) (sym (drop-append-le n cs ds le))
-    (subst (λ room. BodyCut room (body_within ending fuel (drop n cs ++ ds)) (body_within ending fuel_cut (drop n cs))) size (cut_body ending fuel fuel_cut (drop n cs) ds (omega (arith, size, lt, some, le)))))
+    subst (λ (rest : List ℕ). BodySame (length cs - n) (body_within ending fuel rest) (body_within ending fuel_cut (drop n cs))) (sym (drop-append-le n cs ds le))
+    (subst (λ room. BodySame room (body_within ending fuel (drop n cs ++ ds)) (body_within ending fuel_cut (drop n cs))) size (cut_body ending fuel fuel_cut (drop n cs) ds (omega (arith, size, lt, some, le)))))
 
 body_of_within : (ending : Ending) (codes : List ℕ) → BodyWithin (length codes) (body_of ending codes)
 unfolding body_of
 body_of_within ending codes = within_body ending (suc (length codes)) codes
 
-body_of_cut : (ending : Ending) (cs ds : List ℕ) → BodyCut (length cs) (body_of ending (cs ++ ds)) (body_of ending cs)
+body_of_cut : (ending : Ending) (cs ds : List ℕ) → BodySame (length cs) (body_of ending (cs ++ ds)) (body_of ending cs)
 unfolding body_of
 body_of_cut ending cs ds = cut_body ending (suc (length (cs ++ ds))) (suc (length cs)) cs ds (omega arith)
 
@@ -334,14 +166,14 @@ template_fits whole head high (Some b) h = (omega arith, omega (arith, h))
 pub template_piece_within : (whole head : Kind) (ending : Ending) (codes : List ℕ) → PieceWithin (suc (length codes)) (template_piece whole head (body_of ending codes))
 template_piece_within whole head ending codes = template_fits whole head (length codes) (body_of ending codes) (body_of_within ending codes)
 
-string_keeps : (May : ℕ → Type 0) (room : ℕ) (o cut : Option Body) → ((n : ℕ) → May n → n ≤ suc room) → BodyCut room o cut → PieceCut May (string_piece o) (string_piece cut)
+string_keeps : (May : ℕ → Type 0) (room : ℕ) (o cut : Option Body) → ((n : ℕ) → May n → n ≤ suc room) → BodySame room o cut → PieceCut May (string_piece o) (string_piece cut)
 string_keeps May room None cut within h = tt
 string_keeps May room (Some b) cut within h = λ may. let le : 1 + b.inner + b.closing ≤ suc room = within (1 + b.inner + b.closing) may in ap string_piece (h (omega (arith, le)))
 
 pub string_cut : (May : ℕ → Type 0) (ending : Ending) (cs ds : List ℕ) → ((n : ℕ) → May n → n ≤ suc (length cs)) → PieceCut May (string_piece (body_of ending (cs ++ ds))) (string_piece (body_of ending cs))
 string_cut May ending cs ds within = string_keeps May (length cs) (body_of ending (cs ++ ds)) (body_of ending cs) within (body_of_cut ending cs ds)
 
-template_keeps : (May : ℕ → Type 0) (whole head : Kind) (room : ℕ) (o cut : Option Body) → ((n : ℕ) → May n → n ≤ suc room) → BodyCut room o cut → PieceCut May (template_piece whole head o) (template_piece whole head cut)
+template_keeps : (May : ℕ → Type 0) (whole head : Kind) (room : ℕ) (o cut : Option Body) → ((n : ℕ) → May n → n ≤ suc room) → BodySame room o cut → PieceCut May (template_piece whole head o) (template_piece whole head cut)
 template_keeps May whole head room None cut within h = tt
 template_keeps May whole head room (Some b) cut within h = λ may. let le : 1 + b.inner + b.closing ≤ suc room = within (1 + b.inner + b.closing) may in ap (template_piece whole head) (h (omega (arith, le)))
 

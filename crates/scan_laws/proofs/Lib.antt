@@ -8,6 +8,7 @@ pub mod CutTokens
 pub mod OpenBraces
 pub mod Places
 pub mod ReadAlone
+pub mod Steps
 pub mod Walk
 -- How long the texts of tokens are: Tokens and Files have the laws, and Gained what follows for lists of texts.
 pub mod Bodies

@@ -1,6 +1,7 @@
 //! The log of what is told.
 
-ghost use Rattle.std.specs.Prelude.{◌≡◌, ◌<◌, ◌≤◌, ◌+◌, ◌^◌, ◌-◌, ◌⊎◌, ◌++◌, ◌∷◌, length, map, IsSome, IfSome, IfOk, OnOk, OnErr, Some, None, [], nat_eq};
+ghost use Rattle.std.specs.Prelude.{◌≡◌, ◌<◌, ◌≤◌, ◌+◌, ◌^◌, ◌-◌, ◌⊎◌, ◌++◌, ◌∷◌, length, map, nat_eq};
+ghost use Rattle.std.specs.Prelude.{IsSome, IfSome, IfOk, OnOk, OnErr, Some, None, []};
 ghost use Rattle.parse_track.specs.Told.{Declared, Used, Jumped};
 ghost use Rattle.parse_track.specs.Log.{name_of, label_of, region_of, with_leaf, entered, left, noting, around_at, known_names, told_of};
 ghost use Rattle.parse_track.specs.EarlyErrors.{first_error};

@@ -4,6 +4,8 @@ use Rattle.std.specs.Prelude.{map, IfSome}
 use Rattle.script_grammar.specs.declared.tree.Ident.{Ident}
 use Rattle.parse_track.specs.declared.track.Item.{Item as Told}
 use Rattle.parse_track.specs.declared.track.Item.TheVariants as code
+use Rattle.parse_track.specs.declared.track.Items.{Items}
+use Rattle.parse_track.specs.declared.track.Items.TheVariants as kept
 use Rattle.parse_track.specs.declared.track.RegionRow.{RegionRow}
 use Rattle.parse_track.specs.Told as told
 use Rattle.parse_track.specs.Log.{Item, Leaf, Inner, Part, name_of, label_of, items_of, kind_of, tell, told_items, told_region, told_of, outermost_if}
@@ -14,8 +16,14 @@ item_of (code.Used atom) = Leaf (told.Used atom)
 item_of (code.Jumped word at label) = Leaf (told.Jumped word at (label_of label))
 item_of (code.Inner n) = Inner n
 
+-- what stands in a region, as a list
+abbrev pub listed : Items → List Told
+listed kept.Nothing = []
+listed (kept.One item) = item ∷ []
+listed (kept.Many items) = items.value.items
+
 abbrev pub row_of : RegionRow → Part
-row_of row = record { kind = row.kind; at = row.at; around = row.around; items = map item_of row.items.items }
+row_of row = record { kind = row.kind; at = row.at; around = row.around; items = map item_of (listed row.items) }
 
 -- A region inside has a higher number than the region around it, and is a region.
 abbrev pub IsInside : ℕ → ℕ → Item → Type 0

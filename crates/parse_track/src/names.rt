@@ -83,7 +83,7 @@ pub fn items_at(rows: &[RegionRow], room: usize, region: u32) -> &[Item]
     ensures room { 0 < length result.now → 0 < room }
 {
     match rows.get(region as usize) {
-        Some(row) => { if room == 0 { &[] } else { &row.items } }
+        Some(row) => { if room == 0 { &[] } else { row.items.listed() } }
         None => &[],
     }
 }

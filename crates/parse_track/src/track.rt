@@ -1,6 +1,7 @@
 //! The log of what is told.
 
-ghost use Rattle.std.specs.Prelude.{◌≡◌, ◌<◌, ◌≤◌, ◌+◌, ◌^◌, ◌-◌, ◌⊎◌, length, map, IsSome, IfSome, IfOk, OnOk, OnErr, Some, None, [], nat_eq};
+ghost use Rattle.std.specs.Prelude.{◌≡◌, ◌<◌, ◌≤◌, ◌+◌, ◌^◌, ◌-◌, ◌⊎◌, ◌++◌, ◌∷◌, length, map, nat_eq};
+ghost use Rattle.std.specs.Prelude.{IsSome, IfSome, IfOk, OnOk, OnErr, Some, None, []};
 ghost use Rattle.parse_track.specs.Told.{Declared, Used, Jumped};
 ghost use Rattle.parse_track.specs.Log.{name_of, label_of, region_of, with_leaf, entered, left, noting, around_at, known_names, told_of};
 ghost use Rattle.parse_track.specs.EarlyErrors.{first_error};
@@ -8,7 +9,7 @@ ghost use Rattle.parse_track.specs.ClosedNames.{closed};
 ghost use Rattle.parse_track.specs.RegionNames.{is_function};
 ghost use Rattle.parse_track.specs.Counted.{counted};
 ghost use Rattle.parse_track.specs.Scopes.{bounds_of};
-ghost use Rattle.parse_track.specs.Rows.{row_of, IsTold, MayBeTold};
+ghost use Rattle.parse_track.specs.Rows.{listed, row_of, IsTold, MayBeTold};
 
 use crate::closed_names::closed_names;
 use crate::errors::{first_error, sooner_early};
@@ -26,13 +27,65 @@ pub enum Item {
     Inner(u32),
 }
 
+/// What stands in a region, one item after another. In most regions stands nothing or one item, and these take no list.
+#[derive(Drop)]
+pub enum Items {
+    Nothing,
+    One(Item),
+    Many(Box<Vec<Item>>),
+}
+
+impl Items {
+    /// The items as a list.
+    pub fn listed(&self) -> &[Item]
+        ensures { result.now ≡ listed self.now }
+    {
+        match self {
+            Items::Nothing => &[],
+            Items::One(item) => std::slice::from_ref(item),
+            Items::Many(items) => items,
+        }
+    }
+
+    /// An item more. Where memory runs out all is as it was.
+    fn push(&mut self, alloc: Global, item: Item) -> Result<(), AllocError>
+        ensures told { OnOk result (listed self.new ≡ listed self.old ++ item ∷ []) }
+        ensures same { OnErr result (listed self.new ≡ listed self.old) }
+    {
+        match self {
+            Items::Nothing => {
+                *self = Items::One(item);
+                Ok(())
+            }
+            Items::One(first) => {
+                *self = pair(alloc, *first, item)?;
+                Ok(())
+            }
+            Items::Many(items) => {
+                items.push(item)?;
+                Ok(())
+            }
+        }
+    }
+}
+
+/// Two items.
+fn pair(alloc: Global, first: Item, second: Item) -> Result<Items, AllocError>
+    ensures { IfOk result (λ items. listed items ≡ first ∷ second ∷ []) }
+{
+    let mut items = Vec::with_capacity(alloc, 2)?;
+    items.push(first)?;
+    items.push(second)?;
+    Ok(Items::Many(Box::new(alloc, items)?))
+}
+
 /// A region by its number: what it is, where it begins, the region around it, and what stands in it.
 #[derive(Drop)]
 pub struct RegionRow {
     pub kind: Region,
     pub at: u32,
     pub around: Option<u32>,
-    pub items: Vec<Item>,
+    pub items: Items,
 }
 
 /// The log of what is told of a script.
@@ -61,14 +114,19 @@ impl Model for Track {
 }
 
 /// The item joins what stands in the present region.
-fn add_item(rows: &mut Vec<RegionRow>, present: Option<u32>, item: Item) -> Result<(), AllocError>
+fn add_item(
+    alloc: Global,
+    rows: &mut Vec<RegionRow>,
+    present: Option<u32>,
+    item: Item,
+) -> Result<(), AllocError>
     requires { IfSome present (λ n. n < length rows.old.items) }
     ensures told { OnOk result (IsTold present item rows.old.items rows.new.items) }
     ensures either { MayBeTold present item rows.old.items rows.new.items }
 {
     if let Some(n) = present {
         let row = &mut rows[n as usize];
-        row.items.push(item)?;
+        row.items.push(alloc, item)?;
     }
     Ok(())
 }
@@ -106,9 +164,9 @@ impl Track {
             kind: region,
             at,
             around,
-            items: Vec::new(self.alloc),
+            items: Items::Nothing,
         })?;
-        add_item(&mut self.rows, around, Item::Inner(number))?;
+        add_item(self.alloc, &mut self.rows, around, Item::Inner(number))?;
         self.present = Some(number);
         Ok(number)
     }
@@ -142,7 +200,12 @@ impl Track {
         requires { IsSome self.old.present }
         ensures { OnOk result (self.new ≡ with_leaf self.old (Declared how (name_of name))) }
     {
-        add_item(&mut self.rows, self.present, Item::Declared(how, name))
+        add_item(
+            self.alloc,
+            &mut self.rows,
+            self.present,
+            Item::Declared(how, name),
+        )
     }
 
     /// A name is used in the present region.
@@ -150,7 +213,7 @@ impl Track {
         requires { IsSome self.old.present }
         ensures { OnOk result (self.new ≡ with_leaf self.old (Used atom)) }
     {
-        add_item(&mut self.rows, self.present, Item::Used(atom))
+        add_item(self.alloc, &mut self.rows, self.present, Item::Used(atom))
     }
 
     /// A jump stands in the present region; `at` is the offset of its word, in bytes.
@@ -158,7 +221,12 @@ impl Track {
         requires { IsSome self.old.present }
         ensures { OnOk result (self.new ≡ with_leaf self.old (Jumped word at (label_of label))) }
     {
-        add_item(&mut self.rows, self.present, Item::Jumped(word, at, label))
+        add_item(
+            self.alloc,
+            &mut self.rows,
+            self.present,
+            Item::Jumped(word, at, label),
+        )
     }
 
     /// An early error of a rule that looks at no region, at an offset in bytes.

@@ -4,25 +4,23 @@
 //! not texts; the merger of stencils interns the texts of all its parts. [`Atoms::intern`] answers the place of a
 //! text, which it appends where it was not there.
 //!
-//! The place that was noted last for the text's digest, a number of 64 bits, is a guess, and mostly right. Where it
-//! is not, the text is looked up in a tree ordered by digests, and where another text has the same digest, in a tree
-//! ordered by the texts themselves. Both trees are balanced, so interning n texts takes at most n log n comparisons of
-//! numbers and of texts, whatever the texts are: no text can be chosen that makes it slower, though the digest is
-//! public. A text is stored once, unless its digest is another one's too.
+//! A text's digest, a number of 64 bits, leads to two cells, and the text has the first one that was free when it was put in. A text
+//! both of whose cells others have is in a balanced tree that is ordered by the texts themselves. So interning n texts takes at
+//! most n log n comparisons of texts, whatever the texts are: no text can be chosen that makes it slower, though the digest is
+//! public. A text is stored once, unless it is in the tree too.
 #![tactic(auto)]
 
-mod guesses;
-mod trees;
+mod cells;
+mod index;
 
 ghost use Rattle.std.specs.Prelude.{◌≡◌, ◌+◌, ◌-◌, ◌^◌, ◌<◌, ◌==◌, [], ◌∷◌, ◌++◌, IfOk, OnOk, IfSome, IfNone, OnErr, length, slice_get, Some};
 ghost use Rattle.parser_atoms.specs.Digest.{digest_of, digest_step};
 ghost use Rattle.parser_atoms.specs.Places.{AreWithoutEquals, Interns, StandsIn};
 
-use guesses::Guesses;
+use index::Index;
 use std::alloc::{AllocError, Global};
 use std::marker::Model;
 use stencil_data::Text;
-use trees::Trees;
 
 /// Texts without equals, each named by its place in their list: its atom.
 ///
@@ -30,19 +28,18 @@ use trees::Trees;
 #[derive(Drop)]
 pub struct Atoms {
     texts: Vec<Text>,
-    trees: Trees,
-    guesses: Guesses,
+    index: Index,
 }
 
 impl Model for Atoms {
     ghost use Rattle.std.specs.Prelude.{ℕ, List};
-    ghost use Rattle.parser_atoms.specs.Indexed.{IsIndexed};
+    ghost use Rattle.parser_atoms.specs.Indexed.{IsWhole};
 
     ghost Value = { List (List ℕ) };
 
     ghost view = { λ atoms. atoms.texts.items };
 
-    ghost invariant = { λ atoms. IsIndexed atoms.texts.items atoms.trees.firsts atoms.trees.others };
+    ghost invariant = { λ atoms. IsWhole atoms.texts.items atoms.index.cells.entries.items atoms.index.others };
 }
 
 /// The digest of no units: Fowler, Noll and Vo's offset basis for 64 bits.
@@ -80,8 +77,7 @@ impl Atoms {
     {
         Atoms {
             texts: Vec::new(alloc),
-            trees: Trees::new(alloc),
-            guesses: Guesses::new(alloc),
+            index: Index::new(alloc),
         }
     }
 
@@ -93,40 +89,21 @@ impl Atoms {
         ensures apart { AreWithoutEquals self.new }
     {
         let digest = digest(units);
-        if let Some(place) = self.guessed(units, digest) {
-            return Ok(place);
+        match self.place(units, digest) {
+            Some(place) => Ok(place),
+            None => self.append(alloc, units, digest),
         }
-        let place = match self.place(units, digest) {
-            Some(place) => place,
-            None => self.append(alloc, units, digest)?,
-        };
-        self.guesses.note(digest, place);
-        Ok(place)
     }
 
     /// A guess at the atom of the text with this digest: the atom of some text, for who asks to compare.
     ///
-    /// It is mostly right where the text is there and has been interned before. It takes a few steps and no memory.
+    /// It is mostly right where the text is there. It takes a few steps and no memory.
     #[inline]
     pub fn guess(&self, digest: u64) -> Option<u32>
         ensures { IfSome result (λ atom. atom < length self.now) }
     {
-        let place = self.guesses.guess(digest)?;
+        let place = self.index.guess(digest)?;
         if (place as usize) < self.len() {
-            Some(place)
-        } else {
-            None
-        }
-    }
-
-    // The place of a text, where it is the one that is guessed.
-    fn guessed(&self, units: &[u16], digest: u64) -> Option<u32>
-        ensures found { IfSome result (λ place. slice_get self.now place ≡ Some units.now) }
-        ensures apart { AreWithoutEquals self.now }
-    {
-        let place = self.guesses.guess(digest)?;
-        let text = self.texts.get(place as usize)?;
-        if text.units() == units {
             Some(place)
         } else {
             None
@@ -140,7 +117,7 @@ impl Atoms {
         ensures absent { IfNone result (¬ (StandsIn self.now units.now)) }
         ensures apart { AreWithoutEquals self.now }
     {
-        self.trees.place(&self.texts, units, digest)
+        self.index.place(&self.texts, units, digest)
     }
 
     // Appends a text that is not there.
@@ -152,11 +129,11 @@ impl Atoms {
         ensures ok { OnOk result (self.new ≡ self.old ++ units.now ∷ []) }
         ensures err { OnErr result (self.new ≡ self.old) }
     {
-        self.guesses.make_room(self.texts.len())?;
+        self.index.make_room(alloc, &self.texts)?;
         let atom = self.texts.len() as u32;
         let text = Text::of(alloc, units)?;
         self.texts.push(text)?;
-        match self.trees.put(alloc, units, digest, atom) {
+        match self.index.put(alloc, units, digest, atom) {
             Ok(()) => Ok(atom),
             Err(error) => {
                 self.texts.truncate(atom as usize);
@@ -193,11 +170,7 @@ impl Atoms {
         ensures list { result.items ≡ self }
         ensures apart { AreWithoutEquals self }
     {
-        let Atoms {
-            texts,
-            trees: _,
-            guesses: _,
-        } = self;
+        let Atoms { texts, index: _ } = self;
         texts
     }
 }

@@ -1,8 +1,8 @@
 use Rattle.std.proofs.Common.{◌≡◌, ◌∙◌, ◌++◌, ◌∷◌, [], ◌<◌, ◌-◌, ◌^◌, length, List, ℕ, subst, sym, ap, arith, take}
 use Rattle.std.proofs.Math.Seq.{take-append_seam}
 use Rattle.parser_atoms.specs.Places.{StandsIn}
-use Rattle.parser_atoms.specs.Indexed.{IsIndexed}
-use Rattle.parser_atoms.proofs.Interning.{indexed_same}
+use Rattle.parser_atoms.specs.Indexed.{IsWhole}
+use Rattle.parser_atoms.proofs.Interning.{indexed_same, whole_more}
 use Rattle.parser_atoms.proofs.Atoms.append.Goals as goal
 
 pub invariant_of-self-in-Ok : goal.invariant_of-self-in-Ok
@@ -12,8 +12,9 @@ invariant_of-self-in-Ok c =
     let few : length c.self.inside.texts.items < 2 ^ 32 - 1 = subst (λ (ts : List (List ℕ)). length ts < 2 ^ 32 - 1) (sym same) c.requires.few in
     let pushed : c.push.new.self.items ≡ c.self.inside.texts.items ++ c.in_ok-text.text ∷ [] = c.in_ok-push.ensures.items in
     let at : c.len-atom.result ≡ length c.self.inside.texts.items = omega (arith, c.self.inside.texts.ok.0, c.len-atom.ensures) in
-    subst (λ (ts : List (List ℕ)). IsIndexed ts c.put.new.self.firsts c.put.new.self.others) (sym (pushed ∙ ap (λ (t : List ℕ). c.self.inside.texts.items ++ t ∷ []) c.in_ok-text.ensures))
-    (c.in-Ok.ensures.ok c.self.inside.texts.items c.self.invariant absent at few)
+    subst (λ (ts : List (List ℕ)). IsWhole ts c.put.new.self.cells.entries.items c.put.new.self.others) (sym (pushed ∙ ap (λ (t : List ℕ). c.self.inside.texts.items ++ t ∷ []) c.in_ok-text.ensures))
+    (whole_more c.self.inside.texts.items c.args.units.now c.len-atom.result c.make_room.new.self.cells.entries.items c.put.new.self.cells.entries.items c.make_room.new.self.others c.put.new.self.others
+    c.make_room.ensures.whole absent at few c.in-Ok.ensures.ok)
 
 pub invariant_of-self-in-Err : goal.invariant_of-self-in-Err
 invariant_of-self-in-Err c =
@@ -22,5 +23,5 @@ invariant_of-self-in-Err c =
     let back : c.truncate.new.self.items ≡ c.self.inside.texts.items =
     c.truncate.ensures.items ∙ ap (λ (n : ℕ). take n c.push.new.self.items) at ∙ ap (λ (ts : List (List ℕ)). take (length c.self.inside.texts.items) ts) pushed
     ∙ take-append_seam c.self.inside.texts.items (c.in_ok-text.text ∷ []) in
-    indexed_same c.self.inside.texts.items c.truncate.new.self.items c.self.inside.trees.firsts c.put.new.self.firsts c.self.inside.trees.others c.put.new.self.others
-    c.self.invariant c.in-Err.ensures.firsts c.in-Err.ensures.others back
+    indexed_same c.self.inside.texts.items c.truncate.new.self.items c.make_room.new.self.cells.entries.items c.put.new.self.cells.entries.items c.make_room.new.self.others c.put.new.self.others
+    c.make_room.ensures.whole c.in-Err.ensures.cells c.in-Err.ensures.others back

@@ -1,7 +1,14 @@
 //! The files of a command: those that are named, and those of the folders that are named.
 
+ghost use Rattle.std.specs.Prelude.{IfOk, IsPermutation, IsSorted};
+ghost use Rattle.std.specs.String.{string_cmp};
+
+use crate::glob::{excluded_paths, is_excluded};
 use holzikra_words::FileOptions;
+use regex::{Error, Regex};
+use std::alloc::AllocError;
 use std::collections::BTreeSet;
+use std::io::ErrorKind;
 use std::rt::Files;
 use std::{fs, io};
 
@@ -30,6 +37,8 @@ pub struct Walk {
     /// The next one is the last.
     waiting: Vec<Waiting>,
     done: BTreeSet<String>,
+    /// The paths in folders that are passed over.
+    excluded: Option<Regex>,
 }
 
 /// What a path is.
@@ -91,6 +100,14 @@ fn kind_of<R: Files>(rt: &R, name: &str, named: bool, options: &FileOptions) -> 
     Ok(Kind::File)
 }
 
+/// Why globs cannot be held against paths: they are too many, or memory is wanting.
+fn glob_error(error: Error) -> io::Error {
+    match error {
+        Error::OutOfMemory => ErrorKind::OutOfMemory.into(),
+        _ => ErrorKind::InvalidInput.into(),
+    }
+}
+
 /// The path of a name in a folder.
 fn joined<R: AllocGlobal>(rt: &R, folder: &str, name: &str) -> io::Result<String> {
     let mut path = String::from_str(rt.alloc(), folder)?;
@@ -101,7 +118,17 @@ fn joined<R: AllocGlobal>(rt: &R, folder: &str, name: &str) -> io::Result<String
     Ok(path)
 }
 
-/// The names in a folder, those first whose bytes are less, and the first fault on the way.
+/// These names, those first whose bytes are less.
+fn sorted_names(names: Vec<String>) -> Result<Vec<String>, AllocError>
+    ensures permutation { IfOk result (λ sorted. IsPermutation names.items sorted.items) }
+    ensures sorted { IfOk result (λ sorted. IsSorted string_cmp sorted.items) }
+{
+    let mut sorted = names;
+    sorted.sort()?;
+    Ok(sorted)
+}
+
+/// The names in a folder, those first whose bytes are less, and the last fault on the way.
 fn names_in<R: Files + AllocGlobal + Clone + Drop>(
     rt: &R,
     folder: &str,
@@ -120,8 +147,7 @@ fn names_in<R: Files + AllocGlobal + Clone + Drop>(
             Err(error) => fault = Some(error),
         }
     }
-    names.sort()?;
-    Ok((names, fault))
+    Ok((sorted_names(names)?, fault))
 }
 
 impl Walk {
@@ -132,9 +158,11 @@ impl Walk {
             let path = path.clone()?;
             waiting.push(Waiting { path, named: true })?;
         }
+        let excluded = excluded_paths(rt.alloc(), &options.excluded).map_err(glob_error)?;
         Ok(Walk {
             waiting,
             done: BTreeSet::new(rt.alloc()),
+            excluded,
         })
     }
 
@@ -148,7 +176,9 @@ impl Walk {
         let (names, fault) = names_in(rt, folder, options)?;
         for name in names.iter().rev() {
             let path = joined(rt, folder, name.as_str())?;
-            self.waiting.push(Waiting { path, named: false })?;
+            if !is_excluded(rt.alloc(), &self.excluded, path.as_str())? {
+                self.waiting.push(Waiting { path, named: false })?;
+            }
         }
         Ok(fault)
     }

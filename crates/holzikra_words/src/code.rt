@@ -32,7 +32,11 @@ static FORMATS: [&str; 3] = ["human", "plain", "json"];
 
 /// The command `code`.
 pub(crate) fn command<'a>(alloc: Global) -> Result<Command<'a>, AllocError> {
-    let command = named(alloc, "code", "list the code, with names and jumps");
+    let command = named(
+        alloc,
+        "code",
+        "list the code, with names, jumps and source lines",
+    );
     let command = with_files(alloc, command)?;
     let command = with_functions(alloc, command)?;
     let formats = FORMATS.as_slice();

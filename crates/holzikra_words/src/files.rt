@@ -13,6 +13,8 @@ pub struct FileOptions {
     pub all: bool,
     /// The ends of the names that are taken of a folder, without the point.
     pub extensions: Vec<String>,
+    /// What is passed over of a folder: names, and with a stroke paths, in which `*` stands for a part of a name and `**` for any part.
+    pub excluded: Vec<String>,
     /// What standard input is called.
     pub stdin_name: String,
 }
@@ -33,7 +35,8 @@ fn with_files_named<'a>(
         "all",
         "enter node_modules and what begins with a point",
     );
-    with(command, all)
+    let command = with(command, all)?;
+    with(command, excluded(alloc))
 }
 
 /// The command with the words that name scripts.
@@ -63,6 +66,14 @@ fn extensions<'a>(alloc: Global, taken: &'a str) -> Arg<'a> {
     extensions.value_delimiter(',').action(ArgAction::Append)
 }
 
+fn excluded<'a>(alloc: Global) -> Arg<'a> {
+    Arg::new(alloc, "exclude")
+        .long("exclude")
+        .value_name("GLOB")
+        .action(ArgAction::Append)
+        .help("what of a folder is passed over; may be given again")
+}
+
 /// Which files the words name.
 pub(crate) fn file_options(
     alloc: Global,
@@ -70,11 +81,13 @@ pub(crate) fn file_options(
 ) -> Result<FileOptions, AllocError> {
     let paths = texts(alloc, found, "PATH")?;
     let extensions = texts(alloc, found, "ext")?;
+    let excluded = texts(alloc, found, "exclude")?;
     let stdin_name = String::from_str(alloc, value(found, "stdin-name", "<stdin>"))?;
     Ok(FileOptions {
         paths,
         all: found.get_flag("all"),
         extensions,
+        excluded,
         stdin_name,
     })
 }

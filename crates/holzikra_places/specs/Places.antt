@@ -1,6 +1,7 @@
 -- Lines and columns of a text of bytes. ECMA-262, 12th edition, clause 12.3: LineTerminatorSequence is LF, CR that no LF follows,
 -- CR LF, U+2028 or U+2029, of which the last two are E2 80 A8 and E2 80 A9 in UTF-8. That columns count 16-bit units is own choice.
-use Rattle.std.specs.Prelude.{◌≡◌, ℕ, ◌+◌, ◌-◌, ◌<◌, ◌≤◌, ◌⊎◌, zero, suc, Bool, true, false, not, ◌==◌, ◌&&◌, ◌||◌, nat_le, List, [], ◌∷◌, ◌++◌, length, slice_index, if◌then◌else◌}
+use Rattle.std.specs.Prelude.{◌≡◌, ℕ, ◌+◌, ◌-◌, ◌*◌, ◌/◌, ◌<◌, ◌≤◌, ◌⊎◌, zero, suc, Bool, true, false, not, ◌==◌, ◌&&◌, ◌||◌, nat_le, List, [], ◌∷◌, ◌++◌, length, slice_index, if◌then◌else◌, Option, Some, None}
+use Rattle.holzikra_places.specs.declared.lines.Place.{Place}
 
 -- the byte at k is the last one of a line terminator sequence
 unfoldable pub ends_line : List ℕ → ℕ → Bool
@@ -35,6 +36,11 @@ IsPlace text offset line column =
     (line ≡ lines_ended text offset + 1)
     × ((start : ℕ) × IsLineStart text offset start × (column ≡ units_from text start (offset - start) + 1))
 
+-- the place of an offset that lies in the text or at its end; of another there is none
+abbrev pub IsPlaceIn : List ℕ → ℕ → Option Place → Type 0
+IsPlaceIn text offset None = length text < offset
+IsPlaceIn text offset (Some place) = (offset ≤ length text) × IsPlace text offset place.line place.column
+
 -- a code point of UTF-8 starts at the offset, or the text ends there
 abbrev pub StartsPoint : List ℕ → ℕ → Type 0
 StartsPoint text offset = offset < length text → 0 < byte_units (slice_index text offset)
@@ -57,3 +63,12 @@ abbrev pub IsIndexOf : List ℕ → ℕ → ℕ → Type 0
 IsIndexOf starts offset index =
     (index < length starts) × (slice_index starts index ≤ offset)
     × (index + 1 < length starts → offset < slice_index starts (index + 1))
+
+-- how many units stand in front of the first byte of each of the first n pieces of 1,024 bytes
+abbrev pub marks_below : List ℕ → ℕ → List ℕ
+marks_below text zero = []
+marks_below text (suc n) = marks_below text n ++ units_from text 0 (n * 1024) ∷ []
+
+-- the marks are those of all whole pieces of the text, and of what is left behind them
+abbrev pub AreMarksOf : List ℕ → List ℕ → Type 0
+AreMarksOf text marks = marks ≡ marks_below text (length text / 1024 + 1)

@@ -2,7 +2,7 @@
 //!
 //! It stands on no crate of this project. Lines end as ECMA-262, clause 12.3, has it; columns count 16-bit units of UTF-16, as
 //! editors do. Its main contract is that of [`Lines::place_of`]: the line and the column of an offset are those of `IsPlace` of
-//! `specs/Places.antt`, and no other code point has the same.
+//! `specs/Places.antt`, and no other code point has the same. [`TextPlaces`] answers the same of a text with long lines, in bounded time.
 #![tactic(auto)]
 
 mod excerpt;
@@ -10,7 +10,9 @@ mod lines;
 mod shown;
 #[cfg(test)]
 mod tests;
+mod text_places;
 
 pub use excerpt::{Excerpt, excerpt_at};
 pub use lines::{Lines, Place};
 pub use shown::{push_shown, push_shown_text};
+pub use text_places::TextPlaces;

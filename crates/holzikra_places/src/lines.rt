@@ -49,7 +49,7 @@ fn byte_units(byte: u8) -> usize
 }
 
 /// How many 16-bit units the bytes from `start` up to `end` bring.
-fn units_between(text: &[u8], start: usize, end: usize) -> usize
+pub(crate) fn units_between(text: &[u8], start: usize, end: usize) -> usize
     requires ordered { start ≤ end }
     requires within { end ≤ length text.now }
     ensures is { result ≡ units_from text.now start (end - start) }
@@ -78,7 +78,7 @@ impl Lines {
     }
 
     /// The number of the line, from 0, that this offset lies in.
-    fn index_of(&self, offset: usize) -> usize
+    pub(crate) fn index_of(&self, offset: usize) -> usize
         requires { StartsAtZero self.now.starts.items }
         ensures { IsIndexOf self.now.starts.items offset result }
     {

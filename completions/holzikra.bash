@@ -23,7 +23,7 @@ _holzikra() {
     scopes:-*) mapfile -t COMPREPLY < <(compgen -W "--format --function --at --only $files" -- "$word") ;;
     stats:-* | load:-* | verify:-*) mapfile -t COMPREPLY < <(compgen -W "--format $files" -- "$word") ;;
     diff:-*) mapfile -t COMPREPLY < <(compgen -W "--format --stdin-name --help" -- "$word") ;;
-    report:-*) mapfile -t COMPREPLY < <(compgen -W "--output $files" -- "$word") ;;
+    report:-*) mapfile -t COMPREPLY < <(compgen -W "--output --function --at --only $files" -- "$word") ;;
     save:-*) mapfile -t COMPREPLY < <(compgen -W "--output --stdin-name --help" -- "$word") ;;
     explain:*) ;;
     *) compopt -o default ;;

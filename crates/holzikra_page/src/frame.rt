@@ -1,12 +1,25 @@
 //! The start and the end of a page.
 
 use crate::parts::{SCRIPT, SCRIPT_HASH, STYLE, STYLE_HASH};
+use script_image::append_decimal;
 use std::alloc::AllocError;
 
 /// Appends several pieces of HTML.
 pub(crate) fn append_all(out: &mut Vec<u8>, pieces: &[&str]) -> Result<(), AllocError> {
     for piece in pieces {
         out.extend_from_slice(piece.as_bytes())?;
+    }
+    Ok(())
+}
+
+/// Appends pieces of HTML, behind each a number.
+pub(crate) fn append_numbers(
+    out: &mut Vec<u8>,
+    pieces: &[(&str, usize)],
+) -> Result<(), AllocError> {
+    for (piece, number) in pieces {
+        out.extend_from_slice(piece.as_bytes())?;
+        append_decimal(out, *number as u64)?;
     }
     Ok(())
 }

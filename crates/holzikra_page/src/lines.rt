@@ -1,9 +1,8 @@
 //! The lines of a source text, and of a listing.
 
 use crate::escape::append_text;
-use crate::frame::append_all;
+use crate::frame::{append_all, append_numbers};
 use holzikra_places::{Lines, push_shown_text};
-use script_image::append_decimal;
 use std::alloc::{AllocError, Global};
 
 /// Appends a line of the source with its number.
@@ -14,15 +13,18 @@ fn append_line(
     number: usize,
     line: &[u8],
 ) -> Result<(), AllocError> {
-    append_all(out, &["<tr id=\"f"])?;
-    append_decimal(out, file as u64)?;
-    append_all(out, &["l"])?;
-    append_decimal(out, number as u64)?;
-    append_all(out, &["\"><td class=\"n\">"])?;
-    append_decimal(out, number as u64)?;
+    append_numbers(
+        out,
+        &[
+            ("<tr id=\"f", file),
+            ("l", number),
+            ("\"><td class=\"n\">", number),
+        ],
+    )?;
     append_all(out, &["</td><td>"])?;
+    let text = String::from_utf8_lossy(alloc, without_end(line))?;
     let mut shown = String::new(alloc);
-    push_shown_text(&mut shown, str::from_utf8(without_end(line)).unwrap_or(""))?;
+    push_shown_text(&mut shown, text.as_str())?;
     append_text(out, shown.as_bytes())?;
     append_all(out, &["</td></tr>\n"])
 }
@@ -55,30 +57,38 @@ pub(crate) fn append_source(
     append_all(out, &["</table>\n"])
 }
 
+/// The number that a line which starts a script begins with, behind the word `script`.
+fn script_number(line: &[u8]) -> Option<usize> {
+    let words = line.strip_prefix(b"script ")?;
+    let mut number = 0usize;
+    for byte in words {
+        if !byte.is_ascii_digit() {
+            break;
+        }
+        let digit = usize::from(byte.saturating_sub(b'0'));
+        number = number.saturating_mul(10).saturating_add(digit);
+    }
+    Some(number)
+}
+
 /// Appends a listing, the lines of each script in a part of their own.
 pub(crate) fn append_listing(
     out: &mut Vec<u8>,
     file: usize,
     listing: &[u8],
 ) -> Result<(), AllocError> {
-    let mut number = 0u64;
     let mut open = false;
-    for line in listing.split(|byte| *byte == b'\n') {
-        if line.starts_with(b"script ") {
+    for line in listing.split_inclusive(|byte| *byte == b'\n') {
+        if let Some(number) = script_number(line) {
             if open {
                 append_all(out, &["</pre>\n"])?;
             }
-            append_all(out, &["<pre id=\"f"])?;
-            append_decimal(out, file as u64)?;
-            append_all(out, &["n"])?;
-            append_decimal(out, number)?;
+            append_numbers(out, &[("<pre id=\"f", file), ("n", number)])?;
             append_all(out, &["\">"])?;
-            number = number.saturating_add(1);
             open = true;
         }
         if open {
             append_text(out, line)?;
-            append_all(out, &["\n"])?;
         }
     }
     if open {

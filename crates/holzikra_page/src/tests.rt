@@ -1,5 +1,6 @@
 //! The page of a script of hostile names.
-use crate::{Shown, append_end, append_refused, append_script, append_start};
+use crate::{Refusal, Shown, append_end, append_refused, append_script, append_start};
+use holzikra_finding::Shown as Part;
 use holzikra_names::NoSource;
 use std::alloc::{AllocError, Global};
 use std::test::Fail;
@@ -55,11 +56,19 @@ fn no_tag_of_a_text_is_left(rt: HostRuntime) -> Result<(), Fail> {
         text: b"x = '</script>'\n",
         merged: &merged,
         source: &NoSource,
+        functions: &[],
         listing: b"script 0 top\n  String \"</script>\"\n",
         scopes: b"</pre>",
     };
     append_script(alloc, &mut page, 0, &shown)?;
-    append_refused(&mut page, 1, NAME, b"<b>")?;
+    let refusal = Refusal {
+        name: NAME,
+        text: b"'</script>",
+        words: b"<b>",
+        clauses: "",
+        line: Some(1),
+    };
+    append_refused(alloc, &mut page, 1, refusal)?;
     append_end(&mut page)?;
     assert_eq!(rt; count(&page, b"</script>"), 1);
     assert_eq!(rt; count(&page, b"<img"), 0);
@@ -70,6 +79,37 @@ fn no_tag_of_a_text_is_left(rt: HostRuntime) -> Result<(), Fail> {
         ),
         2
     );
-    assert_eq!(rt; count(&page, b"&lt;/script&gt;"), 2);
+    assert_eq!(rt; count(&page, b"&lt;/script&gt;"), 3);
+    Ok(())
+}
+
+#[test]
+fn what_is_hidden_is_left_out(rt: HostRuntime) -> Result<(), Fail> {
+    let alloc = rt.alloc();
+    let merged = script(alloc)?;
+    let mut page = Vec::new(alloc);
+    let shown = Shown {
+        name: "a.js",
+        text: b"",
+        merged: &merged,
+        source: &NoSource,
+        functions: &[Part::Whole, Part::Hidden],
+        listing: b"file a.js\nscript 70 function 0..0 -\n",
+        scopes: b"",
+    };
+    append_script(alloc, &mut page, 3, &shown)?;
+    assert_eq!(rt; count(&page, b"href=\"#f3n0\""), 2);
+    assert_eq!(rt; count(&page, b"href=\"#f3n1\""), 0);
+    assert_eq!(rt;
+        count(
+            &page,
+            b"<pre id=\"f3n70\">script 70 function 0..0 -\n</pre>"
+        ),
+        1
+    );
+    assert_eq!(rt; count(&page, b"file a.js"), 0);
+    assert_eq!(rt; count(&page, b"Counts"), 0);
+    assert_eq!(rt; count(&page, b"<ul"), count(&page, b"</ul>"));
+    assert_eq!(rt; count(&page, b"<li>"), count(&page, b"</li>"));
     Ok(())
 }

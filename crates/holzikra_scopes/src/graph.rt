@@ -50,8 +50,8 @@ fn append_inner_edge(out: &mut Vec<u8>, outer: u32, inner: u32) -> Result<(), Al
     Ok(())
 }
 
-/// Whether a function is not drawn.
-fn is_hidden(shown: &[Shown], number: u32) -> bool {
+/// Whether a function is not drawn, where so much is shown of each script.
+pub fn is_hidden(shown: &[Shown], number: u32) -> bool {
     shown.get(number as usize).copied() == Some(Shown::Hidden)
 }
 
@@ -89,12 +89,12 @@ fn append_inner_edges(
     Ok(())
 }
 
-/// A use with the function that owns the binding.
+/// A use with the function that owns the binding, and the atom of the name.
 #[derive(Clone, Copy)]
-struct Edge {
-    user: u32,
-    owner: u32,
-    atom: u32,
+pub struct Edge {
+    pub user: u32,
+    pub owner: u32,
+    pub atom: u32,
 }
 
 fn edge_of(uses: &Uses, one: Use) -> Option<Edge> {
@@ -106,8 +106,8 @@ fn edge_of(uses: &Uses, one: Use) -> Option<Edge> {
     })
 }
 
-/// The uses of functions that are shown by user and owner.
-fn edges_of(alloc: Global, uses: &Uses, shown: &[Shown]) -> Result<Vec<Edge>, AllocError> {
+/// The uses of bindings of functions that are shown by such functions, by user and then by owner.
+pub fn edges_of(alloc: Global, uses: &Uses, shown: &[Shown]) -> Result<Vec<Edge>, AllocError> {
     let mut edges = Vec::new(alloc);
     for one in &uses.all {
         if let Some(edge) = edge_of(uses, *one) {

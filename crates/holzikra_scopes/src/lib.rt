@@ -13,6 +13,6 @@ mod layout;
 mod tree;
 mod uses;
 
-pub use graph::scope_graph;
+pub use graph::{Edge, edges_of, is_hidden, scope_graph};
 pub use tree::scope_tree;
 pub use uses::{Use, Uses};

@@ -28,7 +28,7 @@ pub fn plain_scopes(
 }
 
 /// What is drawn of the script and of each function; of all that has no place there all is.
-fn shown_for(
+pub(crate) fn shown_for(
     alloc: Global,
     stencil: &MergedStencil,
     chosen: &Choice,

@@ -41,7 +41,7 @@ pub(crate) struct Refused<'a> {
 }
 
 /// The code that is shown for a reason.
-fn code_of(reason: Reason, text: &[u8]) -> Code {
+pub(crate) fn code_of(reason: Reason, text: &[u8]) -> Code {
     let exact = reason.exact_code();
     match reason.spot() {
         None => exact,

@@ -2,18 +2,22 @@
 
 use crate::complaint::complain;
 use crate::files::{bytes_of, input_bytes};
-use crate::refusal::{Said, Showing, answer_refused};
+use crate::refusal::{Said, Showing, answer_refused, code_of};
 use crate::status::{Status, Tally};
+use crate::task::shown_function;
 use crate::verdict::{Compiled, Judge, Reason};
 use crate::writing::write_to;
-use holzikra_page::{append_end, append_refused, append_start};
+use holzikra_page::{Refusal, append_end, append_refused, append_start};
 use holzikra_places::push_shown_text;
-use holzikra_scripts::append_page_script;
+use holzikra_refusals::entry_of;
+use holzikra_scripts::{Choice, append_page_script};
 use holzikra_walk::{Found, Walk};
-use holzikra_words::{Format, ReportOptions};
+use holzikra_words::{Format, FunctionWord, ReportOptions};
+use std::alloc::{AllocError, Global};
 use std::io;
 use std::io::ErrorKind;
 use std::rt::Runtime;
+use stencil_data::MergedStencil;
 
 /// A page as far as it is put together.
 #[derive(Drop)]
@@ -51,6 +55,7 @@ impl Report {
     ) -> io::Result<()> {
         let alloc = rt.alloc();
         let showing = Showing::all(Format::Human);
+        let clauses = entry_of(code_of(reason, text)).clauses;
         let lines = answer_refused(
             alloc,
             showing,
@@ -62,7 +67,54 @@ impl Report {
         )?;
         let mut shown = String::new(alloc);
         push_shown_text(&mut shown, name)?;
-        append_refused(&mut self.page, self.count, shown.as_str(), lines.as_bytes())?;
+        let refusal = Refusal {
+            name: shown.as_str(),
+            text,
+            words: lines.as_bytes(),
+            clauses,
+            line: reason.spot().map(|spot| spot.place.line),
+        };
+        append_refused(alloc, &mut self.page, self.count, refusal)?;
+        self.count = self.count.saturating_add(1);
+        Ok(())
+    }
+
+    /// Says that a script has no such function.
+    fn no_function<R: Runtime + AllocGlobal>(
+        &mut self,
+        rt: &R,
+        name: &str,
+        word: Option<&FunctionWord>,
+    ) -> io::Result<()> {
+        self.tally.fail();
+        if let Some(word) = word {
+            let function = shown_function(rt.alloc(), &word.name)?;
+            let why = format!(in rt.alloc(); "no function {function}")?;
+            complain(rt, name, why.as_str())?;
+        }
+        Ok(())
+    }
+
+    /// Puts a script on the page.
+    fn script(
+        &mut self,
+        alloc: Global,
+        name: &str,
+        text: &[u8],
+        stencil: &MergedStencil,
+        chosen: &Choice,
+    ) -> Result<(), AllocError> {
+        self.tally.count_script();
+        append_page_script(
+            alloc,
+            &mut self.page,
+            self.count,
+            name,
+            text,
+            stencil,
+            chosen,
+        )?;
+        self.count = self.count.saturating_add(1);
         Ok(())
     }
 
@@ -71,20 +123,21 @@ impl Report {
         &mut self,
         rt: &R,
         judge: &J,
+        options: &ReportOptions,
         name: &str,
         text: &[u8],
     ) -> io::Result<()> {
-        let compiled = judge.compile(rt.alloc(), text, &[])?;
+        let compiled = judge.compile(rt.alloc(), text, &options.functions)?;
         match compiled {
-            Compiled::Script(stencil, _chosen) => {
-                self.tally.count_script();
-                append_page_script(rt.alloc(), &mut self.page, self.count, name, text, &stencil)?;
+            Compiled::Script(stencil, chosen) => {
+                self.script(rt.alloc(), name, text, &stencil, &chosen)?;
+                Ok(())
             }
-            Compiled::Refused(reason) => self.refused(rt, name, text, reason)?,
-            Compiled::NoFunction(_) => unreachable!(),
+            Compiled::Refused(reason) => self.refused(rt, name, text, reason),
+            Compiled::NoFunction(place) => {
+                self.no_function(rt, name, options.functions.get(place))
+            }
         }
-        self.count = self.count.saturating_add(1);
-        Ok(())
     }
 
     /// Puts on the page what was read.
@@ -92,12 +145,13 @@ impl Report {
         &mut self,
         rt: &R,
         judge: &J,
+        options: &ReportOptions,
         name: &str,
         read: io::Result<Vec<u8>>,
     ) -> io::Result<()> {
         match read {
             Err(error) => self.fault(rt, name, error),
-            Ok(text) => self.text(rt, judge, name, &text),
+            Ok(text) => self.text(rt, judge, options, name, &text),
         }
     }
 
@@ -113,11 +167,11 @@ impl Report {
             Found::Fault(name, error) => self.fault(rt, name.as_str(), error),
             Found::Input => {
                 let read = input_bytes(rt);
-                self.read(rt, judge, options.files.stdin_name.as_str(), read)
+                self.read(rt, judge, options, options.files.stdin_name.as_str(), read)
             }
             Found::File(name) => {
                 let read = bytes_of(rt, name.as_str());
-                self.read(rt, judge, name.as_str(), read)
+                self.read(rt, judge, options, name.as_str(), read)
             }
         }
     }

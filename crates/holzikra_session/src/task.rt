@@ -59,11 +59,18 @@ impl<'a> Task<'a> {
             Task::Check(_) | Task::Stats(_) => None,
             Task::Load(_) | Task::Verify(_) => None,
         };
-        match word.map(|word| &word.name) {
+        match word {
             None => Ok(String::new(alloc)),
-            Some(FunctionName::Number(number)) => format!(in alloc; "{number}"),
-            Some(FunctionName::Text(name)) => format!(in alloc; "`{name}`"),
-            Some(FunctionName::Place(line, column)) => format!(in alloc; "at {line}:{column}"),
+            Some(word) => shown_function(alloc, &word.name),
         }
+    }
+}
+
+/// How a function is asked for, as an error has it.
+pub(crate) fn shown_function(alloc: Global, name: &FunctionName) -> Result<String, AllocError> {
+    match name {
+        FunctionName::Number(number) => format!(in alloc; "{number}"),
+        FunctionName::Text(name) => format!(in alloc; "`{name}`"),
+        FunctionName::Place(line, column) => format!(in alloc; "at {line}:{column}"),
     }
 }

@@ -1,6 +1,7 @@
 //! The words of `report`.
 
 use crate::files::{FileOptions, file_options, with_files};
+use crate::functions::{FunctionWord, function_words, with_functions};
 use crate::parts::{named, value, with};
 use clap::{Arg, ArgMatches, Command};
 use std::alloc::{AllocError, Global};
@@ -9,6 +10,8 @@ use std::alloc::{AllocError, Global};
 #[derive(Debug, Drop)]
 pub struct ReportOptions {
     pub files: FileOptions,
+    /// The functions that are meant; all where there is none.
+    pub functions: Vec<FunctionWord>,
     /// The file that the page is written to, or `-` for standard output.
     pub page: String,
 }
@@ -17,6 +20,7 @@ pub struct ReportOptions {
 pub(crate) fn command<'a>(alloc: Global) -> Result<Command<'a>, AllocError> {
     let command = named(alloc, "report", "write one page for a browser");
     let command = with_files(alloc, command)?;
+    let command = with_functions(alloc, command)?;
     let page = Arg::new(alloc, "output").long("output").short('o');
     let page = page.value_name("PAGE").required(true);
     with(
@@ -28,6 +32,11 @@ pub(crate) fn command<'a>(alloc: Global) -> Result<Command<'a>, AllocError> {
 /// What the words of `report` ask for.
 pub(crate) fn options(alloc: Global, found: &ArgMatches<'_>) -> Result<ReportOptions, AllocError> {
     let files = file_options(alloc, found)?;
+    let functions = function_words(alloc, found)?;
     let page = String::from_str(alloc, value(found, "output", "-"))?;
-    Ok(ReportOptions { files, page })
+    Ok(ReportOptions {
+        files,
+        functions,
+        page,
+    })
 }

@@ -92,7 +92,7 @@ fn found_request(alloc: Global, matches: &ArgMatches<'_>) -> Result<Request, All
 /// What is wrong with the words of the command that was found, which are words that it takes.
 fn complaint_of(alloc: Global, matches: &ArgMatches<'_>) -> Result<Option<String>, AllocError> {
     match matches.subcommand() {
-        Some(("code" | "scopes", found)) => functions::complaint(alloc, found),
+        Some(("code" | "scopes" | "report", found)) => functions::complaint(alloc, found),
         Some(("diff", found)) => diff::complaint(alloc, found),
         _ => Ok(None),
     }

@@ -19,7 +19,7 @@ _holzikra() {
         scopes:-*) words="--all --at --exclude --ext --format --function --help -h --only --stdin-name" ;;
         stats:-*) words="--all --exclude --ext --format --help -h --stdin-name" ;;
         diff:-*) words="--format --help -h --stdin-name" ;;
-        report:-*) words="--all --exclude --ext --help -h --output -o --stdin-name" ;;
+        report:-*) words="--all --at --exclude --ext --function --help -h --only --output -o --stdin-name" ;;
         save:-*) words="--help -h --output -o --stdin-name" ;;
         load:-*) words="--all --exclude --ext --format --help -h --stdin-name" ;;
         verify:-*) words="--all --exclude --ext --format --help -h --stdin-name" ;;

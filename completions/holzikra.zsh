@@ -83,9 +83,12 @@ _holzikra() {
     report)
         _arguments \
             '*--all[enter node_modules and what begins with a point]' \
+            '*--at[the innermost function there; may be given again]:LINE\[\:COLUMN\]:' \
             '*--exclude[what of a folder is passed over; may be given again]:GLOB:' \
             '*--ext[which files of a folder are taken]:LIST:' \
+            '*--function[a number or a name; may be given again]:FUNCTION:' \
             '(-h --help)'{-h,--help}'[Print help]' \
+            '*--only[without the functions inside those that are named]' \
             '(-o --output)'{-o,--output}'[where the page is written; - is standard output]:PAGE:_files' \
             '*--stdin-name[what - is called]:NAME:' \
             '*:file:_files'

@@ -17,10 +17,12 @@ use Rattle.stencil_data.specs.declared.scopes.Slot.{Slot}
 use Rattle.stencil_data.specs.declared.scopes.Slot.TheVariants as slot
 use Rattle.stencil_data.specs.declared.stencils.TryNote.{TryNote}
 use Rattle.stencil_data.specs.Named.{NamedScope, NamedFunction, NamedClosed, NamedRecord, NamedMerged}
-use Rattle.stencil_data.specs.StandsFor.{text_at}
+use Rattle.stencil_data.specs.MergedView.{MergedView}
+use Rattle.stencil_data.specs.StandsFor.{MergedStandsFor, text_at}
 use Rattle.bytecode_buf.specs.declared.opcode.Op.{Op}
 use Rattle.bytecode_buf.specs.declared.opcode.Op.TheVariants as op
 use Rattle.bytecode_buf.specs.Command.{Operand, Nothing, Number, Text, Aliased, Distance, Target, Listed}
+use Rattle.script_image.specs.Listed.{ShowsListed}
 use Rattle.script_image.specs.OpNames.{name_of}
 use Rattle.script_image.specs.ScopeLines.{binding_name, scope_name}
 use Rattle.script_image.specs.declared.script_lines.Listing.{Listing}
@@ -251,8 +253,10 @@ pub record IsLineOf (value : Data) (line : List ℕ) : Type 0 where
   pub is : line ≡ compact_text value ++ codes "\n"
   pub reads_back : read (compact_text value) ≡ Some value
 
--- the line of a file of this name and so many bytes: the code or the scopes of this script, with what is said of it beside that
+-- the line of a file of this name and so many bytes: the code or the scopes of this script by the texts of a stencil that stands for it, with what
+-- is said of it beside that
 pub record IsScriptLine (listing : Listing) (name : List ℕ) (bytes : ℕ) (merged : NamedMerged (List Listed)) (line : List ℕ) : Type 0 where
-  pub texts : List (List ℕ)
+  pub stencil : MergedView
+  pub stands : MergedStandsFor ShowsListed stencil merged
   pub notes : List ScriptNotes
-  pub is : IsLineOf (script_data (shown listing texts notes) name bytes merged) line
+  pub is : IsLineOf (script_data (shown listing stencil.texts notes) name bytes merged) line

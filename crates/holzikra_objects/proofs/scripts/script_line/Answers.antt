@@ -11,7 +11,8 @@ returns-clause-value c =
 
 pub returns-clause-script : goal.returns-clause-script
 returns-clause-script c named stands = record {
-  texts = c.args.merged.now.texts;
+  stencil = c.args.merged.now;
+  stands = stands;
   notes = c.args.notes.now;
   is = script_line_is (shown c.args.listing c.args.merged.now.texts c.args.notes.now) c.args.name.now c.args.bytes c.args.merged.now (object (members_of c.in_ok-members.members)) (string_bytes c.in_ok-line.line) c.in_ok-members.ensures c.in_ok-line.ensures named stands;
 }

@@ -273,7 +273,8 @@ fn append_names(
         ],
     )?;
     append_all(out, &["\">"])?;
-    append_text(out, &front_of(alloc, names, MOST_OF_NAMES)?)?;
+    let front = front_of(alloc, names, MOST_OF_NAMES)?;
+    append_text(out, &front)?;
     append_all(out, &["</text>\n"])
 }
 

@@ -148,14 +148,15 @@ pub fn append_script<S: Source>(
 fn append_clauses(
     out: &mut Vec<u8>,
     number: usize,
-    refusal: Refusal<'_>,
+    clauses: &str,
+    line: Option<usize>,
 ) -> Result<(), AllocError> {
     append_all(out, &["<p>"])?;
-    if !refusal.clauses.is_empty() {
+    if !clauses.is_empty() {
         append_all(out, &["ECMA-262, 12th edition: "])?;
-        append_text(out, refusal.clauses.as_bytes())?;
+        append_text(out, clauses.as_bytes())?;
     }
-    if let Some(line) = refusal.line {
+    if let Some(line) = line {
         append_numbers(
             out,
             &[
@@ -183,7 +184,7 @@ pub fn append_refused(
     append_all(out, &["</pre>\n"])?;
     let has_source = refusal.line.is_some() && refusal.text.len() <= MOST_SHOWN;
     let line = if has_source { refusal.line } else { None };
-    append_clauses(out, number, Refusal { line, ..refusal })?;
+    append_clauses(out, number, refusal.clauses, line)?;
     if has_source {
         append_all(out, &["<div class=\"pane\">\n"])?;
         append_source(alloc, out, number, refusal.text)?;

@@ -11,7 +11,7 @@ ghost use Rattle.script_image.specs.Pieces.{left_from, walked};
 
 use crate::chunk::{Chunk, flush, put, put_byte};
 use crate::names::op_name;
-use crate::quoted::{append_decimal, append_range, put_decimal, put_padded, put_quoted, text_at};
+use crate::quoted::{put_decimal, put_padded, put_quoted, put_range, text_at};
 use bytecode_buf::{Instr, Shape, decode_at};
 use std::alloc::AllocError;
 use stencil_data::{FunctionStencil, Text, TryNote};
@@ -146,23 +146,22 @@ pub(crate) fn append_instructions(
     flush(out, &mut chunk)
 }
 
-/// Appends the line of a try note.
-fn append_note(out: &mut Vec<u8>, note: TryNote) -> Result<(), AllocError>
-    ensures { OnOk result (out.new.items ≡ out.old.items ++ lines.note_line note) }
+/// Puts the line of a try note after a chunk.
+fn put_note(out: &mut Vec<u8>, chunk: &mut Chunk, note: TryNote) -> Result<(), AllocError>
+    ensures { OnOk result (out.new.items ++ chunk.new.items ≡ (out.old.items ++ chunk.old.items) ++ lines.note_line note) }
 {
-    out.extend_from_slice(b"  catch ")?;
-    append_range(out, note.start, note.end)?;
-    out.extend_from_slice(b" depth ")?;
-    append_decimal(out, u64::from(note.depth))?;
-    out.extend_from_slice(b"\n")?;
-    Ok(())
+    put(out, chunk, b"  catch ")?;
+    put_range(out, chunk, note.start, note.end)?;
+    put(out, chunk, b" depth ")?;
+    put_decimal(out, chunk, u64::from(note.depth))?;
+    put_byte(out, chunk, b'\n')
 }
 
-fn append_notes(out: &mut Vec<u8>, notes: &[TryNote]) -> Result<(), AllocError>
-    ensures { OnOk result (out.new.items ≡ out.old.items ++ flat_map lines.note_line notes.now) }
+fn put_notes(out: &mut Vec<u8>, chunk: &mut Chunk, notes: &[TryNote]) -> Result<(), AllocError>
+    ensures { OnOk result (out.new.items ++ chunk.new.items ≡ (out.old.items ++ chunk.old.items) ++ flat_map lines.note_line notes.now) }
 {
     for note in notes {
-        append_note(out, *note)?;
+        put_note(out, chunk, *note)?;
     }
     Ok(())
 }
@@ -181,8 +180,10 @@ pub(crate) fn append_code_from(
     ensures { OnOk result (out.new.items ≡ out.old.items
         ++ (lines.listing (command.listed_from texts.now from (left_from code.now from turn)) ++ flat_map lines.note_line notes.now)) }
 {
-    append_instructions(out, code, texts, from, turn, code.len())?;
-    append_notes(out, notes)?;
+    let mut chunk = Chunk::new();
+    put_instructions(out, &mut chunk, code, texts, from, turn, code.len())?;
+    put_notes(out, &mut chunk, notes)?;
+    flush(out, &mut chunk)?;
     Ok(())
 }
 

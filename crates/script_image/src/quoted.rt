@@ -5,7 +5,7 @@ ghost use Rattle.std.specs.Fmt.{decimal};
 ghost use Rattle.stencil_data.specs.StandsFor as stands;
 ghost use Rattle.script_image.specs.Quoted as printed;
 
-use crate::chunk::{Chunk, flush, put, put_byte};
+use crate::chunk::{Chunk, put, put_byte};
 use itoa::Buffer;
 use std::alloc::AllocError;
 use stencil_data::{Extent, Text};
@@ -111,15 +111,6 @@ pub(crate) fn put_quoted(
     put_byte(out, chunk, b'"')
 }
 
-/// Appends a text between double quotes.
-pub(crate) fn append_quoted(out: &mut Vec<u8>, units: &[u16]) -> Result<(), AllocError>
-    ensures { OnOk result (out.new.items ≡ out.old.items ++ printed.quoted units.now) }
-{
-    let mut chunk = Chunk::new();
-    put_quoted(out, &mut chunk, units)?;
-    flush(out, &mut chunk)
-}
-
 /// The text of an atom, the empty one where there is none.
 pub(crate) fn text_at(texts: &[Text], atom: u64) -> &[u16]
     ensures { result.now ≡ stands.text_at texts.now atom }
@@ -130,34 +121,43 @@ pub(crate) fn text_at(texts: &[Text], atom: u64) -> &[u16]
     }
 }
 
-/// Appends a name, or `-` where there is none.
-pub(crate) fn append_name(
+/// Puts a name after a chunk, or `-` where there is none.
+pub(crate) fn put_name(
     out: &mut Vec<u8>,
+    chunk: &mut Chunk,
     texts: &[Text],
     name: Option<u32>,
 ) -> Result<(), AllocError>
-    ensures { OnOk result (out.new.items ≡ out.old.items ++ printed.name_text (option_map (stands.text_at texts.now) name)) }
+    ensures { OnOk result (out.new.items ++ chunk.new.items
+        ≡ (out.old.items ++ chunk.old.items) ++ printed.name_text (option_map (stands.text_at texts.now) name)) }
 {
     match name {
-        None => out.extend_from_slice(b"-")?,
-        Some(atom) => append_quoted(out, text_at(texts, u64::from(atom)))?,
+        None => put_byte(out, chunk, b'-'),
+        Some(atom) => put_quoted(out, chunk, text_at(texts, u64::from(atom))),
     }
-    Ok(())
 }
 
-/// Appends `start..end`.
-pub(crate) fn append_range(out: &mut Vec<u8>, start: u64, end: u64) -> Result<(), AllocError>
-    ensures { OnOk result (out.new.items ≡ out.old.items ++ printed.range_text start end) }
+/// Puts `start..end` after a chunk.
+pub(crate) fn put_range(
+    out: &mut Vec<u8>,
+    chunk: &mut Chunk,
+    start: u64,
+    end: u64,
+) -> Result<(), AllocError>
+    ensures { OnOk result (out.new.items ++ chunk.new.items ≡ (out.old.items ++ chunk.old.items) ++ printed.range_text start end) }
 {
-    append_decimal(out, start)?;
-    out.extend_from_slice(b"..")?;
-    append_decimal(out, end)?;
-    Ok(())
+    put_decimal(out, chunk, start)?;
+    put(out, chunk, b"..")?;
+    put_decimal(out, chunk, end)
 }
 
-/// Appends an extent.
-pub(crate) fn append_extent(out: &mut Vec<u8>, extent: Extent) -> Result<(), AllocError>
-    ensures { OnOk result (out.new.items ≡ out.old.items ++ printed.extent_text extent) }
+/// Puts an extent after a chunk.
+pub(crate) fn put_extent(
+    out: &mut Vec<u8>,
+    chunk: &mut Chunk,
+    extent: Extent,
+) -> Result<(), AllocError>
+    ensures { OnOk result (out.new.items ++ chunk.new.items ≡ (out.old.items ++ chunk.old.items) ++ printed.extent_text extent) }
 {
-    append_range(out, u64::from(extent.start), u64::from(extent.end))
+    put_range(out, chunk, u64::from(extent.start), u64::from(extent.end))
 }

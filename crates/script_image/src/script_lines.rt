@@ -9,8 +9,9 @@ ghost use Rattle.script_image.specs.Pieces.{from_script, header_line, part_at, s
 ghost use Rattle.script_image.specs.Quoted.{list_text, with_commas};
 ghost use Rattle.script_image.specs.ScriptLines as lines;
 
+use crate::chunk::{Chunk, flush, put, put_byte};
 use crate::code_lines::append_code;
-use crate::quoted::{append_decimal, append_extent, append_name, append_quoted, text_at};
+use crate::quoted::{put_decimal, put_extent, put_name, put_quoted, text_at};
 use crate::scope_lines::append_scopes;
 use std::alloc::AllocError;
 use stencil_data::{ClosedName, Entry, Extent, FunctionStencil, LazyRecord, MergedStencil, Text};
@@ -38,84 +39,116 @@ fn append_lines(
     Ok(())
 }
 
-/// Appends the line of a script as far as all scripts have it.
-fn append_script(
+/// Puts the line of a script as far as all scripts have it after a chunk.
+fn put_script(
     out: &mut Vec<u8>,
+    chunk: &mut Chunk,
     number: u64,
     how: &str,
     extent: Extent,
 ) -> Result<(), AllocError>
-    ensures { OnOk result (out.new.items ≡ out.old.items ++ lines.script_text number how.now extent) }
+    ensures { OnOk result (out.new.items ++ chunk.new.items ≡ (out.old.items ++ chunk.old.items) ++ lines.script_text number how.now extent) }
 {
-    out.extend_from_slice(b"script ")?;
-    append_decimal(out, number)?;
-    out.extend_from_slice(b" ")?;
-    out.extend_from_slice(how.as_bytes())?;
-    out.extend_from_slice(b" ")?;
-    append_extent(out, extent)?;
-    Ok(())
+    put(out, chunk, b"script ")?;
+    put_decimal(out, chunk, number)?;
+    put_byte(out, chunk, b' ')?;
+    put(out, chunk, how.as_bytes())?;
+    put_byte(out, chunk, b' ')?;
+    put_extent(out, chunk, extent)
 }
 
-/// Appends numbers with a comma between two, or `-` where there is none.
-fn append_numbers(out: &mut Vec<u8>, numbers: &[u32]) -> Result<(), AllocError>
-    ensures { OnOk result (out.new.items ≡ out.old.items ++ list_text (map decimal numbers.now)) }
+/// Puts numbers with a comma between two after a chunk, or `-` where there is none.
+fn put_numbers(out: &mut Vec<u8>, chunk: &mut Chunk, numbers: &[u32]) -> Result<(), AllocError>
+    ensures { OnOk result (out.new.items ++ chunk.new.items ≡ (out.old.items ++ chunk.old.items) ++ list_text (map decimal numbers.now)) }
 {
     match numbers.split_first() {
-        None => out.extend_from_slice(b"-")?,
+        None => put_byte(out, chunk, b'-'),
         Some((first, rest)) => {
-            append_decimal(out, u64::from(*first))?;
-            append_further_numbers(out, rest)?;
+            put_decimal(out, chunk, u64::from(*first))?;
+            put_further_numbers(out, chunk, rest)
         }
     }
-    Ok(())
 }
 
-fn append_further_numbers(out: &mut Vec<u8>, numbers: &[u32]) -> Result<(), AllocError>
-    ensures { OnOk result (out.new.items ≡ out.old.items ++ with_commas (map decimal numbers.now)) }
+fn put_further_numbers(
+    out: &mut Vec<u8>,
+    chunk: &mut Chunk,
+    numbers: &[u32],
+) -> Result<(), AllocError>
+    ensures { OnOk result (out.new.items ++ chunk.new.items ≡ (out.old.items ++ chunk.old.items) ++ with_commas (map decimal numbers.now)) }
 {
     for number in numbers {
-        out.extend_from_slice(b",")?;
-        append_decimal(out, u64::from(*number))?;
+        put_byte(out, chunk, b',')?;
+        put_decimal(out, chunk, u64::from(*number))?;
     }
     Ok(())
 }
 
-/// Appends a name that is closed over, after the number of its scope.
-fn append_closed_name(out: &mut Vec<u8>, texts: &[Text], name: ClosedName) -> Result<(), AllocError>
-    ensures { OnOk result (out.new.items ≡ out.old.items ++ lines.closed_text (named_closed texts.now name)) }
-{
-    append_decimal(out, u64::from(name.scope))?;
-    out.extend_from_slice(b":")?;
-    append_quoted(out, text_at(texts, u64::from(name.atom)))?;
-    Ok(())
-}
-
-/// Appends closed names with a comma between two, or `-` where there is none.
-fn append_closed(out: &mut Vec<u8>, texts: &[Text], names: &[ClosedName]) -> Result<(), AllocError>
-    ensures { OnOk result (out.new.items ≡ out.old.items ++ list_text (map lines.closed_text (map (named_closed texts.now) names.now))) }
-{
-    match names.split_first() {
-        None => out.extend_from_slice(b"-")?,
-        Some((first, rest)) => {
-            append_closed_name(out, texts, *first)?;
-            append_further_closed(out, texts, rest)?;
-        }
-    }
-    Ok(())
-}
-
-fn append_further_closed(
+/// Puts a name that is closed over after a chunk, after the number of its scope.
+fn put_closed_name(
     out: &mut Vec<u8>,
+    chunk: &mut Chunk,
+    texts: &[Text],
+    name: ClosedName,
+) -> Result<(), AllocError>
+    ensures { OnOk result (out.new.items ++ chunk.new.items ≡ (out.old.items ++ chunk.old.items) ++ lines.closed_text (named_closed texts.now name)) }
+{
+    put_decimal(out, chunk, u64::from(name.scope))?;
+    put_byte(out, chunk, b':')?;
+    put_quoted(out, chunk, text_at(texts, u64::from(name.atom)))
+}
+
+/// Puts closed names with a comma between two after a chunk, or `-` where there is none.
+fn put_closed(
+    out: &mut Vec<u8>,
+    chunk: &mut Chunk,
     texts: &[Text],
     names: &[ClosedName],
 ) -> Result<(), AllocError>
-    ensures { OnOk result (out.new.items ≡ out.old.items ++ with_commas (map lines.closed_text (map (named_closed texts.now) names.now))) }
+    ensures { OnOk result (out.new.items ++ chunk.new.items ≡ (out.old.items ++ chunk.old.items) ++ list_text (map lines.closed_text (map (named_closed texts.now) names.now))) }
+{
+    match names.split_first() {
+        None => put_byte(out, chunk, b'-'),
+        Some((first, rest)) => {
+            put_closed_name(out, chunk, texts, *first)?;
+            put_further_closed(out, chunk, texts, rest)
+        }
+    }
+}
+
+fn put_further_closed(
+    out: &mut Vec<u8>,
+    chunk: &mut Chunk,
+    texts: &[Text],
+    names: &[ClosedName],
+) -> Result<(), AllocError>
+    ensures { OnOk result (out.new.items ++ chunk.new.items ≡ (out.old.items ++ chunk.old.items) ++ with_commas (map lines.closed_text (map (named_closed texts.now) names.now))) }
 {
     for name in names {
-        out.extend_from_slice(b",")?;
-        append_closed_name(out, texts, *name)?;
+        put_byte(out, chunk, b',')?;
+        put_closed_name(out, chunk, texts, *name)?;
     }
     Ok(())
+}
+
+/// Puts the line of the function of this number, which is not compiled, after a chunk.
+fn put_record(
+    out: &mut Vec<u8>,
+    chunk: &mut Chunk,
+    texts: &[Text],
+    number: u64,
+    lazy: &LazyRecord,
+) -> Result<(), AllocError>
+    ensures { OnOk result (out.new.items ++ chunk.new.items ≡ (out.old.items ++ chunk.old.items) ++ lines.lazy_line number (named_record texts.now lazy.now)) }
+{
+    put_script(out, chunk, number, "lazy", lazy.extent)?;
+    put_byte(out, chunk, b' ')?;
+    put_name(out, chunk, texts, lazy.name)?;
+    put(out, chunk, b" inner ")?;
+    put_numbers(out, chunk, &lazy.inner)?;
+    put(out, chunk, b" closed ")?;
+    put_closed(out, chunk, texts, &lazy.closed)?;
+    put_byte(out, chunk, b'\n')
 }
 
 /// Appends the line of the function of this number, which is not compiled.
@@ -127,15 +160,9 @@ fn append_record(
 ) -> Result<(), AllocError>
     ensures { OnOk result (out.new.items ≡ out.old.items ++ lines.lazy_line number (named_record texts.now lazy.now)) }
 {
-    append_script(out, number, "lazy", lazy.extent)?;
-    out.extend_from_slice(b" ")?;
-    append_name(out, texts, lazy.name)?;
-    out.extend_from_slice(b" inner ")?;
-    append_numbers(out, &lazy.inner)?;
-    out.extend_from_slice(b" closed ")?;
-    append_closed(out, texts, &lazy.closed)?;
-    out.extend_from_slice(b"\n")?;
-    Ok(())
+    let mut chunk = Chunk::new();
+    put_record(out, &mut chunk, texts, number, lazy)?;
+    flush(out, &mut chunk)
 }
 
 /// Appends the line of the compiled function of this number.
@@ -147,11 +174,12 @@ fn append_function_line(
 ) -> Result<(), AllocError>
     ensures { OnOk result (out.new.items ≡ out.old.items ++ lines.function_line number (listed_script texts.now script.now)) }
 {
-    append_script(out, number, "function", script.extent)?;
-    out.extend_from_slice(b" ")?;
-    append_name(out, texts, script.name)?;
-    out.extend_from_slice(b"\n")?;
-    Ok(())
+    let mut chunk = Chunk::new();
+    put_script(out, &mut chunk, number, "function", script.extent)?;
+    put_byte(out, &mut chunk, b' ')?;
+    put_name(out, &mut chunk, texts, script.name)?;
+    put_byte(out, &mut chunk, b'\n')?;
+    flush(out, &mut chunk)
 }
 
 /// Appends the lines of the compiled function of this number.
@@ -193,9 +221,10 @@ fn append_function(
 fn append_top_line(out: &mut Vec<u8>, top: &FunctionStencil) -> Result<(), AllocError>
     ensures { OnOk result (out.new.items ≡ out.old.items ++ lines.top_line top.now.extent) }
 {
-    append_script(out, 0, "top", top.extent)?;
-    out.extend_from_slice(b"\n")?;
-    Ok(())
+    let mut chunk = Chunk::new();
+    put_script(out, &mut chunk, 0, "top", top.extent)?;
+    put_byte(out, &mut chunk, b'\n')?;
+    flush(out, &mut chunk)
 }
 
 /// Appends the lines of the file's own part.

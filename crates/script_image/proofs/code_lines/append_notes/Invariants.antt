@@ -1,6 +1,0 @@
-use Rattle.std.proofs.Common.{◌≡◌, ◌++◌, take, flat_map}
-use Rattle.script_image.specs.CodeLines.{note_line}
-use Rattle.script_image.proofs.code_lines.append_notes.Given as goal
-
-abbrev pub invariant-loop-note : goal.invariant-loop-note
-invariant-loop-note l = l.out.items ≡ l.initial.out.items ++ flat_map note_line (take l.note-index l.notes)

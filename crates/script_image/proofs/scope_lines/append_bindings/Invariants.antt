@@ -1,7 +1,0 @@
-use Rattle.std.proofs.Common.{◌≡◌, ◌++◌, take, flat_map}
-use Rattle.stencil_data.specs.StandsFor.{named_bindings}
-use Rattle.script_image.specs.ScopeLines.{binding_line}
-use Rattle.script_image.proofs.scope_lines.append_bindings.Given as goal
-
-abbrev pub invariant-loop-binding : goal.invariant-loop-binding
-invariant-loop-binding l = l.out.items ≡ l.initial.out.items ++ flat_map binding_line (named_bindings l.texts (take l.binding-index l.bindings))

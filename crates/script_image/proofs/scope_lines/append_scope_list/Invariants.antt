@@ -1,7 +1,0 @@
-use Rattle.std.proofs.Common.{◌≡◌, ◌++◌, drop, map}
-use Rattle.stencil_data.specs.StandsFor.{named_scope}
-use Rattle.script_image.specs.ScopeLines.{scopes_from}
-use Rattle.script_image.proofs.scope_lines.append_scope_list.Given as goal
-
-abbrev pub invariant-loop-number : goal.invariant-loop-number
-invariant-loop-number l = l.out.items ++ scopes_from l.number (map (named_scope l.texts) (drop l.number l.scopes)) ≡ l.initial.out.items ++ scopes_from 0 (map (named_scope l.texts) l.scopes)

@@ -1,7 +1,9 @@
 -- How far a text is scanned.
 use Rattle.std.proofs.Common.{◌≡◌, ℕ, ◌+◌, ◌-◌, ◌<◌, ◌≤◌, inl, inr, zero, suc, List, [], ◌∷◌, ◌++◌, map, length, drop, Bool, true, false, refl, sym, ◌∙◌, ap, subst, arith, append_assoc, length-append, length-drop}
-use Rattle.std.specs.Prelude.{Option, Some, None, ◌||◌, slice_get}
+use Rattle.std.specs.Prelude.{Option, Some, None, ◌||◌, not, slice_get, nat_eq}
 use Rattle.std.specs.List.{AllByRecursion}
+use Rattle.std.proofs.lemmas.Bool.{false≢true}
+use Rattle.std.proofs.Math.Dec.{eqb-suc-zero}
 use Rattle.std.proofs.lemmas.List.{append-nil}
 use Rattle.script_grammar.specs.declared.token.Token.{Token}
 use Rattle.script_grammar.specs.declared.token.Kind.{Kind}
@@ -262,7 +264,7 @@ pub record IsStepped (to : ℕ) (text : List Point) (at taken : ℕ) (tokens : L
   pub few : length now ≤ length texts + (at + taken)
   pub so_far : tokens_within (suc (length text)) to [] false text ≡ made ++ rest_after taken (tokens_within fuel to braces after (drop (at + taken) text))
 
-pub scanning_first : (to : ℕ) (text : List Point) (tokens : List Token) (braces : List Brace) (after : Bool) (texts : List (List ℕ)) → tokens ≡ [] → braces ≡ [] → after ≡ false
+scanning_first : (to : ℕ) (text : List Point) (tokens : List Token) (braces : List Brace) (after : Bool) (texts : List (List ℕ)) → tokens ≡ [] → braces ≡ [] → after ≡ false
     → IsScanning to text 0 tokens braces after texts texts
 scanning_first to text tokens braces after texts no_tokens no_braces no_line = record {
   within = omega arith;
@@ -287,7 +289,7 @@ stand_grown texts between now ts us all ls ms appended first more gains =
     let still : StandFor now ts ls = subst (λ (xs : List (List ℕ)). StandFor xs ts ls) (sym gains.grown) (stand_still between gains.gained ts ls first) in
     subst (λ (xs : List Token). StandFor now xs (ls ++ ms)) (sym appended) (stand_append now ts us ls ms still more)
 
-pub stepped : (to : ℕ) (text : List Point) (at taken : ℕ) (tokens tokens_now : List Token) (braces braces_now : List Brace) (after after_now : Bool) (texts between now : List (List ℕ))
+stepped : (to : ℕ) (text : List Point) (at taken : ℕ) (tokens tokens_now : List Token) (braces braces_now : List Brace) (after after_now : Bool) (texts between now : List (List ℕ))
     → IsScanning to text at tokens braces after texts between → Moves to (drop at text) tokens tokens_now braces braces_now after after_now between now taken → taken ≤ length (drop at text)
     → IsStepped to text at taken tokens_now braces_now after_now texts now
 stepped to text at taken tokens tokens_now braces braces_now after after_now texts between now s m le = record {
@@ -305,14 +307,14 @@ stepped to text at taken tokens tokens_now braces braces_now after after_now tex
       ∙ ap (λ (ps : List Point). (s.made ++ m.made) ++ rest_after taken (tokens_within (s.fuel - 1) to braces_now after_now ps)) (sym (drop_drop at taken text));
 }
 
-pub stepped_behind : (to : ℕ) (text rest : List Point) (at taken : ℕ) (tokens tokens_now : List Token) (braces braces_now : List Brace) (after after_now : Bool) (texts between now : List (List ℕ))
+stepped_behind : (to : ℕ) (text rest : List Point) (at taken : ℕ) (tokens tokens_now : List Token) (braces braces_now : List Brace) (after after_now : Bool) (texts between now : List (List ℕ))
     → rest ≡ drop at text → IsScanning to text at tokens braces after texts between → Moves to rest tokens tokens_now braces braces_now after after_now between now taken → taken ≤ length rest
     → IsStepped to text at taken tokens_now braces_now after_now texts now
 stepped_behind to text rest at taken tokens tokens_now braces braces_now after after_now texts between now is s m le =
     stepped to text at taken tokens tokens_now braces braces_now after after_now texts between now s
     (subst (λ (ps : List Point). Moves to ps tokens tokens_now braces braces_now after after_now between now taken) is m) (subst (λ (ps : List Point). taken ≤ length ps) is le)
 
-pub resumed : (to : ℕ) (text : List Point) (at taken : ℕ) (tokens : List Token) (braces : List Brace) (after : Bool) (texts now : List (List ℕ))
+resumed : (to : ℕ) (text : List Point) (at taken : ℕ) (tokens : List Token) (braces : List Brace) (after : Bool) (texts now : List (List ℕ))
     → IsStepped to text at taken tokens braces after texts now → 0 < taken → IsScanning to text (at + taken) tokens braces after texts now
 resumed to text at taken tokens braces after texts now s some = record {
   within = s.within;
@@ -326,25 +328,65 @@ resumed to text at taken tokens braces after texts now s some = record {
   so_far = s.so_far ∙ ap (λ (ls : List Lexed). s.made ++ ls) (sym (rest_some taken (tokens_within s.fuel to braces after (drop (at + taken) text)) some));
 }
 
+-- between steps: the rest's tokens follow while the scan goes on, and none after the last token
+abbrev pub IsAt : Bool → ℕ → List Point → ℕ → List Token → List Brace → Bool → List (List ℕ) → List (List ℕ) → Type 0
+IsAt true to text at tokens braces after texts now = IsScanning to text at tokens braces after texts now
+IsAt false to text at tokens braces after texts now = IsStepped to text at 0 tokens braces after texts now
+
+pub record IsRunning (goes_on : Bool) (to : ℕ) (text : List Point) (at : ℕ) (tokens : List Token) (braces : List Brace) (after : Bool) (texts now : List (List ℕ)) : Type 0 where
+  pub within : at ≤ length text
+  pub few : length now ≤ length texts + at
+  pub gained : (made : List Lexed) × GainsOnly texts now made
+  pub state : IsAt goes_on to text at tokens braces after texts now
+
+pub running_first : (to : ℕ) (text : List Point) (tokens : List Token) (braces : List Brace) (after : Bool) (texts : List (List ℕ)) → tokens ≡ [] → braces ≡ [] → after ≡ false
+    → IsRunning true to text 0 tokens braces after texts texts
+running_first to text tokens braces after texts no_tokens no_braces no_line =
+    let first : IsScanning to text 0 tokens braces after texts texts = scanning_first to text tokens braces after texts no_tokens no_braces no_line in
+    record { within = first.within; few = first.few; gained = (first.made, first.gains); state = first }
+
+running_on : (to : ℕ) (text : List Point) (at taken : ℕ) (tokens : List Token) (braces : List Brace) (after : Bool) (texts now : List (List ℕ)) (goes_on : Bool) → goes_on ≡ not (nat_eq taken 0)
+    → IsStepped to text at taken tokens braces after texts now → IsAt goes_on to text (at + taken) tokens braces after texts now
+running_on to text at zero tokens braces after texts now true e s = absurd (false≢true (sym e))
+running_on to text at zero tokens braces after texts now false e s =
+    subst (λ (n : ℕ). IsStepped to text n 0 tokens braces after texts now) (omega arith) s
+running_on to text at (suc taken) tokens braces after texts now true e s = resumed to text at (suc taken) tokens braces after texts now s (omega arith)
+running_on to text at (suc taken) tokens braces after texts now false e s = absurd (false≢true (e ∙ ap not (eqb-suc-zero taken)))
+
+pub running_more : (to : ℕ) (text rest : List Point) (at taken : ℕ) (tokens tokens_now : List Token) (braces braces_now : List Brace) (after after_now : Bool) (texts between now : List (List ℕ)) (went_on goes_on : Bool)
+    → rest ≡ drop at text → went_on ≡ true → IsRunning went_on to text at tokens braces after texts between → Moves to rest tokens tokens_now braces braces_now after after_now between now taken
+    → taken ≤ length rest → goes_on ≡ not (nat_eq taken 0) → IsRunning goes_on to text (at + taken) tokens_now braces_now after_now texts now
+running_more to text rest at taken tokens tokens_now braces braces_now after after_now texts between now went_on goes_on is went r m le on =
+    record { within = s.within; few = s.few; gained = (s.made, s.gains); state = running_on to text at taken tokens_now braces_now after_now texts now goes_on on s }
+  where
+    s : IsStepped to text at taken tokens_now braces_now after_now texts now
+    s = stepped_behind to text rest at taken tokens tokens_now braces braces_now after after_now texts between now is
+        (subst (λ (b : Bool). IsAt b to text at tokens braces after texts between) went r.state) m le
+
 -- all tokens
-all_made : (to : ℕ) (text : List Point) (at taken : ℕ) (tokens : List Token) (braces : List Brace) (after : Bool) (texts now : List (List ℕ))
-    → (s : IsStepped to text at taken tokens braces after texts now) → taken ≡ 0 → s.made ≡ tokens_within (suc (length text)) to [] false text
-all_made to text at taken tokens braces after texts now s none =
-    sym (s.so_far ∙ ap (λ (n : ℕ). s.made ++ rest_after n (tokens_within s.fuel to braces after (drop (at + taken) text))) none ∙ append-nil s.made)
+ended : (to : ℕ) (text : List Point) (at : ℕ) (tokens : List Token) (braces : List Brace) (after : Bool) (texts now : List (List ℕ)) (goes_on : Bool)
+    → IsRunning goes_on to text at tokens braces after texts now → goes_on ≡ false → IsStepped to text at 0 tokens braces after texts now
+ended to text at tokens braces after texts now goes_on r none = subst (λ (b : Bool). IsAt b to text at tokens braces after texts now) none r.state
 
-pub all_stand : (to : ℕ) (text : List Point) (at taken : ℕ) (tokens : List Token) (braces : List Brace) (after : Bool) (texts now : List (List ℕ))
-    → IsStepped to text at taken tokens braces after texts now → taken ≡ 0 → StandFor now tokens (tokens_within (suc (length text)) to [] false text)
-all_stand to text at taken tokens braces after texts now s none =
-    subst (λ (ls : List Lexed). StandFor now tokens ls) (all_made to text at taken tokens braces after texts now s none) s.stand
+all_made : (to : ℕ) (text : List Point) (at : ℕ) (tokens : List Token) (braces : List Brace) (after : Bool) (texts now : List (List ℕ))
+    → (s : IsStepped to text at 0 tokens braces after texts now) → s.made ≡ tokens_within (suc (length text)) to [] false text
+all_made to text at tokens braces after texts now s = sym (s.so_far ∙ append-nil s.made)
 
-pub all_gained : (to : ℕ) (text : List Point) (at taken : ℕ) (tokens : List Token) (braces : List Brace) (after : Bool) (texts now : List (List ℕ))
-    → IsStepped to text at taken tokens braces after texts now → taken ≡ 0 → GainsOnly texts now (tokens_within (suc (length text)) to [] false text)
-all_gained to text at taken tokens braces after texts now s none =
-    subst (λ (ls : List Lexed). GainsOnly texts now ls) (all_made to text at taken tokens braces after texts now s none) s.gains
+pub all_stand : (to : ℕ) (text : List Point) (at : ℕ) (tokens : List Token) (braces : List Brace) (after : Bool) (texts now : List (List ℕ)) (goes_on : Bool)
+    → IsRunning goes_on to text at tokens braces after texts now → goes_on ≡ false → StandFor now tokens (tokens_within (suc (length text)) to [] false text)
+all_stand to text at tokens braces after texts now goes_on r none =
+    let s : IsStepped to text at 0 tokens braces after texts now = ended to text at tokens braces after texts now goes_on r none in
+    subst (λ (ls : List Lexed). StandFor now tokens ls) (all_made to text at tokens braces after texts now s) s.stand
 
-pub all_last : (to : ℕ) (text : List Point) (at taken : ℕ) (tokens : List Token) (braces : List Brace) (after : Bool) (texts now : List (List ℕ))
-    → IsStepped to text at taken tokens braces after texts now → taken ≡ 0 → HasOneLast tokens
-all_last to text at taken tokens braces after texts now s none = subst (λ (n : ℕ). LastAfter n tokens) none s.last
+pub all_gained : (to : ℕ) (text : List Point) (at : ℕ) (tokens : List Token) (braces : List Brace) (after : Bool) (texts now : List (List ℕ)) (goes_on : Bool)
+    → IsRunning goes_on to text at tokens braces after texts now → goes_on ≡ false → GainsOnly texts now (tokens_within (suc (length text)) to [] false text)
+all_gained to text at tokens braces after texts now goes_on r none =
+    let s : IsStepped to text at 0 tokens braces after texts now = ended to text at tokens braces after texts now goes_on r none in
+    subst (λ (ls : List Lexed). GainsOnly texts now ls) (all_made to text at tokens braces after texts now s) s.gains
+
+pub all_last : (to : ℕ) (text : List Point) (at : ℕ) (tokens : List Token) (braces : List Brace) (after : Bool) (texts now : List (List ℕ)) (goes_on : Bool)
+    → IsRunning goes_on to text at tokens braces after texts now → goes_on ≡ false → HasOneLast tokens
+all_last to text at tokens braces after texts now goes_on r none = (ended to text at tokens braces after texts now goes_on r none).last
 
 -- what was kept by both
 pub keeps_both : (texts between now : List (List ℕ)) (ls : List Lexed) → GainsOnly texts between ls → Keeps between now → Keeps texts now

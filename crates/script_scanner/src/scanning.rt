@@ -401,10 +401,11 @@ impl Scanner {
         ensures keeps { Keeps atoms.old atoms.new }
     {
         let mut at = 0;
-        let mut taken = self.step(alloc, text, to, atoms)?;
-        while taken != 0 {
+        let mut goes_on = true;
+        while goes_on {
+            let taken = self.step(alloc, text.behind(at), to, atoms)?;
             at += taken;
-            taken = self.step(alloc, text.behind(at), to, atoms)?;
+            goes_on = taken != 0;
         }
         Ok(())
     }

@@ -1,17 +1,11 @@
-use Rattle.std.proofs.Common.{◌+◌, arith}
-use Rattle.script_scanner.proofs.ScanLemmas.{scanning_first, stepped, stepped_behind, resumed}
+use Rattle.std.proofs.Common.{refl}
+use Rattle.script_scanner.proofs.ScanLemmas.{running_first, running_more}
 use Rattle.script_scanner.proofs.scanning.Scanner.run.Goals as goal
 
-pub loop-taken-init : goal.loop-taken-init
-loop-taken-init g c =
-    stepped c.args.to (g.T.Source.points c.args.text) 0 c.in_ok-taken.taken _ _ _ _ _ _ c.args.atoms.now c.args.atoms.now c.step.new.atoms
-    (scanning_first c.args.to (g.T.Source.points c.args.text) c.args.self.now.tokens.items c.args.self.now.braces.items c.args.self.now.after_line c.args.atoms.now c.requires.tokens c.requires.braces c.requires.after_line)
-    c.in_ok-taken.ensures.value c.in_ok-taken.ensures.within
+pub loop-goes_on-init : goal.loop-goes_on-init
+loop-goes_on-init g c = running_first c.args.to (g.T.Source.points c.args.text) c.args.self.now.tokens.items c.args.self.now.braces.items c.args.self.now.after_line c.args.atoms.now c.requires.tokens c.requires.braces c.requires.after_line
 
-pub loop-taken-preserved : goal.loop-taken-preserved
-loop-taken-preserved g c =
-    stepped_behind c.args.to (g.T.Source.points c.args.text) (g.T.Source.points c.behind.result) (c.loop-taken.at + c.loop-taken.taken) c.in_ok-taken-2.taken _ _ _ _ _ _ c.args.atoms.now c.loop-taken.atoms c.step-in-loop-taken.new.atoms
-    c.behind.ensures
-    (resumed c.args.to (g.T.Source.points c.args.text) c.loop-taken.at c.loop-taken.taken c.loop-taken.self.tokens.items c.loop-taken.self.braces.items c.loop-taken.self.after_line c.args.atoms.now c.loop-taken.atoms
-    c.loop-taken.invariant (omega arith))
-    c.in_ok-taken-2.ensures.value c.in_ok-taken-2.ensures.within
+pub loop-goes_on-preserved : goal.loop-goes_on-preserved
+loop-goes_on-preserved g c =
+    running_more c.args.to (g.T.Source.points c.args.text) (g.T.Source.points c.behind.result) c.loop-goes_on.at c.in_ok-taken.taken _ _ _ _ _ _ c.args.atoms.now c.loop-goes_on.atoms c.step.new.atoms c.loop-goes_on.goes_on _
+    c.behind.ensures c.loop-goes_on-test.true c.loop-goes_on.invariant c.in_ok-taken.ensures.value c.in_ok-taken.ensures.within refl

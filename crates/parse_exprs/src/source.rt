@@ -12,6 +12,7 @@ use script_grammar::brackets::Brackets;
 use script_grammar::token::{Kind, Token};
 
 /// The tokens that a parser reads, which of them match as brackets, and the atoms of `get` and `set`.
+#[derive(Drop)]
 pub struct Source<'a> {
     pub tokens: &'a [Token],
     pub brackets: &'a Brackets,

@@ -33,3 +33,8 @@ pub returns-else-is_of-clause-belongs : goal.returns-else-is_of-clause-belongs
 returns-else-is_of-clause-belongs g c =
     subst (λ (p : PassView). BelongsTo p c.args.self.now) (sym c.look.ensures.pass)
     (belongs_known c.args.pass.now c.args.self.now c.args.number c.requires.belongs c.requires.number (option_map (λ found. found.now) c.look.result) c.look.ensures.agrees)
+
+pub returns-in-None-clause-belongs : goal.returns-in-None-clause-belongs
+returns-in-None-clause-belongs g c =
+    subst (λ (p : PassView). BelongsTo p c.args.self.now) (sym c.look.ensures.pass)
+    (belongs_known c.args.pass.now c.args.self.now c.args.number c.requires.belongs c.requires.number (option_map (λ found. found.now) c.look.result) c.look.ensures.agrees)

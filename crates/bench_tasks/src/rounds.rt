@@ -75,3 +75,11 @@ pub fn sum(outs: &[u64]) -> u64 {
     outs.iter()
         .fold(0, |total, out| u64::wrapping_add(total, *out))
 }
+
+/// How many tasks the workers ran together.
+pub fn ran_by_all(shares: &[Vec<u32>]) -> u64 {
+    shares.iter().fold(
+        0,
+        |total, share| u64::wrapping_add(total, share.len() as u64),
+    )
+}

@@ -4,7 +4,7 @@ use Rattle.std.specs.Prelude.{if◌then◌else◌, slice_index_or, slice_set}
 use Rattle.std.proofs.lemmas.List.{get_or-set_same, get_or-set_other, length-set}
 use Rattle.lazy_compile.specs.declared.Delazified.{Delazified}
 use Rattle.stencil_board.specs.Views.{ResultView, BoardView, PassView}
-use Rattle.stencil_board.specs.Passes.{BelongsTo, IsNumberOf, HasNumber, Keeps, Stands, at_hand, first_of, fitting, is_of, known_of, own_of, with_known, with_own}
+use Rattle.stencil_board.specs.Passes.{BelongsTo, HasAnother, IsNumberOf, HasNumber, Keeps, Stands, at_hand, first_of, fitting, is_of, kept_of, known_of, own_of, with_known, with_own}
 
 -- ---- lists
 
@@ -60,11 +60,41 @@ module _ (pass : PassView) (board : BoardView) (number : ℕ) (belongs : Belongs
   place_own : number - 1 < length pass.own
   place_own = let low = n.0 in let high = n.1 in let own = belongs.own in omega (arith, low, high, own)
 
-  pub belongs_known : (o : Option ResultView) → BelongsTo (with_known pass number o) board
-  belongs_known o = record { file = belongs.file; cells = belongs.cells; known = length-set pass.known (number - 1) o ∙ belongs.known; own = belongs.own }
+  -- what was another function's result is known still
+  another_known : (o : Option ResultView) → Stands (known_of pass number) o → (k : ℕ) → HasAnother pass k → HasAnother (with_known pass number o) k
+  another_known o stands k a = record { other = a.other; known = set_stands pass.known (number - 1) (k - 1) o place_known stands a.other a.known; apart = a.apart }
 
-  pub belongs_own : (o : Option ResultView) → BelongsTo (with_own pass number o) board
-  belongs_own o = record { file = belongs.file; cells = belongs.cells; known = belongs.known; own = length-set pass.own (number - 1) o ∙ belongs.own }
+  pub belongs_known : (o : Option ResultView) → Stands (known_of pass number) o → BelongsTo (with_known pass number o) board
+  belongs_known o stands = record {
+    file = belongs.file;
+    cells = belongs.cells;
+    known = length-set pass.known (number - 1) o ∙ belongs.known;
+    own = belongs.own;
+    beside = record { another = λ k r low e. another_known o stands k (belongs.beside.another k r low e) };
+  }
+
+  another_own : (o : Option ResultView) → HasAnother pass number → (k : ℕ) (s : ResultView) → 1 ≤ k → kept_of (with_own pass number o) k ≡ Some s → HasAnother (with_own pass number o) k
+  another_own o a k s low e = by (same_place (number - 1) (k - 1))
+    where
+      moved : HasAnother pass k → HasAnother (with_own pass number o) k
+      moved b = record { other = b.other; known = b.known; apart = b.apart }
+
+      by : (k - 1 ≡ number - 1) ⊎ (k - 1 ≢ number - 1) → HasAnother (with_own pass number o) k
+      by (inl same) =
+          let one = n.0 in
+          let here : number ≡ k = omega (arith, low, one, same) in
+          moved (subst (HasAnother pass) here a)
+      by (inr apart) = moved (belongs.beside.another k s low (sym (get_or-set_other pass.own (number - 1) (k - 1) o None apart) ∙ e))
+
+  -- it keeps something beside another function's result
+  pub belongs_own : (o : Option ResultView) → HasAnother pass number → BelongsTo (with_own pass number o) board
+  belongs_own o a = record {
+    file = belongs.file;
+    cells = belongs.cells;
+    known = belongs.known;
+    own = length-set pass.own (number - 1) o ∙ belongs.own;
+    beside = record { another = another_own o a };
+  }
 
   pub known_then : (o : Option ResultView) → known_of (with_known pass number o) number ≡ o
   known_then o = get_or-set_same pass.known (number - 1) o None place_known

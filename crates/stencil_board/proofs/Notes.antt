@@ -4,7 +4,7 @@ use Rattle.std.specs.Prelude.{slice_index_or}
 use Rattle.std.proofs.Math.Seq.{map-set_same}
 use Rattle.std.proofs.lemmas.List.{get_or-map, map-set, length-map}
 use Rattle.stencil_board.specs.Views.{ResultView, PassView}
-use Rattle.stencil_board.specs.Passes.{AgreeAt, AgreesWith, with_known}
+use Rattle.stencil_board.specs.Passes.{AgreeAt, AgreesWith, KeepsOwnBesideOthers, with_known}
 
 -- two lists whose elements are named alike, one for one
 pub named_alike : {A B : Type 0} (f : A → ℕ) (g : B → ℕ) (xs : List A) (ys : List B) (i : ℕ) (x : A) (y : B) → map f xs ≡ map g ys → i < length ys → x ≡ get_or xs i x → y ≡ get_or ys i y → f x ≡ g y
@@ -35,6 +35,14 @@ pub none_there : (n k : ℕ) → ◌≡◌ {A = Option ResultView} (slice_index_
 none_there zero k = refl
 none_there (suc n) zero = refl
 none_there (suc n) (suc k) = none_there n k
+
+-- a pass that keeps nothing keeps nothing for itself alone
+pub keeps_none : (pass : PassView) (n : ℕ) → pass.own ≡ replicate n None → KeepsOwnBesideOthers pass
+keeps_none pass n none = record {
+  another = λ number r low e.
+      let clash : ◌≡◌ {A = Option ResultView} None (Some r) = sym (none_there n (number - 1)) ∙ sym (ap (λ (xs : List (Option ResultView)). slice_index_or xs (number - 1) None) none) ∙ e in
+      absurd (cc);
+}
 
 -- ---- two passes
 

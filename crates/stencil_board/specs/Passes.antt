@@ -1,5 +1,5 @@
 -- What a pass knows of the cells of a board, and what it has of the functions. This project's own choice.
-use Rattle.std.specs.Prelude.{◌≡◌, ◌≢◌, ℕ, zero, suc, ◌+◌, ◌-◌, ◌≤◌, Bool, true, ◌&&◌, if◌then◌else◌, is_none, nat_eq, List, length, Option, Some}
+use Rattle.std.specs.Prelude.{◌≡◌, ◌≢◌, ℕ, zero, suc, ◌+◌, ◌-◌, ◌≤◌, Bool, true, false, ◌&&◌, if◌then◌else◌, is_none, nat_eq, List, length, Option, Some}
 use Rattle.std.specs.Prelude.{None, slice_index_or, slice_set}
 use Rattle.lazy_compile.specs.declared.Delazified.{Delazified}
 use Rattle.compile_initial.specs.declared.InitialStencil.{InitialStencil}
@@ -28,20 +28,38 @@ IsNumberOf board number = (1 ≤ number) × (number ≤ length board.cells)
 
 -- ---- what a pass knows
 
+-- whether the result is that of this function
+abbrev pub is_of : (file number : ℕ) → ResultView → Bool
+is_of file number r = nat_eq r.file file && nat_eq r.number number
+
+-- what it knows of the cell of this function; what it keeps itself beside it
+abbrev pub known_of : PassView → ℕ → Option ResultView
+known_of pass number = slice_index_or pass.known (number - 1) None
+
+abbrev pub kept_of : PassView → ℕ → Option ResultView
+kept_of pass number = slice_index_or pass.own (number - 1) None
+
+-- it knows that the cell of this function keeps the result of another one
+pub record HasAnother (pass : PassView) (number : ℕ) : Type 0 where
+  pub other : ResultView
+  pub known : known_of pass number ≡ Some other
+  pub apart : is_of pass.file number other ≡ false
+
+-- what it keeps itself stands beside the result of another function
+pub record KeepsOwnBesideOthers (pass : PassView) : Type 0 where
+  pub another : (number : ℕ) (r : ResultView) → 1 ≤ number → kept_of pass number ≡ Some r → HasAnother pass number
+
 -- the pass is one of the board
 pub record BelongsTo (pass : PassView) (board : BoardView) : Type 0 where
   pub file : pass.file ≡ board.file
   pub cells : pass.cells ≡ board.cells
   pub known : length pass.known ≡ length board.cells
   pub own : length pass.own ≡ length board.cells
+  pub beside : KeepsOwnBesideOthers pass
 
 -- the pass has a place for this function
 abbrev pub HasNumber : PassView → ℕ → Type 0
 HasNumber pass number = (1 ≤ number) × (number ≤ length pass.own)
-
--- what it knows of the cell of this function
-abbrev pub known_of : PassView → ℕ → Option ResultView
-known_of pass number = slice_index_or pass.known (number - 1) None
 
 -- the pass once it knows this of the cell of this function; once it keeps this beside it
 abbrev pub with_known : PassView → ℕ → Option ResultView → PassView
@@ -64,10 +82,6 @@ AgreesWith one two = (number : ℕ) (r s : ResultView) → known_of one number �
 
 -- ---- what a pass has at hand
 
--- whether the result is that of this function
-abbrev pub is_of : (file number : ℕ) → ResultView → Bool
-is_of file number r = nat_eq r.file file && nat_eq r.number number
-
 abbrev pub fitting : (file number : ℕ) → Option ResultView → Option Delazified
 fitting file number None = None
 fitting file number (Some r) = if is_of file number r then Some r.made else None
@@ -78,7 +92,7 @@ first_of (Some made) other = Some made
 
 -- what it keeps itself for this function
 abbrev pub own_of : PassView → ℕ → Option Delazified
-own_of pass number = fitting pass.file number (slice_index_or pass.own (number - 1) None)
+own_of pass number = fitting pass.file number (kept_of pass number)
 
 -- what it has for this function: what it keeps itself, else the value of the cell, if that is of this function
 abbrev pub at_hand : PassView → ℕ → Option Delazified

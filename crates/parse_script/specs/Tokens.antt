@@ -3,6 +3,7 @@ use Rattle.std.specs.Prelude.{ℕ, true, ◌≡◌, ◌≤◌, List, map, length
 use Rattle.std.specs.List.{AllByRecursion}
 use Rattle.script_grammar.specs.declared.token.Token.{Token}
 use Rattle.script_grammar.specs.Lexeme.{Lexeme, lexeme_of}
+use Rattle.script_grammar.specs.Matching.{IsMatching, kinds_of}
 use Rattle.parser_atoms.specs.Places.{AreWithoutEquals}
 use Rattle.script_scanner.specs.Lexemes.{lexemes}
 use Rattle.script_scanner.specs.Stands.{HasOneLast}
@@ -21,11 +22,12 @@ abbrev pub AtomWithin : ℕ → Token → Type 0
 AtomWithin count t = has_atom t.kind ≡ true → t.value < count
 
 -- What is known of the tokens of a file: as many as a parser takes, the last of them End or Bad and no other, from rising
--- offsets on, without empty names; the texts are fewer than 2^31, each of fewer than 2^32 units, and have no equals, each atom of
--- a token is the index of one of them, and the known words are the first of them.
+-- offsets on, without empty names; the brackets are those of them that match; the texts are fewer than 2^31, each of fewer than
+-- 2^32 units, and have no equals, each atom of a token is the index of one of them, and the known words are the first of them.
 pub record IsSound (file : FileTokens) : Type 0 where
   pub scanned : IsScanned file.tokens.items
   pub last : HasOneLast file.tokens.items
+  pub matched : IsMatching (kinds_of file.tokens.items) file.brackets
   pub rise : TokensRise 0 (tokens_in file)
   pub names : NamesAreFull (tokens_in file)
   pub apart : AreWithoutEquals file.texts.items

@@ -11,6 +11,7 @@ ghost use Rattle.parse_script.specs.Tokens.{tokens_in, IsSound};
 
 use parse_track::region::WellKnownAtoms;
 use parser_atoms::Atoms;
+use script_grammar::brackets::Brackets;
 use script_grammar::token::Token;
 use script_scanner::{scan, scan_ascii};
 use std::alloc::Global;
@@ -18,10 +19,11 @@ use stencil_data::Text;
 use track_atoms::known_words;
 use unit_text::{DecodeFault, decode};
 
-/// The tokens of a file, and the texts that their atoms index; `known` has the atoms of the known words.
+/// The tokens of a file, which of them match as brackets, and the texts that their atoms index; `known` has the atoms of the known words.
 #[derive(Drop)]
 pub struct FileTokens {
     pub tokens: Vec<Token>,
+    pub brackets: Brackets,
     pub texts: Vec<Text>,
     pub known: WellKnownAtoms,
 }
@@ -38,8 +40,10 @@ pub fn tokens_of(alloc: Global, bytes: &[u8]) -> Result<FileTokens, DecodeFault>
     let known = known_words(alloc, &mut atoms)?;
     let tokens = scan_file(alloc, bytes, &mut atoms)?;
     let texts = atoms.into_texts();
+    let brackets = Brackets::of(alloc, &tokens)?;
     Ok(FileTokens {
         tokens,
+        brackets,
         texts,
         known,
     })

@@ -7,10 +7,9 @@ ghost use Rattle.parse_script.specs.Tokens.{tokens_in, IsSound};
 
 use crate::file_tokens::FileTokens;
 use parse_bodies::whole::{Script, whole};
-use parse_exprs::place::{Cursor, ParseFault};
+use parse_exprs::place::ParseFault;
 use parse_exprs::source::Source;
 use parse_exprs::state::State;
-use script_grammar::brackets::Brackets;
 use script_grammar::handler::Handler;
 use std::alloc::Global;
 
@@ -24,28 +23,13 @@ pub fn read_script<H: Handler + Drop>(
     requires { IsSound file.now }
     ensures { (bodies : ℕ → Stmts) → IsReadingBy H.shows_body (under file.now.texts.items bodies) (tokens_in file.now) result }
 {
-    let brackets = Brackets::of(alloc, &file.tokens)?;
-    let source = Source::new(&file.tokens, &brackets, file.known.get, file.known.set);
-    let mut state = State {
-        place: Cursor {
-            at: 0,
-            pending: Vec::new(alloc),
-        },
-        handler,
-        alloc,
-    };
-    let read = whole(&mut state, &source);
-    let State {
-        place: _,
-        handler: _,
-        alloc: _,
-    } = state;
-    let Source {
-        tokens: _,
-        brackets: _,
-        get: _,
-        set: _,
-    } = source;
-    let script = read?;
+    let source = Source::new(
+        &file.tokens,
+        &file.brackets,
+        file.known.get,
+        file.known.set,
+    );
+    let mut state = State::start(alloc, handler);
+    let script = whole(&mut state, &source)?;
     Ok(script)
 }

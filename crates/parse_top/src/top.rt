@@ -9,11 +9,10 @@ ghost use Rattle.parse_script.specs.Tokens.{tokens_in, IsSound};
 ghost use Rattle.parse_top.specs.Top.{AreAScript, IsTopOf, ShowsTop};
 
 use parse_bodies::scripts::script;
-use parse_exprs::place::{Cursor, ParseFault};
+use parse_exprs::place::ParseFault;
 use parse_exprs::source::Source;
 use parse_exprs::state::State;
 use parse_script::FileTokens;
-use script_grammar::brackets::Brackets;
 use script_grammar::handler::Handler;
 use std::alloc::{AllocError, Global};
 
@@ -37,37 +36,21 @@ fn top_in<H: Handler + Drop>(
     requires { IsSound file.now }
     ensures { (bodies : ℕ → Stmts) → IsTopOf H.shows_body (under file.now.texts.items bodies) (tokens_in file.now) result }
 {
-    let brackets = Brackets::of(alloc, &file.tokens)?;
-    let source = Source::new(&file.tokens, &brackets, file.known.get, file.known.set);
-    let mut state = State {
-        place: Cursor {
-            at: 0,
-            pending: Vec::new(alloc),
-        },
-        handler,
-        alloc,
-    };
-    let read = outermost(&mut state, &source);
-    let State {
-        place: _,
-        handler: _,
-        alloc: _,
-    } = state;
-    let Source {
-        tokens: _,
-        brackets: _,
-        get: _,
-        set: _,
-    } = source;
-    let top = read?;
+    let source = Source::new(
+        &file.tokens,
+        &file.brackets,
+        file.known.get,
+        file.known.set,
+    );
+    let mut state = State::start(alloc, handler);
+    let top = outermost(&mut state, &source)?;
     Ok(top)
 }
 
 /// The node that the handler makes of the statements of the script that the tokens are. The bodies of functions in braces are
 /// passed over, as tokens whose brackets match.
 ///
-/// Time is linear in the tokens; memory is that of their brackets, of the handler's nodes, and of a few words for each body
-/// that is passed over.
+/// Time is linear in the tokens; memory is that of the handler's nodes, and of a few words for each body that is passed over.
 pub fn read_top<H: Handler + Drop>(
     alloc: Global,
     file: &FileTokens,

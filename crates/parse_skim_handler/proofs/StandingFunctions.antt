@@ -22,8 +22,10 @@ use Rattle.parse_handlers.specs.Inner as inner
 use Rattle.parse_early_handler.specs.Firsts.{are_more, is_some_or}
 use Rattle.parse_early_handler.proofs.Expressions.{inside}
 use Rattle.parse_early_handler.proofs.Functions.{braced-first, deferred-first, more-is, more_params, params_many, short-first}
+use Rattle.parse_track_handler.specs.Parts as listed
+use Rattle.parse_track_handler.specs.Parts.{have_initializer}
 use Rattle.parse_track_handler.proofs.Saying.{passed-says, read-says, told-same}
-use Rattle.parse_skim_handler.specs.Kept.{body_means, function_around, function_means, has_braces, have_initializer, inside_means, named_means, own_means, param_means}
+use Rattle.parse_skim_handler.specs.Kept.{body_means, function_around, function_means, has_braces, inside_means, named_means, own_means, param_means}
 use Rattle.parse_skim_handler.specs.Meaning.{Meaning, all_meant}
 use Rattle.parse_skim_handler.specs.Means.{Owed, Stands, error_owed, name_owed, then_owed}
 use Rattle.parse_skim_handler.specs.Packed.{expr_errors}
@@ -134,7 +136,7 @@ module _ (i : Interpretation) where
 
   -- what the parameters are
   initial-next : (name : model.Named) (o : Option SkimExpr) (v : Option model.Expr) (rest more : Bool) (ps : model.Params) → ShowMaybe (SkimsExpr i) o v → more ≡ tell.has_initializer ps
-      → is_some_or o more ≡ tell.has_initializer (model.more_params name (maybe_expr_of v) rest ps)
+      → listed.is_some_or o more ≡ tell.has_initializer (model.more_params name (maybe_expr_of v) rest ps)
   initial-next name None None rest more ps s e = e
   initial-next name None (Some t) rest more ps s e = absurd s
   initial-next name (Some o) None rest more ps s e = absurd s

@@ -30,9 +30,9 @@ use Rattle.parse_track.specs.Told as told
 use Rattle.parse_handlers.specs.Inner.{Inner, no_inner, more_inner, kind_of, text_of_name}
 use Rattle.parse_handlers.specs.FoundOf.{FoundAs, founds_before}
 use Rattle.parse_handlers.specs.declared.found.FoundFunction.{FoundFunction}
-use Rattle.parse_early_handler.specs.Firsts.{are_more, const_first, is_some_or, many_args, many_params, strict_error, target_first}
+use Rattle.parse_early_handler.specs.Firsts.{are_more, const_first, many_args, many_params, strict_error, target_first}
 use Rattle.parse_track_handler.specs.Pieces.{Rest, piece_says, says_passed, says_read, says_region}
-use Rattle.parse_track_handler.specs.Parts.{declares_as}
+use Rattle.parse_track_handler.specs.Parts.{declares_as, have_initializer}
 use Rattle.parse_skim_handler.specs.declared.kept.Kept.{Kept}
 use Rattle.parse_skim_handler.specs.declared.nodes.SkimBody.{SkimBody}
 use Rattle.parse_skim_handler.specs.declared.nodes.SkimExpr.{SkimExpr}
@@ -163,10 +163,6 @@ body_means i more start (bodies.Passed) = said_meant (says_passed i start)
 abbrev pub own_means : Interpretation → (own more : Bool) → (start : ℕ) → NodeFuncBody SkimExpr SkimBody → Meaning
 own_means i true more start body = region_meant told.VarBody 0 (body_means i more start body)
 own_means i false more start body = body_means i more start body
-
-abbrev pub have_initializer : List (NodeParam SkimExpr) → Bool
-have_initializer [] = false
-have_initializer (n ∷ ns) = is_some_or n.value (have_initializer ns)
 
 -- whether a body stands in braces, read or passed over
 abbrev pub has_braces : NodeFuncBody SkimExpr SkimBody → Bool

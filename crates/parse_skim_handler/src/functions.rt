@@ -8,7 +8,7 @@ ghost use Rattle.track_log_laws.specs.Spelled.{region_text};
 ghost use Rattle.parse_handlers.specs.FoundOf.{found_of};
 ghost use Rattle.parse_handlers.specs.Inner.{kind_of};
 ghost use Rattle.parse_early_handler.specs.Firsts.{strict_error};
-ghost use Rattle.parse_skim_handler.specs.Kept.{Adds, Means, found_as, has_braces, have_initializer};
+ghost use Rattle.parse_skim_handler.specs.Kept.{Adds, Means, found_as, has_braces};
 ghost use Rattle.parse_skim_handler.specs.Kept.{body_means, function_means, inside_means, named_means, own_means, param_means, read_means};
 
 use crate::kept::{Kept, Skim, declared, nothing, of_error, region, with_error, with_said};
@@ -19,7 +19,7 @@ use parse_early_handler::limits::many_params;
 use parse_early_handler::parts::are_more;
 use parse_handlers::FoundFunction;
 use parse_track::region::{Declare, Early, Region};
-use parse_track_handler::Piece;
+use parse_track_handler::{Piece, has_initializer};
 use script_grammar::node::{NodeFunc, NodeFuncBody, NodeParam};
 use script_grammar::token::FuncForm;
 use script_grammar::tree::Ident;
@@ -151,19 +151,6 @@ fn is_braced(body: &NodeFuncBody<SkimExpr, SkimBody>) -> bool
         NodeFuncBody::Short(_) => false,
         NodeFuncBody::Passed => true,
     }
-}
-
-/// Whether a parameter has an initializer.
-fn has_initializer(params: &[NodeParam<SkimExpr>]) -> bool
-    ensures { result ≡ have_initializer params.now }
-{
-    for param in params {
-        match &param.value {
-            Some(_) => return true,
-            None => {}
-        }
-    }
-    false
 }
 
 /// What stands in a function: its parameters and its body.

@@ -84,7 +84,8 @@ abbrev pub is_some_or : {A : Type 0} → Option A → Bool → Bool
 is_some_or None more = more
 is_some_or (Some _) more = true
 
-abbrev pub have_initializer : List (NodeParam Piece) → Bool
+-- whether a parameter has an initializer
+abbrev pub have_initializer : {E : Type 0} → List (NodeParam E) → Bool
 have_initializer [] = false
 have_initializer (n ∷ ns) = is_some_or n.value (have_initializer ns)
 

@@ -20,5 +20,6 @@ pub mod telling;
 mod tells;
 pub mod walk;
 
+pub use parts::has_initializer;
 pub use piece::{Piece, ToldStmt};
 pub use telling::Telling;

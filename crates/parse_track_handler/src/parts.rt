@@ -162,8 +162,8 @@ fn function_region(form: FuncForm) -> Region
     }
 }
 
-// Whether a parameter has an initializer.
-fn has_initializer(params: &[NodeParam<Piece>]) -> bool
+/// Whether a parameter has an initializer.
+pub fn has_initializer<E>(params: &[NodeParam<E>]) -> bool
     ensures { result ≡ have_initializer params.now }
 {
     for param in params {

@@ -23,12 +23,7 @@ pub fn read_script<H: Handler + Drop>(
     requires { IsSound file.now }
     ensures { (bodies : ℕ → Stmts) → IsReadingBy H.shows_body (under file.now.texts.items bodies) (tokens_in file.now) result }
 {
-    let source = Source::new(
-        &file.tokens,
-        &file.brackets,
-        file.known.get,
-        file.known.set,
-    );
+    let source = Source::new(&file.tokens, &file.brackets, file.known.get, file.known.set);
     let mut state = State::start(alloc, handler);
     let script = whole(&mut state, &source)?;
     Ok(script)

@@ -36,12 +36,7 @@ fn top_in<H: Handler + Drop>(
     requires { IsSound file.now }
     ensures { (bodies : ℕ → Stmts) → IsTopOf H.shows_body (under file.now.texts.items bodies) (tokens_in file.now) result }
 {
-    let source = Source::new(
-        &file.tokens,
-        &file.brackets,
-        file.known.get,
-        file.known.set,
-    );
+    let source = Source::new(&file.tokens, &file.brackets, file.known.get, file.known.set);
     let mut state = State::start(alloc, handler);
     let top = outermost(&mut state, &source)?;
     Ok(top)

@@ -68,15 +68,19 @@ module _ (i : Interpretation) (f : FuncForm) (n : f ≡ form.Script → ⊥) (ts
       let closed : Closed (take (suc m.stop) (t.inner ++ t.end ∷ [])) = subst Closed (front_is ∙ ap (take (suc m.stop)) t.split) (ended s is i).closed in
       front_is ∙ ap (take (suc m.stop)) t.split ∙ cut_is_all (suc m.stop) t.inner t.end balanced closed ∙ sym t.split
 
-  pub node_is : (stop : ℕ) (node : NodeFunc code.Expr (Vec Stmt Global)) → IsAlone i (IsExpr i) (IsBody i) s f 0 stop (Ok node) → (x : Function) → AreFunction all f x → kept_func i node ≡ fill_inside (body_at i) x
-  node_is stop node k x t =
+  pub node_is : (at stop : ℕ) (node : NodeFunc code.Expr (Vec Stmt Global)) → at ≡ 0 → IsAlone i (IsExpr i) (IsBody i) s f at stop (Ok node) → (x : Function) → AreFunction all f x → kept_func i node ≡ fill_inside (body_at i) x
+  node_is at stop node begins read x t =
+      let k = subst (λ (n : ℕ). IsAlone i (IsExpr i) (IsBody i) s f n stop (Ok node)) begins read in
       func_shown i node (fill_inside (body_at i) x)
       (taken_is i f n (front s i 0) x (subst (λ (us : List Lexeme). AreFunction us f x) (sym (all_there x t)) t) (IsExpr i) (IsBody i) (front s i stop) node k.1)
 
-  pub fault_is : (stop : ℕ) (e : ParseFault) → IsAlone {E = code.Expr} {B = Vec Stmt Global} i (IsExpr i) (IsBody i) s f 0 stop (Err e) → IsReadAlone i all f (Err e)
-  fault_is stop (faults.Unexpected token) k = λ x t. is_no_fault i f n (front s i 0) x (subst (λ (us : List Lexeme). AreFunction us f x) (sym (all_there x t)) t) k.1
-  fault_is stop (faults.TooDeep token) k = λ x t. is_no_fault i f n (front s i 0) x (subst (λ (us : List Lexeme). AreFunction us f x) (sym (all_there x t)) t) k.1
-  fault_is stop faults.NoMemory k = tt
+  fault_at_start : (stop : ℕ) (e : ParseFault) → IsAlone {E = code.Expr} {B = Vec Stmt Global} i (IsExpr i) (IsBody i) s f 0 stop (Err e) → IsReadAlone i all f (Err e)
+  fault_at_start stop (faults.Unexpected token) k = λ x t. is_no_fault i f n (front s i 0) x (subst (λ (us : List Lexeme). AreFunction us f x) (sym (all_there x t)) t) k.1
+  fault_at_start stop (faults.TooDeep token) k = λ x t. is_no_fault i f n (front s i 0) x (subst (λ (us : List Lexeme). AreFunction us f x) (sym (all_there x t)) t) k.1
+  fault_at_start stop faults.NoMemory k = tt
+
+  pub fault_is : (at stop : ℕ) (e : ParseFault) → at ≡ 0 → IsAlone {E = code.Expr} {B = Vec Stmt Global} i (IsExpr i) (IsBody i) s f at stop (Err e) → IsReadAlone i all f (Err e)
+  fault_is at stop e begins k = fault_at_start stop e (subst (λ (n : ℕ). IsAlone {E = code.Expr} {B = Vec Stmt Global} i (IsExpr i) (IsBody i) s f n stop (Err e)) begins k)
 
 -- a fault is handed on
 pub fault_on : (i : Interpretation) (tokens : List Lexeme) (f : FuncForm) (e : ParseFault) (r : Result Func ParseFault) → IsErrAnd r (λ y. y ≡ e) → IsReadAlone i tokens f (Err e) → IsReadAlone i tokens f r

@@ -6,7 +6,7 @@ ghost use Rattle.script_grammar.specs.Lexeme.{lexeme_of};
 ghost use Rattle.parse_exprs.specs.Source.{IsScanned};
 ghost use Rattle.parse_function.specs.Alone.{IsReadAlone};
 
-use parse_exprs::place::{Cursor, ParseFault};
+use parse_exprs::place::ParseFault;
 use parse_exprs::source::Source;
 use parse_exprs::state::State;
 use parse_handlers::Full;
@@ -32,26 +32,8 @@ pub(crate) fn function_of(
 {
     let brackets = Brackets::of(alloc, tokens)?;
     let source = Source::new(tokens, &brackets, known.get, known.set);
-    let mut state = State {
-        place: Cursor {
-            at: 0,
-            pending: Vec::new(alloc),
-        },
-        handler: Full::new(alloc),
-        alloc,
-    };
-    let read = alone(&mut state, &source, form);
-    let State {
-        place: _,
-        mut handler,
-        alloc: _,
-    } = state;
-    let Source {
-        tokens: _,
-        brackets: _,
-        get: _,
-        set: _,
-    } = source;
-    let func = handler.func(read?)?;
+    let mut state = State::start(alloc, Full::new(alloc));
+    let read = alone(&mut state, &source, form)?;
+    let func = state.handler.func(read)?;
     Ok(func)
 }

@@ -1,7 +1,8 @@
 -- Which characters a terminal is not to be given as themselves, by their numbers. The classes are those of the Unicode Standard; that these
 -- are hidden, and no others, is own choice.
-use Rattle.std.specs.Prelude.{ℕ, Bool, false, ◌==◌, ◌&&◌, ◌||◌, nat_le, if◌then◌else◌, List, ◌++◌, codes, encode_utf8}
+use Rattle.std.specs.Prelude.{ℕ, Bool, false, ◌==◌, ◌&&◌, ◌||◌, nat_le, if◌then◌else◌, List, [], ◌∷◌, ◌++◌, codes, encode_utf8}
 use Rattle.std.specs.Fmt.{digits}
+use Rattle.std.specs.Str.{chars}
 
 -- control characters: the general category Cc, U+0000 to U+001F and U+007F to U+009F
 unfoldable pub is_control : ℕ → Bool
@@ -26,3 +27,11 @@ escape code = codes "\\u{" ++ digits 16 false code ++ codes "}"
 -- what is shown of a character: a blank of a tab, an escape of one that is hidden, and else itself
 unfoldable pub shown : ℕ → List ℕ
 shown code = if code == 9 then codes " " else (if is_hidden code then escape code else encode_utf8 code)
+
+abbrev pub shown_all : List ℕ → List ℕ
+shown_all [] = []
+shown_all (code ∷ codes) = shown code ++ shown_all codes
+
+-- what is shown of a text in UTF-8
+abbrev pub shown_text : List ℕ → List ℕ
+shown_text text = shown_all (chars text)

@@ -1,7 +1,7 @@
 //! Characters of a source text, as they are shown on a terminal.
 
 ghost use Rattle.std.specs.Prelude.{◌≡◌, ◌++◌, OnOk, string_bytes};
-ghost use Rattle.holzikra_places.specs.Shown.{ends_line, escape, is_control, is_hidden, shown, turns_direction};
+ghost use Rattle.holzikra_places.specs.Shown.{ends_line, escape, is_control, is_hidden, shown, shown_text, turns_direction};
 
 use std::alloc::AllocError;
 use unicode_width::UnicodeWidthChar;
@@ -68,7 +68,9 @@ pub fn push_shown(into: &mut String, c: char) -> Result<(), AllocError>
 }
 
 /// Appends a text as it is shown.
-pub fn push_shown_text(into: &mut String, text: &str) -> Result<(), AllocError> {
+pub fn push_shown_text(into: &mut String, text: &str) -> Result<(), AllocError>
+    ensures { OnOk result (string_bytes into.new ≡ string_bytes into.old ++ shown_text text.now) }
+{
     for c in text.chars() {
         push_shown(into, c)?;
     }

@@ -37,7 +37,7 @@ pub(crate) fn list_image(
 }
 
 /// The line for a verdict on an image.
-fn image_line(
+pub(crate) fn image_line(
     alloc: Global,
     format: VerifyFormat,
     name: &str,

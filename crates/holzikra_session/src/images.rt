@@ -11,6 +11,14 @@ use holzikra_scripts::image_code;
 use holzikra_words::{LoadFormat, VerifyFormat};
 use std::alloc::{AllocError, Global};
 
+/// How the verdict on a file is written where its listing is written so.
+fn verdict_format(format: LoadFormat) -> VerifyFormat {
+    match format {
+        LoadFormat::Json => VerifyFormat::Json,
+        LoadFormat::Human | LoadFormat::Plain => VerifyFormat::Human,
+    }
+}
+
 /// Lists an image and counts it. The answer is what is to be written of it.
 pub(crate) fn list_image(
     alloc: Global,
@@ -30,7 +38,8 @@ pub(crate) fn list_image(
         }
         None => {
             tally.count_image(Verified::NoImage);
-            let line = human::image_line(alloc, name, Verified::NoImage)?;
+            let shown = verdict_format(format);
+            let line = image_line(alloc, shown, name, Verified::NoImage)?;
             Ok(line.into_bytes())
         }
     }

@@ -1,6 +1,7 @@
 //! The commands `load` and `verify`, for one image.
 
-ghost use Rattle.std.specs.Prelude.{IfOk};
+ghost use Rattle.std.specs.Prelude.{IfOk, string_bytes};
+ghost use Rattle.holzikra_session.specs.Answers.{IsVerdictLine};
 ghost use Rattle.holzikra_session.specs.Images.{IsImageCounted, IsListed, IsSavedCode};
 ghost use Rattle.holzikra_session.specs.declared.verdict.Verified.{Verified as AnyImage};
 
@@ -51,10 +52,15 @@ pub(crate) fn image_line(
     format: VerifyFormat,
     name: &str,
     found: Verified,
-) -> Result<String, AllocError> {
+) -> Result<String, AllocError>
+    ensures { IfOk result (λ line. IsVerdictLine format name.now found (string_bytes line)) }
+{
     match format {
         VerifyFormat::Human => human::image_line(alloc, name, found),
-        VerifyFormat::Json => json::image_line(alloc, name, found),
+        VerifyFormat::Json => {
+            let line = json::image_line(alloc, name, found)?;
+            Ok(line)
+        }
     }
 }
 

@@ -10,7 +10,7 @@ _holzikra() {
     *:scopes:--format) words="human plain json dot" ;;
     *:stats:--format) words="human json" ;;
     *:diff:--format) words="human json" ;;
-    *:load:--format) words="human plain" ;;
+    *:load:--format) words="human plain json" ;;
     *:verify:--format) words="human json" ;;
     *)
         case "$command:$word" in

@@ -105,7 +105,7 @@ _holzikra() {
             '*--all[enter node_modules and what begins with a point]' \
             '*--exclude[what of a folder is passed over; may be given again]:GLOB:' \
             '*--ext[which files of a folder are taken]:LIST:' \
-            '*--format[how code is listed]:format:(human plain)' \
+            '*--format[how code is listed]:format:(human plain json)' \
             '(-h --help)'{-h,--help}'[Print help]' \
             '*--stdin-name[what - is called]:NAME:' \
             '*:file:_files'

@@ -7,7 +7,8 @@
 //! main contracts: a text is counted by the verdict of its judge (`IsCounted` of `specs/Statuses.antt`); the plain listings of `code`
 //! and `scopes` are those of what its judge shows of the text, and the listing of `code` with notes is that one without them
 //! (`IsCode`, `AreScopes` of `specs/Compiling.antt`); a file that is taken as an image is counted by what its judge finds in it, and what was
-//! saved of a script is listed as that script is (`IsImageCounted`, `IsSavedCode` of `specs/Images.antt`); and the status is 1 exactly where a
+//! saved of a script is listed as that script is (`IsImageCounted`, `IsSavedCode` of `specs/Images.antt`); a line of JSON on a refusal has the
+//! place and the rule of its reason (`IsRefusalLine` of `specs/Answers.antt`); and the status is 1 exactly where a
 //! refusal was counted and nothing failed (`status_of`).
 #![tactic(auto)]
 

@@ -12,6 +12,8 @@ pub enum LoadFormat {
     Human,
     /// As `stencilc load` lists it.
     Plain,
+    /// A JSON object an image, one line each.
+    Json,
 }
 
 /// What `load` is asked for.
@@ -21,7 +23,7 @@ pub struct LoadOptions {
     pub format: LoadFormat,
 }
 
-static FORMATS: [&str; 2] = ["human", "plain"];
+static FORMATS: [&str; 3] = ["human", "plain", "json"];
 
 /// The command `load`.
 pub(crate) fn command<'a>(alloc: Global) -> Result<Command<'a>, AllocError> {
@@ -35,6 +37,7 @@ pub(crate) fn command<'a>(alloc: Global) -> Result<Command<'a>, AllocError> {
 fn format_of(word: &str) -> LoadFormat {
     match word {
         "plain" => LoadFormat::Plain,
+        "json" => LoadFormat::Json,
         _ => LoadFormat::Human,
     }
 }

@@ -4,12 +4,14 @@ use crate::complaint::complain;
 use crate::human::image_line;
 use crate::reading::{image_of, input_image};
 use crate::refusal::{Said, Showing, answer_refused};
+use crate::screen::{Surroundings, print_answer};
 use crate::status::{Status, Tally};
 use crate::verdict::{Compiled, Judge, Reason, Verified};
+use holzikra_colours::Answer;
 use holzikra_scripts::{Compared, compare_scripts};
-use holzikra_words::{DiffOptions, Format};
+use holzikra_words::{DiffFormat, DiffOptions, Format};
 use std::io;
-use std::io::{ErrorKind, Write};
+use std::io::ErrorKind;
 use std::rt::Runtime;
 use stencil_data::MergedStencil;
 use stencil_xdr_read::{ImageFault, read_image};
@@ -60,7 +62,12 @@ fn file_of<'a, R: Runtime + AllocGlobal>(
 }
 
 /// Writes why a text is refused, as `check` does.
-fn refuse<R: Runtime + AllocGlobal>(rt: &R, file: &File<'_>, reason: Reason) -> io::Result<()> {
+fn refuse<R: Runtime + AllocGlobal>(
+    rt: &R,
+    colors: bool,
+    file: &File<'_>,
+    reason: Reason,
+) -> io::Result<()> {
     let alloc = rt.alloc();
     let mut tally = Tally::new();
     let mut said = Said::new(alloc);
@@ -74,17 +81,18 @@ fn refuse<R: Runtime + AllocGlobal>(rt: &R, file: &File<'_>, reason: Reason) -> 
         &mut tally,
         &mut said,
     )?;
-    io::writer(rt).write_all(lines.as_bytes())
+    print_answer(rt, colors, Answer::Refusals, lines.into_bytes())
 }
 
 /// Writes why a file is refused that is taken as an image, as `verify` does.
 fn refuse_image<R: Runtime + AllocGlobal>(
     rt: &R,
+    colors: bool,
     file: &File<'_>,
     found: Verified,
 ) -> io::Result<Side> {
     let line = image_line(rt.alloc(), file.name, found)?;
-    io::writer(rt).write_all(line.as_bytes())?;
+    print_answer(rt, colors, Answer::Images, line.into_bytes())?;
     Ok(Side::Refused)
 }
 
@@ -92,13 +100,14 @@ fn refuse_image<R: Runtime + AllocGlobal>(
 fn script_of<R: Runtime + AllocGlobal, J: Judge>(
     rt: &R,
     judge: &J,
+    colors: bool,
     file: &File<'_>,
 ) -> io::Result<Side> {
     let compiled = judge.compile(rt.alloc(), &file.bytes, &[])?;
     match compiled {
         Compiled::Script(stencil, _) => Ok(Side::Script(stencil)),
         Compiled::Refused(reason) => {
-            refuse(rt, file, reason)?;
+            refuse(rt, colors, file, reason)?;
             Ok(Side::Refused)
         }
         Compiled::NoFunction(_) => unreachable!(),
@@ -109,16 +118,19 @@ fn script_of<R: Runtime + AllocGlobal, J: Judge>(
 fn side_of<R: Runtime + AllocGlobal, J: Judge>(
     rt: &R,
     judge: &J,
+    colors: bool,
     file: &File<'_>,
 ) -> io::Result<Side> {
     let found = judge.verify(rt.alloc(), &file.bytes)?;
     match found {
-        Verified::Unsound { .. } => refuse_image(rt, file, found),
-        Verified::NoImage if file.name.ends_with(IMAGE_END) => refuse_image(rt, file, found),
-        Verified::NoImage => script_of(rt, judge, file),
+        Verified::Unsound { .. } => refuse_image(rt, colors, file, found),
+        Verified::NoImage if file.name.ends_with(IMAGE_END) => refuse_image(
+            rt, colors, file, found,
+        ),
+        Verified::NoImage => script_of(rt, judge, colors, file),
         Verified::Sound { .. } => match read_image(rt.alloc(), &file.bytes) {
             Ok(stencil) => Ok(Side::Image(stencil)),
-            Err(ImageFault::NoImage) => refuse_image(rt, file, Verified::NoImage),
+            Err(ImageFault::NoImage) => refuse_image(rt, colors, file, Verified::NoImage),
             Err(ImageFault::NoMemory) => Err(ErrorKind::OutOfMemory.into()),
         },
     }
@@ -145,15 +157,17 @@ fn compare<R: Runtime + AllocGlobal, J: Judge>(
     options: &DiffOptions,
     old: &File<'_>,
     new: &File<'_>,
+    around: Surroundings,
 ) -> io::Result<Status> {
-    let old_side = side_of(rt, judge, old)?;
-    let new_side = side_of(rt, judge, new)?;
+    let colors = options.format == DiffFormat::Human && around.colors(options.colors);
+    let old_side = side_of(rt, judge, colors, old)?;
+    let new_side = side_of(rt, judge, colors, new)?;
     let (Some(before), Some(after)) = (compared_of(old, &old_side), compared_of(new, &new_side))
     else {
         return Ok(Status::Trouble);
     };
     let comparison = compare_scripts(rt.alloc(), options.format, before, after)?;
-    io::writer(rt).write_all(&comparison.lines)?;
+    print_answer(rt, colors, Answer::Difference, comparison.lines)?;
     if comparison.differs {
         Ok(Status::Refused)
     } else {
@@ -166,12 +180,13 @@ pub(crate) fn diff_files<R: Runtime + AllocGlobal, J: Judge>(
     rt: &R,
     judge: &J,
     options: &DiffOptions,
+    around: Surroundings,
 ) -> io::Result<Status> {
     let stdin_name = options.stdin_name.as_str();
     let old = file_of(rt, options.old.as_str(), stdin_name)?;
     let new = file_of(rt, options.new.as_str(), stdin_name)?;
     match (old, new) {
-        (Some(old), Some(new)) => compare(rt, judge, options, &old, &new),
+        (Some(old), Some(new)) => compare(rt, judge, options, &old, &new, around),
         _ => Ok(Status::Trouble),
     }
 }

@@ -8,7 +8,7 @@ use crate::status::Tally;
 use crate::verdict::{Judge, Verified};
 use crate::{human, json};
 use holzikra_scripts::image_code;
-use holzikra_words::{LoadFormat, VerifyFormat};
+use holzikra_words::{LoadFormat, VerifyFormat, VerifyOptions};
 use std::alloc::{AllocError, Global};
 
 /// Lists an image and counts it. The answer is what is to be written of it.
@@ -36,14 +36,15 @@ pub(crate) fn list_image(
     }
 }
 
-/// The line for a verdict on an image.
+/// The line for a verdict on an image. With `--quiet` no person is told of one that is sound.
 fn image_line(
     alloc: Global,
-    format: VerifyFormat,
+    options: &VerifyOptions,
     name: &str,
     found: Verified,
 ) -> Result<String, AllocError> {
-    match format {
+    match options.format {
+        VerifyFormat::Human if options.look.quiet && found.is_sound() => Ok(String::new(alloc)),
         VerifyFormat::Human => human::image_line(alloc, name, found),
         VerifyFormat::Json => json::image_line(alloc, name, found),
     }
@@ -53,7 +54,7 @@ fn image_line(
 pub(crate) fn answer_image<J: Judge>(
     alloc: Global,
     judge: &J,
-    format: VerifyFormat,
+    options: &VerifyOptions,
     name: &str,
     image: &[u8],
     tally: &mut Tally,
@@ -62,6 +63,6 @@ pub(crate) fn answer_image<J: Judge>(
 {
     let found = judge.verify(alloc, image)?;
     tally.count_image(found);
-    let line = image_line(alloc, format, name, found)?;
+    let line = image_line(alloc, options, name, found)?;
     Ok(line)
 }

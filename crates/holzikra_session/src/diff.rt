@@ -5,12 +5,14 @@ use crate::images::image_line;
 use crate::json;
 use crate::reading::{image_of, input_image};
 use crate::refusal::{Said, Showing, answer_refused};
+use crate::screen::{Surroundings, print_answer};
 use crate::status::{Status, Tally};
 use crate::verdict::{Compiled, Judge, Reason, Verified};
+use holzikra_colours::Answer;
 use holzikra_scripts::{Compared, compare_scripts};
 use holzikra_words::{DiffFormat, DiffOptions, Format, VerifyFormat};
 use std::io;
-use std::io::{ErrorKind, Write};
+use std::io::ErrorKind;
 use std::rt::Runtime;
 use stencil_data::MergedStencil;
 use stencil_xdr_read::{ImageFault, read_image};
@@ -98,6 +100,7 @@ fn verdict_format(format: DiffFormat) -> VerifyFormat {
 fn refuse<R: Runtime + AllocGlobal>(
     rt: &R,
     format: DiffFormat,
+    colors: bool,
     file: &File<'_>,
     reason: Reason,
 ) -> io::Result<()> {
@@ -114,18 +117,19 @@ fn refuse<R: Runtime + AllocGlobal>(
         &mut tally,
         &mut said,
     )?;
-    io::writer(rt).write_all(lines.as_bytes())
+    print_answer(rt, colors, Answer::Refusals, lines.into_bytes())
 }
 
 /// Writes why a file is refused that is taken as an image, as `verify` does.
 fn refuse_image<R: Runtime + AllocGlobal>(
     rt: &R,
     format: DiffFormat,
+    colors: bool,
     file: &File<'_>,
     found: Verified,
 ) -> io::Result<Side> {
     let line = image_line(rt.alloc(), verdict_format(format), file.name, found)?;
-    io::writer(rt).write_all(line.as_bytes())?;
+    print_answer(rt, colors, Answer::Images, line.into_bytes())?;
     Ok(Side::Refused)
 }
 
@@ -134,13 +138,14 @@ fn script_of<R: Runtime + AllocGlobal, J: Judge>(
     rt: &R,
     judge: &J,
     format: DiffFormat,
+    colors: bool,
     file: &File<'_>,
 ) -> io::Result<Side> {
     let compiled = judge.compile(rt.alloc(), &file.bytes, &[])?;
     match compiled {
         Compiled::Script(stencil, _) => Ok(Side::Script(stencil)),
         Compiled::Refused(reason) => {
-            refuse(rt, format, file, reason)?;
+            refuse(rt, format, colors, file, reason)?;
             Ok(Side::Refused)
         }
         Compiled::NoFunction(_) => unreachable!(),
@@ -152,18 +157,19 @@ fn side_of<R: Runtime + AllocGlobal, J: Judge>(
     rt: &R,
     judge: &J,
     format: DiffFormat,
+    colors: bool,
     file: &File<'_>,
 ) -> io::Result<Side> {
     let found = judge.verify(rt.alloc(), &file.bytes)?;
     match found {
-        Verified::Unsound { .. } => refuse_image(rt, format, file, found),
+        Verified::Unsound { .. } => refuse_image(rt, format, colors, file, found),
         Verified::NoImage if file.name.ends_with(IMAGE_END) => {
-            refuse_image(rt, format, file, found)
+            refuse_image(rt, format, colors, file, found)
         }
-        Verified::NoImage => script_of(rt, judge, format, file),
+        Verified::NoImage => script_of(rt, judge, format, colors, file),
         Verified::Sound { .. } => match read_image(rt.alloc(), &file.bytes) {
             Ok(stencil) => Ok(Side::Image(stencil)),
-            Err(ImageFault::NoImage) => refuse_image(rt, format, file, Verified::NoImage),
+            Err(ImageFault::NoImage) => refuse_image(rt, format, colors, file, Verified::NoImage),
             Err(ImageFault::NoMemory) => Err(ErrorKind::OutOfMemory.into()),
         },
     }
@@ -190,15 +196,18 @@ fn compare<R: Runtime + AllocGlobal, J: Judge>(
     options: &DiffOptions,
     old: &File<'_>,
     new: &File<'_>,
+    around: Surroundings,
 ) -> io::Result<Status> {
-    let old_side = side_of(rt, judge, options.format, old)?;
-    let new_side = side_of(rt, judge, options.format, new)?;
+    let format = options.format;
+    let colors = format == DiffFormat::Human && around.colors(options.colors);
+    let old_side = side_of(rt, judge, format, colors, old)?;
+    let new_side = side_of(rt, judge, format, colors, new)?;
     let (Some(before), Some(after)) = (compared_of(old, &old_side), compared_of(new, &new_side))
     else {
         return Ok(Status::Trouble);
     };
     let comparison = compare_scripts(rt.alloc(), options.format, before, after)?;
-    io::writer(rt).write_all(&comparison.lines)?;
+    print_answer(rt, colors, Answer::Difference, comparison.lines)?;
     if comparison.differs {
         Ok(Status::Refused)
     } else {
@@ -211,13 +220,14 @@ pub(crate) fn diff_files<R: Runtime + AllocGlobal, J: Judge>(
     rt: &R,
     judge: &J,
     options: &DiffOptions,
+    around: Surroundings,
 ) -> io::Result<Status> {
     let stdin_name = options.stdin_name.as_str();
     let format = options.format;
     let old = file_of(rt, format, options.old.as_str(), stdin_name)?;
     let new = file_of(rt, format, options.new.as_str(), stdin_name)?;
     match (old, new) {
-        (Some(old), Some(new)) => compare(rt, judge, options, &old, &new),
+        (Some(old), Some(new)) => compare(rt, judge, options, &old, &new, around),
         _ => Ok(Status::Trouble),
     }
 }

@@ -9,7 +9,7 @@ use crate::status::Tally;
 use crate::verdict::{Judge, Verified};
 use crate::{human, json};
 use holzikra_scripts::image_code;
-use holzikra_words::{LoadFormat, VerifyFormat};
+use holzikra_words::{LoadFormat, VerifyFormat, VerifyOptions};
 use std::alloc::{AllocError, Global};
 
 /// How the verdict on a file is written where its listing is written so.
@@ -64,11 +64,24 @@ pub(crate) fn image_line(
     }
 }
 
+/// What `verify` writes of a verdict on an image: its line, but with `--quiet` no person is told of one that is sound.
+fn told_line(
+    alloc: Global,
+    options: &VerifyOptions,
+    name: &str,
+    found: Verified,
+) -> Result<String, AllocError> {
+    match options.format {
+        VerifyFormat::Human if options.look.quiet && found.is_sound() => Ok(String::new(alloc)),
+        format => image_line(alloc, format, name, found),
+    }
+}
+
 /// Verifies an image and counts it. The answer is what is to be written of it.
 pub(crate) fn answer_image<J: Judge>(
     alloc: Global,
     judge: &J,
-    format: VerifyFormat,
+    options: &VerifyOptions,
     name: &str,
     image: &[u8],
     tally: &mut Tally,
@@ -77,6 +90,6 @@ pub(crate) fn answer_image<J: Judge>(
 {
     let found = judge.verify(alloc, image)?;
     tally.count_image(found);
-    let line = image_line(alloc, format, name, found)?;
+    let line = told_line(alloc, options, name, found)?;
     Ok(line)
 }

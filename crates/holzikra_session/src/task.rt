@@ -31,6 +31,18 @@ impl<'a> Task<'a> {
         }
     }
 
+    /// What the command is called.
+    pub(crate) fn word(self) -> &'static str {
+        match self {
+            Task::Check(_) => "check",
+            Task::Code(_) => "code",
+            Task::Scopes(_) => "scopes",
+            Task::Stats(_) => "stats",
+            Task::Load(_) => "load",
+            Task::Verify(_) => "verify",
+        }
+    }
+
     /// How a file that is refused is shown.
     pub(crate) fn format(self) -> Format {
         match self {

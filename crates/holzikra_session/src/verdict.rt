@@ -110,6 +110,16 @@ pub trait Judge {
         ensures { IfOk result (verifies self.now image.now) };
 }
 
+impl Verified {
+    /// Whether it is an image, all code of which is sound.
+    pub(crate) fn is_sound(self) -> bool {
+        match self {
+            Verified::Sound { .. } => true,
+            Verified::Unsound { .. } | Verified::NoImage => false,
+        }
+    }
+}
+
 impl Reason {
     /// Where the reason stands, if it has a place.
     pub(crate) fn spot(self) -> Option<Spot>

@@ -1,6 +1,7 @@
 //! The words of `load`.
 
 use crate::files::{FileOptions, file_options, with_images};
+use crate::look::{Look, NO_PROGRESS, found_look, with_look};
 use crate::parts::{choice, named, value, with};
 use clap::{ArgMatches, Command};
 use std::alloc::{AllocError, Global};
@@ -21,6 +22,7 @@ pub enum LoadFormat {
 pub struct LoadOptions {
     pub files: FileOptions,
     pub format: LoadFormat,
+    pub look: Look,
 }
 
 static FORMATS: [&str; 3] = ["human", "plain", "json"];
@@ -31,7 +33,8 @@ pub(crate) fn command<'a>(alloc: Global) -> Result<Command<'a>, AllocError> {
     let command = with_images(alloc, command)?;
     let formats = FORMATS.as_slice();
     let format = choice(alloc, "format", formats, "human", "how code is listed");
-    with(command, format)
+    let command = with(command, format)?;
+    with_look(alloc, command, NO_PROGRESS)
 }
 
 fn format_of(word: &str) -> LoadFormat {
@@ -48,5 +51,6 @@ pub(crate) fn options(alloc: Global, found: &ArgMatches<'_>) -> Result<LoadOptio
     Ok(LoadOptions {
         files,
         format: format_of(value(found, "format", "human")),
+        look: found_look(found),
     })
 }

@@ -1,8 +1,8 @@
 -- In which order the lines of the table of counts stand. This project's own choice.
 use Rattle.std.specs.Prelude.{ℕ, slice_index}
 use Rattle.std.specs.String.{string_cmp}
-use Rattle.std.specs.Cmp.{nat_cmp}
-use Rattle.std.specs.Ordering.{Ordering}
+use Rattle.std.specs.Ordering.{nat_cmp}
+use Rattle.std.specs.declared.cmp.Ordering.{Ordering}
 use Rattle.holzikra_words.specs.declared.stats.Column.{Column}
 use Rattle.holzikra_words.specs.declared.stats.Column.TheVariants as column
 use Rattle.holzikra_scripts.specs.declared.table.Line.{Line}

@@ -272,7 +272,8 @@ impl<'a> Known<'a> {
     fn top_note(&self, environments: &mut Environments) -> Result<ScriptNotes, AllocError>
         ensures { IfOk result (λ note. IsTopNote (source_of self.now.source.now) self.now.stencil.now.top note) }
     {
-        let top = &self.stencil.top;
+        let stencil = self.stencil;
+        let top = &stencil.top;
         let closed = closed_of_top(self.alloc, top)?;
         let standing = Standing {
             around: None,

@@ -14,10 +14,12 @@ use Rattle.holzikra_session.specs.declared.verdict.Spot.{Spot}
 use Rattle.holzikra_session.specs.declared.verdict.Verified.{Verified}
 use Rattle.holzikra_session.specs.declared.verdict.Verified.TheVariants as verified
 
--- the line of a script without errors
+-- a script without errors
+abbrev pub checked_members : (name : List ℕ) → (bytes functions : ℕ) → Members
+checked_members name bytes functions = put (codes "functions") (whole functions) (put (codes "bytes") (whole bytes) (file_members name (codes "ok")))
+
 abbrev pub IsCheckedLine : (name : List ℕ) → (bytes functions : ℕ) → List ℕ → Type 0
-IsCheckedLine name bytes functions line =
-    IsLine (object (put (codes "functions") (whole functions) (put (codes "bytes") (whole bytes) (file_members name (codes "ok"))))) line
+IsCheckedLine name bytes functions line = IsLine (object (checked_members name bytes functions)) line
 
 -- the line of a file that cannot be read
 abbrev pub IsUnreadableLine : (name fault line : List ℕ) → Type 0

@@ -3,7 +3,7 @@
 ghost use Rattle.std.specs.Prelude.{◌≡◌, length, IfOk, OnOk, string_bytes};
 ghost use Rattle.serde_json.specs.View.{view};
 ghost use Rattle.holzikra_json.specs.Lines.{members_of};
-ghost use Rattle.holzikra_session.specs.Answers.{IsCheckedLine, IsImageLine, IsRefusalLine, IsUnreadableLine, image_members, place_members, refusal_data, refused_members, rule_of};
+ghost use Rattle.holzikra_session.specs.Answers.{IsCheckedLine, IsImageLine, IsRefusalLine, IsUnreadableLine, checked_members, image_members, place_members, refusal_data, refused_members, rule_of};
 
 use crate::note::other_place;
 use crate::refusal::Refused;
@@ -12,6 +12,21 @@ use holzikra_json::Members;
 use holzikra_refusals::{entry_of, message, name_at};
 use serde_json::Value;
 use std::alloc::{AllocError, Global};
+
+/// The members of a script without errors, of so many bytes and functions.
+fn checked_members(
+    alloc: Global,
+    name: &str,
+    bytes: usize,
+    functions: usize,
+) -> Result<Members, AllocError>
+    ensures { IfOk result (λ members. members_of members ≡ checked_members name.now bytes functions) }
+{
+    let mut members = Members::of_file(alloc, name, "ok")?;
+    members.number("bytes", Some(bytes as u64))?;
+    members.number("functions", Some(functions as u64))?;
+    Ok(members)
+}
 
 /// A script without errors.
 pub(crate) fn script_line(
@@ -22,9 +37,7 @@ pub(crate) fn script_line(
 ) -> Result<String, AllocError>
     ensures { IfOk result (λ line. IsCheckedLine name.now (length bytes.now) functions (string_bytes line)) }
 {
-    let mut members = Members::of_file(alloc, name, "ok")?;
-    members.number("bytes", Some(bytes.len() as u64))?;
-    members.number("functions", Some(functions as u64))?;
+    let members = checked_members(alloc, name, bytes.len(), functions)?;
     let line = members.line()?;
     Ok(line)
 }
@@ -165,7 +178,7 @@ fn refused_members(
 
 /// A text that is refused.
 pub(crate) fn refusal_line(alloc: Global, refused: Refused<'_>) -> Result<String, AllocError>
-    ensures { IfOk result (λ line. IsRefusalLine refused.name.now (length refused.text.now) refused.reason (string_bytes line)) }
+    ensures { IfOk result (λ line. IsRefusalLine refused.entry.name.now (length refused.entry.text.now) refused.entry.reason (string_bytes line)) }
 {
     let told = told_of(alloc, refused)?;
     let why = refusal_value(alloc, refused.reason, told)?;

@@ -22,7 +22,7 @@ pub(crate) fn other_place(
     refused: Refused<'_>,
 ) -> Result<Option<OtherPlace>, AllocError>
     ensures { IfOk result (λ other. IfSome other
-        (λ one. IsPlace refused.text.now one.spot.offset one.spot.place.line one.spot.place.column)) }
+        (λ one. IsPlace refused.entry.text.now one.spot.offset one.spot.place.line one.spot.place.column)) }
 {
     let text = refused.text;
     let Some(note) = note_of(alloc, refused.code, text, refused.reason.offset())? else {

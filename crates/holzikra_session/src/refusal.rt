@@ -107,7 +107,7 @@ fn refused_lines(
     refused: Refused<'_>,
     first: bool,
 ) -> Result<String, AllocError>
-    ensures { IfOk result (λ lines. IsShownAs format refused.name.now (length refused.text.now) refused.reason (string_bytes lines)) }
+    ensures { IfOk result (λ lines. IsShownAs format refused.entry.name.now (length refused.entry.text.now) refused.entry.reason (string_bytes lines)) }
 {
     match format {
         Format::Human => human::refusal_lines(alloc, refused),

@@ -98,7 +98,7 @@ impl<'a> Task<'a> {
 
     /// Whether the answers are for people, and not for programs.
     fn is_for_people(self) -> bool
-        ensures { result ≡ true → IsForPeople self }
+        ensures { result ≡ true → IsForPeople self.entry }
     {
         match self {
             Task::Check(options) => options.format == Format::Human,
@@ -112,7 +112,7 @@ impl<'a> Task<'a> {
 
     /// Whether the answers have colours.
     fn colors(self, around: Surroundings) -> bool
-        ensures { result ≡ true → IsForPeople self }
+        ensures { result ≡ true → IsForPeople self.entry }
     {
         self.is_for_people() && around.colors(self.look().colors)
     }

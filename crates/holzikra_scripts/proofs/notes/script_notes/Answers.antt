@@ -14,7 +14,7 @@ loop-index-init c =
 pub loop-index-preserved : goal.loop-index-preserved
 loop-index-preserved c =
     let l = c.loop-index in
-    let new = c.push-2.new.self.items in
+    let new = c.push-in-loop-index.new.self.items in
     let in_rs : l.index < length c.args.stencil.now.records = search rules in
     let in_es : l.index < length c.args.stencil.now.entries = search rules in
     let count : length new ≡ l.index + 1 + 1 = search rules in (

@@ -1,4 +1,4 @@
-use Rattle.std.proofs.Common.{◌≡◌, ◌<◌, ◌+◌, [], ◌∷◌, min, length, rules}
+use Rattle.std.proofs.Common.{◌≡◌, ◌<◌, ◌+◌, [], ◌∷◌, min, length, get_or, rules}
 use Rattle.holzikra_scripts.specs.Notes.{source_of}
 use Rattle.holzikra_scripts.proofs.NoteLemmas.{all_noted, function_added, top_added}
 use Rattle.holzikra_scripts.proofs.notes.script_notes.Goals as goal
@@ -17,10 +17,12 @@ loop-index-preserved c =
     let new = c.push-in-loop-index.new.self.items in
     let in_rs : l.index < length c.args.stencil.now.records = search rules in
     let in_es : l.index < length c.args.stencil.now.entries = search rules in
+    let r_is : c.index-lazy.result.now ≡ get_or c.args.stencil.now.records l.index c.index-lazy.result.now = search rules in
+    let e_is : c.index-entry.result.now ≡ get_or c.args.stencil.now.entries l.index c.index-entry.result.now = search rules in
     let count : length new ≡ l.index + 1 + 1 = search rules in (
       count,
       function_added (source_of c.args.source.now) c.args.stencil.now l.notes.items new c.in_ok-function_note.field-0 l.index c.index-lazy.result.now c.index-entry.result.now
-          l.invariant.1 c.in_ok-push-2.ensures.items l.invariant.0 in_rs in_es c.index-lazy.ensures c.index-entry.ensures c.in_ok-function_note.ensures,
+          l.invariant.1 c.in_ok-push-2.ensures.items l.invariant.0 in_rs in_es r_is e_is c.in_ok-function_note.ensures,
     )
 
 pub returns : goal.returns

@@ -12,7 +12,7 @@ use holzikra_colours::Answer;
 use holzikra_scripts::{Compared, compare_scripts};
 use holzikra_words::{DiffFormat, DiffOptions, Format, VerifyFormat};
 use std::io;
-use std::io::ErrorKind;
+use std::io::{ErrorKind, Write};
 use std::rt::Runtime;
 use stencil_data::MergedStencil;
 use stencil_xdr_read::{ImageFault, read_image};

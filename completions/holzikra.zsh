@@ -26,12 +26,13 @@ _holzikra() {
     check)
         _arguments \
             '*--all[enter node_modules and what begins with a point]' \
+            '*--color[when what is printed for people has colours]:color:(auto always never)' \
             '*--exclude[what of a folder is passed over; may be given again]:GLOB:' \
             '*--ext[which files of a folder are taken]:LIST:' \
             '*--format[how the answers are written]:format:(human json github sarif)' \
             '(-h --help)'{-h,--help}'[Print help]' \
             '*--max[how many refusals are shown; 0 is no limit]:N:' \
-            '(-q --quiet)'{-q,--quiet}'[no summary]' \
+            '(-q --quiet)'{-q,--quiet}'[no summary, and no progress on a terminal]' \
             '*--stdin-name[what - is called]:NAME:' \
             '*--unsupported[what a form outside the profile counts as]:unsupported:(error warn skip)' \
             '*:file:_files'
@@ -40,6 +41,7 @@ _holzikra() {
         _arguments \
             '*--all[enter node_modules and what begins with a point]' \
             '*--at[the innermost function there; may be given again]:LINE\[\:COLUMN\]:' \
+            '*--color[when what is printed for people has colours]:color:(auto always never)' \
             '*--exclude[what of a folder is passed over; may be given again]:GLOB:' \
             '*--ext[which files of a folder are taken]:LIST:' \
             '*--format[how code is listed]:format:(human plain json)' \
@@ -47,6 +49,7 @@ _holzikra() {
             '(-h --help)'{-h,--help}'[Print help]' \
             '*--no-source[no lines of the source]' \
             '*--only[without the functions inside those that are named]' \
+            '(-q --quiet)'{-q,--quiet}'[no progress on a terminal]' \
             '*--stdin-name[what - is called]:NAME:' \
             '*:file:_files'
         ;;
@@ -54,27 +57,33 @@ _holzikra() {
         _arguments \
             '*--all[enter node_modules and what begins with a point]' \
             '*--at[the innermost function there; may be given again]:LINE\[\:COLUMN\]:' \
+            '*--color[when what is printed for people has colours]:color:(auto always never)' \
             '*--exclude[what of a folder is passed over; may be given again]:GLOB:' \
             '*--ext[which files of a folder are taken]:LIST:' \
             '*--format[how scopes are drawn]:format:(human plain json dot)' \
             '*--function[a number or a name; may be given again]:FUNCTION:' \
             '(-h --help)'{-h,--help}'[Print help]' \
             '*--only[without the functions inside those that are named]' \
+            '(-q --quiet)'{-q,--quiet}'[no progress on a terminal]' \
             '*--stdin-name[what - is called]:NAME:' \
             '*:file:_files'
         ;;
     stats)
         _arguments \
             '*--all[enter node_modules and what begins with a point]' \
+            '*--color[when what is printed for people has colours]:color:(auto always never)' \
             '*--exclude[what of a folder is passed over; may be given again]:GLOB:' \
             '*--ext[which files of a folder are taken]:LIST:' \
             '*--format[how counts are written]:format:(human json)' \
             '(-h --help)'{-h,--help}'[Print help]' \
+            '(-q --quiet)'{-q,--quiet}'[no summary, and no progress on a terminal]' \
+            '*--sort[what the lines of the table are sorted by]:COLUMN:(file functions closed instructions code-bytes depth nested source-bytes)' \
             '*--stdin-name[what - is called]:NAME:' \
             '*:file:_files'
         ;;
     diff)
         _arguments \
+            '*--color[when what is printed for people has colours]:color:(auto always never)' \
             '*--format[how differences are written]:format:(human json)' \
             '(-h --help)'{-h,--help}'[Print help]' \
             '*--stdin-name[what - is called]:NAME:' \
@@ -90,6 +99,7 @@ _holzikra() {
             '(-h --help)'{-h,--help}'[Print help]' \
             '*--only[without the functions inside those that are named]' \
             '(-o --output)'{-o,--output}'[where the page is written; - is standard output]:PAGE:_files' \
+            '(-q --quiet)'{-q,--quiet}'[no progress on a terminal]' \
             '*--stdin-name[what - is called]:NAME:' \
             '*:file:_files'
         ;;
@@ -103,25 +113,30 @@ _holzikra() {
     load)
         _arguments \
             '*--all[enter node_modules and what begins with a point]' \
+            '*--color[when what is printed for people has colours]:color:(auto always never)' \
             '*--exclude[what of a folder is passed over; may be given again]:GLOB:' \
             '*--ext[which files of a folder are taken]:LIST:' \
-            '*--format[how code is listed]:format:(human plain)' \
+            '*--format[how code is listed]:format:(human plain json)' \
             '(-h --help)'{-h,--help}'[Print help]' \
+            '(-q --quiet)'{-q,--quiet}'[no progress on a terminal]' \
             '*--stdin-name[what - is called]:NAME:' \
             '*:file:_files'
         ;;
     verify)
         _arguments \
             '*--all[enter node_modules and what begins with a point]' \
+            '*--color[when what is printed for people has colours]:color:(auto always never)' \
             '*--exclude[what of a folder is passed over; may be given again]:GLOB:' \
             '*--ext[which files of a folder are taken]:LIST:' \
             '*--format[how the answers are written]:format:(human json)' \
             '(-h --help)'{-h,--help}'[Print help]' \
+            '(-q --quiet)'{-q,--quiet}'[images that are sound have no line; no progress on a terminal]' \
             '*--stdin-name[what - is called]:NAME:' \
             '*:file:_files'
         ;;
     explain)
         _arguments \
+            '*--color[when what is printed for people has colours]:color:(auto always never)' \
             '(-h --help)'{-h,--help}'[Print help]' \
             '*:code:'
         ;;

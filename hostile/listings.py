@@ -1,8 +1,9 @@
 #!/usr/bin/env python3
 """usage: holzikra code --format json FILE.. | hostile/listings.py
        holzikra scopes --format json FILE.. | hostile/listings.py
+       holzikra load --format json IMAGE.. | hostile/listings.py
 
-Makes of the lines of JSON that `code`, `scopes` and `check` of holzikra write the listings and lines that stencilc prints for the same files, by
+Makes of the lines of JSON that `code`, `scopes`, `load` and `check` of holzikra write the listings and lines that stencilc prints for the same files, by
 docs/manual.md alone and from nothing but the JSON. It refuses, by a KeyError, an object that lacks a member, and passes over members that a listing
 does not have, as lines and columns."""
 import json

@@ -68,3 +68,5 @@ def refused():
     yield "no utf-8", b"var a = '\xff</script>';\n"
     yield "far", b"var a = '" + b"x" * 300_000 + b"' class;\n"
     yield "escape", b"var a = '\x1b[31m'; class B {}\n"
+    yield "marks", "var a = '\u200f\u200e\u061c\u2066'; class B {}\n".encode()
+    yield "separators", "var a = 1; '\u2028\u2029'; let a;\n".encode()

@@ -14,9 +14,9 @@ ghost use Rattle.holzikra_session.specs.Statuses.{number_of};
 mod images;
 mod judge;
 
-use holzikra_session::{Status, run};
+use holzikra_session::{Status, Terminals, run};
 use judge::Library;
-use std::io::ErrorKind;
+use std::io::{ErrorKind, IsTerminal};
 use std::process::ExitCode;
 use std::rt::Env;
 use std::{env, io};
@@ -39,7 +39,13 @@ fn exit_code(status: Status) -> ExitCode
 
 fn main(rt: HostRuntime) -> ExitCode {
     match words_of(&rt) {
-        Ok(words) => exit_code(run(&rt, &Library, &words)),
+        Ok(words) => {
+            let terminals = Terminals {
+                answers: rt.stdout().is_terminal(),
+                errors: rt.stderr().is_terminal(),
+            };
+            exit_code(run(&rt, &Library, &words, terminals))
+        }
         Err(error) => {
             if error.kind() == ErrorKind::OutOfMemory {
                 exit_code(Status::NoMemory)

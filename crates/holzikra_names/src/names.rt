@@ -1,5 +1,9 @@
 //! Texts of a script, as a terminal may show them.
 
+ghost use Rattle.std.specs.Prelude.{◌≡◌, ◌==◌, ◌&&◌, not};
+ghost use Rattle.holzikra_places.specs.Shown.{is_hidden};
+
+use holzikra_places::is_hidden;
 use std::alloc::{AllocError, Global};
 use stencil_data::Text;
 
@@ -11,13 +15,11 @@ pub fn text_at(texts: &[Text], atom: u32) -> &[u16] {
     }
 }
 
-/// Whether a terminal shows a character as itself: it is no control character, none that turns the direction of text (Unicode
-/// Standard Annex 9) and no end of a line, and no quotation mark, which would end a text in a listing.
-fn is_shown(letter: char) -> bool {
-    !matches!(
-        letter as u32,
-        0..=31 | 34 | 127..=159 | 0x061c | 0x200e | 0x200f | 0x2028..=0x202e | 0x2066..=0x2069
-    )
+/// Whether a character is shown as itself: a terminal may have it, and it is no quotation mark, which would end a text in a listing.
+fn is_shown(letter: char) -> bool
+    ensures { result ≡ (not (is_hidden letter) && not (letter == 34)) }
+{
+    !is_hidden(letter) && letter != '"'
 }
 
 /// A digit in lower case.

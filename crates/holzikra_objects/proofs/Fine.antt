@@ -26,7 +26,7 @@ use Rattle.serde_json.specs.Read.{read}
 use Rattle.script_image.specs.Listed.{ShowsListed, listed_stencil}
 use Rattle.script_image.proofs.Stands.{stencil_is}
 use Rattle.stencil_data.specs.MergedView.{MergedView}
-use Rattle.stencil_data.specs.StandsFor.{MergedStandsFor, text_at}
+use Rattle.stencil_data.specs.StandsFor.{MergedStandsFor, named_closed, text_at}
 use Rattle.holzikra_json.specs.Lines.{IsLine, whole, whole_or_null, file_members}
 use Rattle.holzikra_names.specs.declared.source.Spot.{Spot}
 use Rattle.holzikra_objects.specs.declared.notes.BindingNote.{BindingNote}
@@ -199,25 +199,30 @@ fine_note texts (Some n) ms fines = fine_reached n.reached (objects.meant_member
 
 -- ---- instructions and try notes
 
-fine_number : (op : Op) (n : ℕ) (ms : Members) → AreFine 3 ms → AreFine 3 (objects.number_members op n ms)
-fine_number op.Lambda n ms fines = fine_put 3 (codes "function") (whole n) ms (fine_whole 3 n) fines
-fine_number op.Double n ms fines = fine_put 3 (codes "bits") (string (decimal n)) ms (fine_string 3 (decimal n)) fines
-fine_number _ n ms fines = fine_put 3 (codes "number") (whole n) ms (fine_whole 3 n) fines
+fine_line : (spot : Option Spot) (ms : Members) → AreFine 3 ms → AreFine 3 (objects.line_members spot ms)
+fine_line None ms fines = fines
+fine_line (Some s) ms fines = fine_put 3 (codes "line") (whole s.line) ms (fine_whole 3 s.line) fines
 
-fine_operand : (op : Op) (operand : Operand) (ms : Members) → AreFine 3 ms → AreFine 3 (objects.operand_members op operand ms)
-fine_operand op Nothing ms fines = fines
-fine_operand op (Number n) ms fines = fine_number op n ms fines
-fine_operand op (Text text) ms fines = fine_put 3 (codes "text") (objects.text_data text) ms (higher 2 3 (objects.text_data text) (omega arith) (fine_text text)) fines
-fine_operand op (Aliased hops slot) ms fines = (more 3 (codes "slot") (whole slot) (fine_whole 3 slot) (more 3 (codes "hops") (whole hops) (fine_whole 3 hops) (from 3 ms fines))).fine
-fine_operand op (Distance distance) ms fines = fine_put 3 (codes "distance") (whole distance) ms (fine_whole 3 distance) fines
-fine_operand op (Target offset) ms fines = fine_put 3 (codes "to") (whole offset) ms (fine_whole 3 offset) fines
+fine_number : (all : List ScriptNotes) (op : Op) (n : ℕ) (ms : Members) → AreFine 3 ms → AreFine 3 (objects.number_members all op n ms)
+fine_number all op.Lambda n ms fines =
+    fine_line (objects.start_of (slice_get all n)) (put (codes "function") (whole n) ms) (fine_put 3 (codes "function") (whole n) ms (fine_whole 3 n) fines)
+fine_number all op.Double n ms fines = fine_put 3 (codes "bits") (string (decimal n)) ms (fine_string 3 (decimal n)) fines
+fine_number all _ n ms fines = fine_put 3 (codes "number") (whole n) ms (fine_whole 3 n) fines
 
-fine_instruction : (texts : List (List ℕ)) (notes : List InstructionNote) (l : Listed) → IsFine 4 (objects.instruction_data texts notes l)
-fine_instruction texts notes l =
+fine_operand : (all : List ScriptNotes) (op : Op) (operand : Operand) (ms : Members) → AreFine 3 ms → AreFine 3 (objects.operand_members all op operand ms)
+fine_operand all op Nothing ms fines = fines
+fine_operand all op (Number n) ms fines = fine_number all op n ms fines
+fine_operand all op (Text text) ms fines = fine_put 3 (codes "text") (objects.text_data text) ms (higher 2 3 (objects.text_data text) (omega arith) (fine_text text)) fines
+fine_operand all op (Aliased hops slot) ms fines = (more 3 (codes "slot") (whole slot) (fine_whole 3 slot) (more 3 (codes "hops") (whole hops) (fine_whole 3 hops) (from 3 ms fines))).fine
+fine_operand all op (Distance distance) ms fines = fine_put 3 (codes "distance") (whole distance) ms (fine_whole 3 distance) fines
+fine_operand all op (Target offset) ms fines = fine_put 3 (codes "to") (whole offset) ms (fine_whole 3 offset) fines
+
+fine_instruction : (all : List ScriptNotes) (texts : List (List ℕ)) (notes : List InstructionNote) (l : Listed) → IsFine 4 (objects.instruction_data all texts notes l)
+fine_instruction all texts notes l =
     let c = more 3 (codes "op") (string (name_of l.command.op)) (fine_string 3 (name_of l.command.op)) (more 3 (codes "at") (whole l.at) (fine_whole 3 l.at) (none 3)) in
     let noted = fine_note texts (slice_get notes l.at) c.members c.fine in
-    fine_object 3 (objects.operand_members l.command.op l.command.operand (objects.note_members texts (slice_get notes l.at) c.members))
-    (fine_operand l.command.op l.command.operand (objects.note_members texts (slice_get notes l.at) c.members) noted)
+    fine_object 3 (objects.operand_members all l.command.op l.command.operand (objects.note_members texts (slice_get notes l.at) c.members))
+    (fine_operand all l.command.op l.command.operand (objects.note_members texts (slice_get notes l.at) c.members) noted)
 
 fine_try : (t : TryNote) → IsFine 1 (objects.try_data t)
 fine_try t =
@@ -275,23 +280,30 @@ fine_all_closed : (users : List Users) (k : ℕ) (cs : List NamedClosed) → All
 fine_all_closed users k [] = tt
 fine_all_closed users k (c ∷ cs) = (fine_closed (slice_get users k) c, fine_all_closed users (k + 1) cs)
 
-fine_record : (users : List Users) (r : NamedRecord) (ms : Members) → AreFine 6 ms → AreFine 6 (objects.record_members users r ms)
-fine_record users r ms fines =
-    let closed = objects.list (objects.all_closed_data users 0 r.closed) in
-    (more 6 (codes "closed") closed (higher 4 6 closed (omega arith) (fine_list 3 (objects.all_closed_data users 0 r.closed) (fine_all_closed users 0 r.closed)))
-    (more 6 (codes "inner") (objects.wholes r.inner) (fine_wholes 5 r.inner) (from 6 ms fines))).fine
+fine_inside : (users : List Users) (inner : List ℕ) (closed : List NamedClosed) (ms : Members) → AreFine 6 ms → AreFine 6 (objects.inside_members users inner closed ms)
+fine_inside users inner closed ms fines =
+    let all = objects.list (objects.all_closed_data users 0 closed) in
+    (more 6 (codes "closed") all (higher 4 6 all (omega arith) (fine_list 3 (objects.all_closed_data users 0 closed) (fine_all_closed users 0 closed)))
+    (more 6 (codes "inner") (objects.wholes inner) (fine_wholes 5 inner) (from 6 ms fines))).fine
 
-fine_part : (listing : Listing) (texts : List (List ℕ)) (notes : List InstructionNote) (f : NamedFunction (List Listed)) (ms : Members) → AreFine 6 ms → AreFine 6 (objects.part_members listing texts notes f ms)
-fine_part of.Code texts notes f ms fines =
-    let code = objects.list (map (objects.instruction_data texts notes) f.code) in
+fine_record : (users : List Users) (r : NamedRecord) (ms : Members) → AreFine 6 ms → AreFine 6 (objects.record_members users r ms)
+fine_record users r ms fines = fine_inside users r.inner r.closed ms fines
+
+fine_top_note : (texts : List (List ℕ)) (note : Option ScriptNotes) (ms : Members) → AreFine 6 ms → AreFine 6 (objects.top_members texts note ms)
+fine_top_note texts None ms fines = fines
+fine_top_note texts (Some n) ms fines = fine_inside n.users.items n.inner.items (map (named_closed texts) n.closed.items) ms fines
+
+fine_part : (listing : Listing) (scripts : List ScriptNotes) (texts : List (List ℕ)) (notes : List InstructionNote) (f : NamedFunction (List Listed)) (ms : Members) → AreFine 6 ms → AreFine 6 (objects.part_members listing scripts texts notes f ms)
+fine_part of.Code scripts texts notes f ms fines =
+    let code = objects.list (map (objects.instruction_data scripts texts notes) f.code) in
     (more 6 (codes "tries") (objects.list (map objects.try_data f.notes)) (higher 2 6 (objects.list (map objects.try_data f.notes)) (omega arith) (fine_map 1 objects.try_data fine_try f.notes))
-    (more 6 (codes "code") code (higher 5 6 code (omega arith) (fine_map 4 (objects.instruction_data texts notes) (fine_instruction texts notes) f.code)) (from 6 ms fines))).fine
-fine_part of.Scopes texts notes f ms fines = fine_put 6 (codes "scopes") (objects.list (objects.scopes_data 0 f.scopes)) ms (fine_list 5 (objects.scopes_data 0 f.scopes) (fine_scopes 0 f.scopes)) fines
+    (more 6 (codes "code") code (higher 5 6 code (omega arith) (fine_map 4 (objects.instruction_data scripts texts notes) (fine_instruction scripts texts notes) f.code)) (from 6 ms fines))).fine
+fine_part of.Scopes scripts texts notes f ms fines = fine_put 6 (codes "scopes") (objects.list (objects.scopes_data 0 f.scopes)) ms (fine_list 5 (objects.scopes_data 0 f.scopes) (fine_scopes 0 f.scopes)) fines
 
 fine_compiled : (s : Shown) (number : ℕ) (f : NamedFunction (List Listed)) (ms : Members) → AreFine 6 ms → AreFine 6 (objects.compiled_members s number f ms)
 fine_compiled s number f ms fines =
     let c = more 6 (codes "params") (whole f.params) (fine_whole 6 f.params) (from 6 ms fines) in
-    fine_part s.listing s.texts (objects.instructions_of (slice_get s.notes number)) f c.members c.fine
+    fine_part s.listing s.notes s.texts (objects.instructions_of (slice_get s.notes number)) f c.members c.fine
 
 fine_lazy : (notes : List ScriptNotes) (number : ℕ) (r : NamedRecord) → AreFine 6 (objects.lazy_members notes number r)
 fine_lazy notes number r =
@@ -312,7 +324,9 @@ fine_functions s number (r ∷ rs) (e ∷ es) = (fine_function s number r e, fin
 fine_top : (s : Shown) (f : NamedFunction (List Listed)) → IsFine 7 (objects.top_data s f)
 fine_top s f =
     let head = objects.head_members s.notes 0 (codes "script") f.name f.extent in
-    fine_object 6 (objects.compiled_members s 0 f head) (fine_compiled s 0 f head (fine_head s.notes 0 (codes "script") f.name f.extent))
+    let all = objects.top_members s.texts (slice_get s.notes 0) head in
+    fine_object 6 (objects.compiled_members s 0 f all)
+    (fine_compiled s 0 f all (fine_top_note s.texts (slice_get s.notes 0) head (fine_head s.notes 0 (codes "script") f.name f.extent)))
 
 fine_scripts : (s : Shown) (merged : NamedMerged (List Listed)) → AllByRecursion (IsFine 7) (objects.scripts_data s merged)
 fine_scripts s merged = (fine_top s merged.top, fine_functions s 1 merged.records merged.entries)

@@ -17,12 +17,10 @@ use Rattle.stencil_data.specs.declared.scopes.Slot.{Slot}
 use Rattle.stencil_data.specs.declared.scopes.Slot.TheVariants as slot
 use Rattle.stencil_data.specs.declared.stencils.TryNote.{TryNote}
 use Rattle.stencil_data.specs.Named.{NamedScope, NamedFunction, NamedClosed, NamedRecord, NamedMerged}
-use Rattle.stencil_data.specs.MergedView.{MergedView}
-use Rattle.stencil_data.specs.StandsFor.{MergedStandsFor, text_at}
+use Rattle.stencil_data.specs.StandsFor.{named_closed, text_at}
 use Rattle.bytecode_buf.specs.declared.opcode.Op.{Op}
 use Rattle.bytecode_buf.specs.declared.opcode.Op.TheVariants as op
 use Rattle.bytecode_buf.specs.Command.{Operand, Nothing, Number, Text, Aliased, Distance, Target, Listed}
-use Rattle.script_image.specs.Listed.{ShowsListed}
 use Rattle.script_image.specs.OpNames.{name_of}
 use Rattle.script_image.specs.ScopeLines.{binding_name, scope_name}
 use Rattle.script_image.specs.declared.script_lines.Listing.{Listing}
@@ -115,11 +113,17 @@ place_data spot offset = object (put (codes "offset") (whole offset) (spot_membe
 
 -- ---- instructions
 
--- the number of a function; the 64 bits of a Number value, which JSON's readers do not all keep, as digits; any other number
-abbrev pub number_members : Op → ℕ → Members → Members
-number_members op.Lambda n ms = put (codes "function") (whole n) ms
-number_members op.Double n ms = put (codes "bits") (string (decimal n)) ms
-number_members _ n ms = put (codes "number") (whole n) ms
+-- the line of a place, where the source text is at hand
+abbrev pub line_members : Option Spot → Members → Members
+line_members None ms = ms
+line_members (Some s) ms = put (codes "line") (whole s.line) ms
+
+-- the number of a function, and the line in which it starts; the 64 bits of a Number value, which JSON's readers do not all keep, as digits; any
+-- other number
+abbrev pub number_members : List ScriptNotes → Op → ℕ → Members → Members
+number_members all op.Lambda n ms = line_members (start_of (slice_get all n)) (put (codes "function") (whole n) ms)
+number_members all op.Double n ms = put (codes "bits") (string (decimal n)) ms
+number_members all _ n ms = put (codes "number") (whole n) ms
 
 abbrev pub put_text : List ℕ → Members → Members
 put_text text ms = put (codes "text") (text_data text) ms
@@ -127,18 +131,18 @@ put_text text ms = put (codes "text") (text_data text) ms
 abbrev pub put_aliased : (hops slot : ℕ) → Members → Members
 put_aliased hops slot ms = put (codes "slot") (whole slot) (put (codes "hops") (whole hops) ms)
 
-abbrev pub operand_members : Op → Operand → Members → Members
-operand_members op Nothing ms = ms
-operand_members op (Number n) ms = number_members op n ms
-operand_members op (Text text) ms = put_text text ms
-operand_members op (Aliased hops slot) ms = put_aliased hops slot ms
-operand_members op (Distance distance) ms = put (codes "distance") (whole distance) ms
-operand_members op (Target offset) ms = put (codes "to") (whole offset) ms
+abbrev pub operand_members : List ScriptNotes → Op → Operand → Members → Members
+operand_members all op Nothing ms = ms
+operand_members all op (Number n) ms = number_members all op n ms
+operand_members all op (Text text) ms = put_text text ms
+operand_members all op (Aliased hops slot) ms = put_aliased hops slot ms
+operand_members all op (Distance distance) ms = put (codes "distance") (whole distance) ms
+operand_members all op (Target offset) ms = put (codes "to") (whole offset) ms
 
--- with what is said of the instruction at its offset
-abbrev pub instruction_data : List (List ℕ) → List InstructionNote → Listed → Data
-instruction_data texts notes l =
-    object (operand_members l.command.op l.command.operand (note_members texts (slice_get notes l.at)
+-- with what is said of the instruction at its offset, and of the function that it makes
+abbrev pub instruction_data : List ScriptNotes → List (List ℕ) → List InstructionNote → Listed → Data
+instruction_data all texts notes l =
+    object (operand_members all l.command.op l.command.operand (note_members texts (slice_get notes l.at)
     (put (codes "op") (string (name_of l.command.op)) (put (codes "at") (whole l.at) no_members))))
 
 abbrev pub try_data : TryNote → Data
@@ -196,7 +200,7 @@ head_members notes number kind name extent =
     (put (codes "start") (place_data (start_of (slice_get notes number)) extent.start) (put (codes "name") (name_data name)
     (put (codes "kind") (string kind) (put (codes "number") (whole number) (script_members (slice_get notes number) no_members)))))
 
--- what each function has
+-- what stands in a function or in the script: the functions directly in it, and its names that functions close over
 abbrev pub closed_data : Option Users → NamedClosed → Data
 closed_data users c = object (put (codes "name") (text_data c.text) (put (codes "scope") (whole c.scope) (users_members users no_members)))
 
@@ -204,27 +208,36 @@ abbrev pub all_closed_data : List Users → ℕ → List NamedClosed → List Da
 all_closed_data users k [] = []
 all_closed_data users k (c ∷ cs) = closed_data (slice_get users k) c ∷ all_closed_data users (k + 1) cs
 
+abbrev pub inside_members : List Users → (inner : List ℕ) → List NamedClosed → Members → Members
+inside_members users inner closed ms = put (codes "closed") (list (all_closed_data users 0 closed)) (put (codes "inner") (wholes inner) ms)
+
+-- of a function by its record, of the script itself by what is said of it
 abbrev pub record_members : List Users → NamedRecord → Members → Members
-record_members users r ms = put (codes "closed") (list (all_closed_data users 0 r.closed)) (put (codes "inner") (wholes r.inner) ms)
+record_members users r ms = inside_members users r.inner r.closed ms
+
+abbrev pub top_members : List (List ℕ) → Option ScriptNotes → Members → Members
+top_members texts None ms = ms
+top_members texts (Some n) ms = inside_members n.users.items n.inner.items (map (named_closed texts) n.closed.items) ms
 
 -- what is compiled: the code, or the scopes
-abbrev pub code_members : List (List ℕ) → List InstructionNote → NamedFunction (List Listed) → Members → Members
-code_members texts notes f ms =
-    put (codes "tries") (list (map try_data f.notes)) (put (codes "code") (list (map (instruction_data texts notes) f.code)) ms)
+abbrev pub code_members : List ScriptNotes → List (List ℕ) → List InstructionNote → NamedFunction (List Listed) → Members → Members
+code_members all texts notes f ms =
+    put (codes "tries") (list (map try_data f.notes)) (put (codes "code") (list (map (instruction_data all texts notes) f.code)) ms)
 
 abbrev pub scope_members : NamedFunction (List Listed) → Members → Members
 scope_members f ms = put (codes "scopes") (list (scopes_data 0 f.scopes)) ms
 
-abbrev pub part_members : Listing → List (List ℕ) → List InstructionNote → NamedFunction (List Listed) → Members → Members
-part_members of.Code texts notes f ms = code_members texts notes f ms
-part_members of.Scopes texts notes f ms = scope_members f ms
+abbrev pub part_members : Listing → List ScriptNotes → List (List ℕ) → List InstructionNote → NamedFunction (List Listed) → Members → Members
+part_members of.Code all texts notes f ms = code_members all texts notes f ms
+part_members of.Scopes all texts notes f ms = scope_members f ms
 
 abbrev pub compiled_members : Shown → ℕ → NamedFunction (List Listed) → Members → Members
 compiled_members s number f ms =
-    part_members s.listing s.texts (instructions_of (slice_get s.notes number)) f (put (codes "params") (whole f.params) ms)
+    part_members s.listing s.notes s.texts (instructions_of (slice_get s.notes number)) f (put (codes "params") (whole f.params) ms)
 
 abbrev pub top_data : Shown → NamedFunction (List Listed) → Data
-top_data s f = object (compiled_members s 0 f (head_members s.notes 0 (codes "script") f.name f.extent))
+top_data s f =
+    object (compiled_members s 0 f (top_members s.texts (slice_get s.notes 0) (head_members s.notes 0 (codes "script") f.name f.extent)))
 
 abbrev pub lazy_members : List ScriptNotes → ℕ → NamedRecord → Members
 lazy_members notes number r =
@@ -252,11 +265,3 @@ script_data s name bytes merged =
 pub record IsLineOf (value : Data) (line : List ℕ) : Type 0 where
   pub is : line ≡ compact_text value ++ codes "\n"
   pub reads_back : read (compact_text value) ≡ Some value
-
--- the line of a file of this name and so many bytes: the code or the scopes of this script by the texts of a stencil that stands for it, with what
--- is said of it beside that
-pub record IsScriptLine (listing : Listing) (name : List ℕ) (bytes : ℕ) (merged : NamedMerged (List Listed)) (line : List ℕ) : Type 0 where
-  pub stencil : MergedView
-  pub stands : MergedStandsFor ShowsListed stencil merged
-  pub notes : List ScriptNotes
-  pub is : IsLineOf (script_data (shown listing stencil.texts notes) name bytes merged) line

@@ -11,7 +11,7 @@ ghost use Rattle.holzikra_json.specs.Lines.{members_of};
 ghost use Rattle.holzikra_objects.specs.Objects as objects;
 
 use crate::lists::list;
-use crate::notes::{InstructionNote, put_instruction};
+use crate::notes::{InstructionNote, ScriptNotes, put_instruction, put_line, start_of};
 use crate::texts::{text_at, text_value};
 use bytecode_buf::{Instr, Op, Shape, decode_at};
 use holzikra_json::Members;
@@ -27,12 +27,21 @@ fn digits(alloc: Global, number: u64) -> Result<String, AllocError>
     Value::from(number).to_string(alloc)
 }
 
-/// Puts in a number that an instruction with this opcode has.
-fn put_number(members: &mut Members, alloc: Global, op: Op, number: u64) -> Result<(), AllocError>
-    ensures { OnOk result (members_of members.new ≡ objects.number_members op number (members_of members.old)) }
+/// Puts in a number that an instruction with this opcode has; with that of a function the line in which it starts.
+fn put_number(
+    members: &mut Members,
+    alloc: Global,
+    all: &[ScriptNotes],
+    op: Op,
+    number: u64,
+) -> Result<(), AllocError>
+    ensures { OnOk result (members_of members.new ≡ objects.number_members all.now op number (members_of members.old)) }
 {
     match op {
-        Op::Lambda => members.number("function", Some(number))?,
+        Op::Lambda => {
+            members.number("function", Some(number))?;
+            put_line(members, start_of(all, number as usize))?;
+        }
         Op::Double => {
             let bits = digits(alloc, number)?;
             members.text("bits", bits.as_str())?;
@@ -71,28 +80,29 @@ fn put_aliased(members: &mut Members, hops: u64, slot: u64) -> Result<(), AllocE
 fn put_operand(
     members: &mut Members,
     alloc: Global,
+    all: &[ScriptNotes],
     texts: &[Text],
     at: usize,
     shape: Shape,
     instr: Instr,
 ) -> Result<(), AllocError>
     ensures { OnOk result (members_of members.new
-        ≡ objects.operand_members instr.op (read_operand texts.now at shape instr) (members_of members.old)) }
+        ≡ objects.operand_members all.now instr.op (read_operand texts.now at shape instr) (members_of members.old)) }
 {
     match shape {
         Shape::Nothing => (),
-        Shape::Whole8 => put_number(members, alloc, instr.op, instr.a)?,
-        Shape::Whole16 => put_number(members, alloc, instr.op, instr.a)?,
-        Shape::Whole24 => put_number(members, alloc, instr.op, instr.a)?,
-        Shape::Whole32 => put_number(members, alloc, instr.op, instr.a)?,
-        Shape::Whole64 => put_number(members, alloc, instr.op, instr.a)?,
+        Shape::Whole8 => put_number(members, alloc, all, instr.op, instr.a)?,
+        Shape::Whole16 => put_number(members, alloc, all, instr.op, instr.a)?,
+        Shape::Whole24 => put_number(members, alloc, all, instr.op, instr.a)?,
+        Shape::Whole32 => put_number(members, alloc, all, instr.op, instr.a)?,
+        Shape::Whole64 => put_number(members, alloc, all, instr.op, instr.a)?,
         Shape::Atom => put_text(members, alloc, text_at(texts, instr.a))?,
-        Shape::Arg => put_number(members, alloc, instr.op, instr.a)?,
-        Shape::Slot => put_number(members, alloc, instr.op, instr.a)?,
+        Shape::Arg => put_number(members, alloc, all, instr.op, instr.a)?,
+        Shape::Slot => put_number(members, alloc, all, instr.op, instr.a)?,
         Shape::Aliased => put_aliased(members, instr.a, instr.b)?,
-        Shape::Num => put_number(members, alloc, instr.op, instr.a)?,
-        Shape::Argc => put_number(members, alloc, instr.op, instr.a)?,
-        Shape::Place => put_number(members, alloc, instr.op, instr.a)?,
+        Shape::Num => put_number(members, alloc, all, instr.op, instr.a)?,
+        Shape::Argc => put_number(members, alloc, all, instr.op, instr.a)?,
+        Shape::Place => put_number(members, alloc, all, instr.op, instr.a)?,
         Shape::Jump => members.number("to", Some(target_of(at, instr.to)))?,
     }
     Ok(())
@@ -101,29 +111,32 @@ fn put_operand(
 /// The value of an instruction that was read at an offset.
 fn instruction_value(
     alloc: Global,
+    all: &[ScriptNotes],
     texts: &[Text],
     notes: &[InstructionNote],
     at: usize,
     instr: Instr,
 ) -> Result<Value, AllocError>
-    ensures { IfOk result (λ value. view value ≡ objects.instruction_data texts.now notes.now (read_as texts.now at instr)) }
+    ensures { IfOk result (λ value. view value ≡ objects.instruction_data all.now texts.now notes.now (read_as texts.now at instr)) }
 {
     let mut members = Members::new(alloc);
     members.number("at", Some(at as u64))?;
     members.text("op", op_name(instr.op))?;
     put_instruction(&mut members, alloc, texts, notes, at)?;
-    put_operand(&mut members, alloc, texts, at, instr.op.row().shape, instr)?;
+    let shape = instr.op.row().shape;
+    put_operand(&mut members, alloc, all, texts, at, shape, instr)?;
     Ok(members.object())
 }
 
 /// The values of the whole instructions of a code.
 fn instruction_values(
     alloc: Global,
+    all: &[ScriptNotes],
     texts: &[Text],
     notes: &[InstructionNote],
     code: &[u8],
 ) -> Result<Vec<Value>, AllocError>
-    ensures { IfOk result (λ values. map view values.items ≡ map (objects.instruction_data texts.now notes.now) (listed texts.now code.now)) }
+    ensures { IfOk result (λ values. map view values.items ≡ map (objects.instruction_data all.now texts.now notes.now) (listed texts.now code.now)) }
 {
     let mut values = Vec::new(alloc);
     let mut at = 0;
@@ -131,7 +144,7 @@ fn instruction_values(
         match decode_at(code, at) {
             None => return Ok(values),
             Some(instr) => {
-                values.push(instruction_value(alloc, texts, notes, at, instr)?)?;
+                values.push(instruction_value(alloc, all, texts, notes, at, instr)?)?;
                 at = instr.next;
             }
         }
@@ -139,16 +152,17 @@ fn instruction_values(
     Ok(values)
 }
 
-/// The list of the instructions of a code, with what is said of those at their offsets.
+/// The list of the instructions of a code, with what is said of those at their offsets, and of all functions.
 pub(crate) fn code_value(
     alloc: Global,
+    all: &[ScriptNotes],
     texts: &[Text],
     notes: &[InstructionNote],
     code: &[u8],
 ) -> Result<Value, AllocError>
-    ensures { IfOk result (λ value. view value ≡ objects.list (map (objects.instruction_data texts.now notes.now) (listed texts.now code.now))) }
+    ensures { IfOk result (λ value. view value ≡ objects.list (map (objects.instruction_data all.now texts.now notes.now) (listed texts.now code.now))) }
 {
-    let values = instruction_values(alloc, texts, notes, code)?;
+    let values = instruction_values(alloc, all, texts, notes, code)?;
     Ok(list(values))
 }
 

@@ -11,7 +11,7 @@ use holzikra_json::Members;
 use holzikra_names::Spot;
 use serde_json::Value;
 use std::alloc::{AllocError, Global};
-use stencil_data::Text;
+use stencil_data::{ClosedName, Text};
 
 /// The binding that hops and a slot mean.
 #[derive(Clone, Copy)]
@@ -50,6 +50,9 @@ pub struct ScriptNotes {
     /// Where it starts and ends, where the source text is at hand.
     pub start: Option<Spot>,
     pub end: Option<Spot>,
+    /// Of the script itself, the functions directly in it and its names that functions close over. Of a function its record has them.
+    pub inner: Vec<u32>,
+    pub closed: Vec<ClosedName>,
     /// The users of each name that is closed over.
     pub users: Vec<Users>,
     /// What is said of the instruction at each offset.
@@ -66,6 +69,17 @@ pub(crate) fn put_spot(members: &mut Members, spot: Option<Spot>) -> Result<(), 
             members.number("column", Some(spot.column as u64))?;
             members.number("line", Some(spot.line as u64))?;
         }
+    }
+    Ok(())
+}
+
+/// Puts in the line of a place alone.
+pub(crate) fn put_line(members: &mut Members, spot: Option<Spot>) -> Result<(), AllocError>
+    ensures { OnOk result (members_of members.new ≡ objects.line_members spot (members_of members.old)) }
+{
+    match spot {
+        None => (),
+        Some(spot) => members.number("line", Some(spot.line as u64))?,
     }
     Ok(())
 }

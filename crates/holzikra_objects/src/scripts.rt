@@ -111,6 +111,25 @@ fn all_closed_value(
     Ok(list(values))
 }
 
+/// Puts in the functions that stand directly in a function or in the script, and its names that functions close over.
+fn put_inside(
+    members: &mut Members,
+    alloc: Global,
+    texts: &[Text],
+    users: &[Users],
+    inner: &[u32],
+    closed: &[ClosedName],
+) -> Result<(), AllocError>
+    ensures { OnOk result (members_of members.new
+        ≡ objects.inside_members users.now inner.now (map (named_closed texts.now) closed.now) (members_of members.old)) }
+{
+    let inner = wholes(alloc, inner)?;
+    members.put("inner", inner)?;
+    let closed = all_closed_value(alloc, texts, users, closed)?;
+    members.put("closed", closed)?;
+    Ok(())
+}
+
 /// What each function has.
 fn function_members(
     alloc: Global,
@@ -130,10 +149,8 @@ fn function_members(
         lazy.name,
         lazy.extent,
     )?;
-    let inner = wholes(alloc, &lazy.inner)?;
-    members.put("inner", inner)?;
-    let closed = all_closed_value(alloc, texts, users_of(notes, number), &lazy.closed)?;
-    members.put("closed", closed)?;
+    let users = users_of(notes, number);
+    put_inside(&mut members, alloc, texts, users, &lazy.inner, &lazy.closed)?;
     Ok(members)
 }
 
@@ -141,14 +158,15 @@ fn function_members(
 fn put_code(
     members: &mut Members,
     alloc: Global,
+    all: &[ScriptNotes],
     texts: &[Text],
     notes: &[InstructionNote],
     part: &FunctionStencil,
 ) -> Result<(), AllocError>
     ensures { OnOk result (members_of members.new
-        ≡ objects.code_members texts.now notes.now (listed_script texts.now part.now) (members_of members.old)) }
+        ≡ objects.code_members all.now texts.now notes.now (listed_script texts.now part.now) (members_of members.old)) }
 {
-    let code = code_value(alloc, texts, notes, &part.code)?;
+    let code = code_value(alloc, all, texts, notes, &part.code)?;
     members.put("code", code)?;
     let tries = tries_value(alloc, &part.notes)?;
     members.put("tries", tries)?;
@@ -184,8 +202,36 @@ fn put_part(
 {
     members.number("params", Some(u64::from(part.params)))?;
     match listing {
-        Listing::Code => put_code(members, alloc, texts, instructions_of(notes, number), part)?,
+        Listing::Code => {
+            let of_code = instructions_of(notes, number);
+            put_code(members, alloc, notes, texts, of_code, part)?;
+        }
         Listing::Scopes => put_scopes(members, alloc, texts, part)?,
+    }
+    Ok(())
+}
+
+/// Puts in what stands in the script itself, where something is said of it.
+fn put_top(
+    members: &mut Members,
+    alloc: Global,
+    texts: &[Text],
+    notes: &[ScriptNotes],
+) -> Result<(), AllocError>
+    ensures { OnOk result (members_of members.new ≡ objects.top_members texts.now (slice_get notes.now 0) (members_of members.old)) }
+{
+    match notes.get(0) {
+        None => (),
+        Some(note) => {
+            put_inside(
+                members,
+                alloc,
+                texts,
+                &note.users,
+                &note.inner,
+                &note.closed,
+            )?;
+        }
     }
     Ok(())
 }
@@ -201,6 +247,7 @@ fn top_value(
     ensures { IfOk result (λ value. view value ≡ objects.top_data (objects.shown listing texts.now notes.now) (listed_script texts.now top.now)) }
 {
     let mut members = head_members(alloc, texts, notes, 0, "script", top.name, top.extent)?;
+    put_top(&mut members, alloc, texts, notes)?;
     put_part(&mut members, alloc, listing, texts, notes, 0, top)?;
     Ok(members.object())
 }
@@ -286,12 +333,8 @@ pub fn script_line(
     merged: &MergedStencil,
     notes: &[ScriptNotes],
 ) -> Result<String, AllocError>
-    ensures value { IfOk result (λ line. (named : NamedMerged (List Listed)) → MergedStandsFor ShowsListed merged.now named
+    ensures { IfOk result (λ line. (named : NamedMerged (List Listed)) → MergedStandsFor ShowsListed merged.now named
         → objects.IsLineOf (objects.script_data (objects.shown listing merged.now.texts notes.now) name.now bytes named) (string_bytes line)) }
-
-    // Whatever the notes say.
-    ensures script { IfOk result (λ line. (named : NamedMerged (List Listed)) → MergedStandsFor ShowsListed merged.now named
-        → objects.IsScriptLine listing name.now bytes named (string_bytes line)) }
 {
     let members = file_members(alloc, listing, name, bytes, merged, notes)?;
     let line = members.line()?;

@@ -1,3 +1,4 @@
 pub mod MarkLemmas
 pub mod PlaceLemmas
 mod PlaceRows
+mod ShownLemmas

@@ -1,2 +1,3 @@
--- Lines and columns of a source text.
+-- Lines and columns of a source text, and the characters that are not shown as themselves.
 pub mod Places
+pub mod Shown

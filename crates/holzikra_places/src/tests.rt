@@ -1,4 +1,4 @@
-use crate::{Lines, Place, excerpt_at};
+use crate::{Lines, Place, excerpt_at, push_shown_text};
 use std::test::Fail;
 
 #[test]
@@ -26,11 +26,25 @@ fn places(rt: HostRuntime) -> Result<(), Fail> {
 }
 
 #[test]
+fn what_is_shown(rt: HostRuntime) -> Result<(), Fail> {
+    let mut shown = String::new(rt.alloc());
+    push_shown_text(
+        &mut shown,
+        "\ta\u{200e}\u{2028}\u{2029}\u{2069}\u{7f}\u{5d0}",
+    )?;
+    assert!(rt; shown.as_str() == " a\\u{200e}\\u{2028}\\u{2029}\\u{2069}\\u{7f}\u{5d0}");
+    Ok(())
+}
+
+#[test]
 fn excerpts(rt: HostRuntime) -> Result<(), Fail> {
     let alloc = rt.alloc();
     let short = excerpt_at(alloc, b"one\n\ta \xe2\x80\xae b\r\ntwo", 11)?;
     assert!(rt; short.shown.as_str() == " a \\u{202e} b");
     assert!(rt; short.caret == 12);
+    let marks = excerpt_at(alloc, b"a\xd8\x9c\xe2\x80\x8e\xe2\x80\x8fb", 6)?;
+    assert!(rt; marks.shown.as_str() == "a\\u{61c}\\u{200e}\\u{200f}b");
+    assert!(rt; marks.caret == 16);
     let mut long = Vec::new(alloc);
     for _ in 0..1000 {
         long.push(b'x')?;

@@ -15,10 +15,11 @@ use Rattle.holzikra_scripts.specs.Images.{IsImageCode, IsStencilCode}
 pub listed_of :
     (format : LoadFormat) (name bytes out : List ℕ) (stencil : MergedView)
     → ((other : MergedView) → IsImageOf other bytes → StandAlike other stencil)
-    → IsStencilCode format name stencil out
-    → (named : NamedMerged (List Listed)) → IsImageFor bytes named → IsImageCode format name named out
+    → IsStencilCode format name bytes stencil out
+    → (named : NamedMerged (List Listed)) → IsImageFor bytes named → IsImageCode format name bytes named out
 listed_of load.Plain name bytes out stencil alike written named has = written named ((alike has.stencil has.is named).0 has.stands)
 listed_of load.Human name bytes out stencil alike written named has = written named ((alike has.stencil has.is named).0 has.stands)
+listed_of load.Json name bytes out stencil alike written named has = written named ((alike has.stencil has.is named).0 has.stands)
 
 -- an image of a script is one of what its commands are listed as
 pub image_as_listed : (bytes : List ℕ) (named : NamedMerged (List Command)) → IsImage named bytes → IsImageFor bytes (listed_merged named)

@@ -1,1 +1,3 @@
 pub mod ImageLemmas
+pub mod LineLemmas
+pub mod NoteLemmas

@@ -1,5 +1,5 @@
 -- What is written of a compiled script. The definitions of the listings are those of script_image.
-use Rattle.std.specs.Prelude.{◌≡◌, ℕ, ◌<◌, Bool, List, [], ◌++◌, length, codes}
+use Rattle.std.specs.Prelude.{◌≡◌, ℕ, ◌<◌, Bool, List, [], ◌++◌, length, codes, Option}
 use Rattle.stencil_data.specs.MergedView.{MergedView}
 use Rattle.stencil_data.specs.Named.{NamedMerged}
 use Rattle.stencil_data.specs.StandsFor.{MergedStandsFor}
@@ -8,8 +8,8 @@ use Rattle.script_image.specs.Listed.{ShowsListed}
 use Rattle.script_image.specs.declared.script_lines.Listing.{Listing}
 use Rattle.session_words.specs.Asked as asked
 use Rattle.holzikra_listing.specs.Notes.{IsListing}
-use Rattle.holzikra_objects.specs.Objects.{IsScriptLine}
 use Rattle.holzikra_words.specs.declared.functions.FunctionWord.{FunctionWord}
+use Rattle.holzikra_scripts.specs.Notes.{IsScriptLine}
 use Rattle.holzikra_scripts.specs.declared.choice.Choice.{Choice}
 use Rattle.holzikra_scripts.specs.declared.choice.Choice.TheVariants as choice
 use Rattle.holzikra_scripts.specs.declared.choice.Chosen.{Chosen}
@@ -36,10 +36,10 @@ pub record HasNoted (plain out : List ℕ) : Type 0 where
 abbrev pub IsNoted : Lines → MergedView → List ℕ → Type 0
 IsNoted lines stencil out = (named : NamedMerged (List Listed)) → MergedStandsFor ShowsListed stencil named → HasNoted (lines named) out
 
--- the line of the value of a file of this name and so many bytes, of the script that the stencil stands for, with notes
-abbrev pub IsJson : Listing → List ℕ → ℕ → MergedView → List ℕ → Type 0
-IsJson listing name bytes stencil out =
-    (named : NamedMerged (List Listed)) → MergedStandsFor ShowsListed stencil named → IsScriptLine listing name bytes named out
+-- the line of the value of a file of this name and so many bytes, of the script that the stencil stands for, by its source text where it is at hand
+abbrev pub IsJson : Listing → (name : List ℕ) → (bytes : ℕ) → (source : Option (List ℕ)) → MergedView → List ℕ → Type 0
+IsJson listing name bytes source stencil out =
+    (named : NamedMerged (List Listed)) → MergedStandsFor ShowsListed stencil named → IsScriptLine listing name bytes source named out
 
 -- the functions that are chosen, in the words of a command of `stencilc`
 abbrev pub wanted_of : Choice → asked.Wanted

@@ -1,9 +1,8 @@
 //! The differences of two scripts' code.
 
 use crate::difference_json::difference_line;
-use crate::source::SourceText;
+use crate::source::KnownText;
 use holzikra_diff::{Side, append_difference, difference_of};
-use holzikra_names::{Source, Spot};
 use holzikra_places::push_shown_text;
 use holzikra_words::DiffFormat;
 use std::alloc::{AllocError, Global};
@@ -25,34 +24,12 @@ pub struct Comparison {
     pub differs: bool,
 }
 
-/// The source text of a script, where it is known.
-#[derive(Drop)]
-struct ComparedSource<'a> {
-    text: Option<SourceText<'a>>,
-}
-
-impl<'a> Source for ComparedSource<'a> {
-    fn spot(&self, offset: u32) -> Option<Spot> {
-        match &self.text {
-            None => None,
-            Some(text) => text.spot(offset),
-        }
+/// The source text of a script that is compared.
+fn source_of<'a>(alloc: Global, text: Option<&'a [u8]>) -> Result<KnownText<'a>, AllocError> {
+    match text {
+        None => Ok(KnownText { text: None }),
+        Some(text) => KnownText::of(alloc, text),
     }
-
-    fn line_of(&self, offset: u32) -> Option<&[u8]> {
-        match &self.text {
-            None => None,
-            Some(text) => text.line_of(offset),
-        }
-    }
-}
-
-fn source_of<'a>(alloc: Global, text: Option<&'a [u8]>) -> Result<ComparedSource<'a>, AllocError> {
-    let text = match text {
-        None => None,
-        Some(text) => Some(SourceText::of(alloc, text)?),
-    };
-    Ok(ComparedSource { text })
 }
 
 /// The name of a file as it is written: for a person so that it stays in its line.

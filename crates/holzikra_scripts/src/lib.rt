@@ -8,8 +8,8 @@
 //! (`IsPlain` of `specs/Written.antt`); what [`noted_code`] writes is that listing with notes, where all functions are chosen
 //! (`IsNoted`); what [`image_code`] writes is the same of the scripts of an image (`IsLoaded` of `specs/Images.antt`), and so of what was
 //! saved what is written of the script itself (`IsLoadedBack`); what [`json_of_script`] writes is the line of the value that holzikra_objects
-//! has for the script (`IsJson`). Which functions are chosen by their names and places is only tested, but for the one around an offset
-//! (holzikra_finding).
+//! has for the script, with the places, bytes and depths of its functions (`IsJson`, `AreNotes` of `specs/Notes.antt`). Which functions
+//! are chosen by their names and places is only tested, but for the one around an offset (holzikra_finding).
 #![tactic(auto)]
 
 mod choice;

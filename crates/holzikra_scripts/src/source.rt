@@ -1,22 +1,25 @@
 //! The source text of a script, for what is told of places in it.
 
+ghost use Rattle.std.specs.Prelude.{◌≡◌, IfOk, Some};
+ghost use Rattle.holzikra_scripts.specs.Notes.{IsSpotIn, source_of};
+
 use holzikra_names::{Source, Spot};
-use holzikra_places::Lines;
+use holzikra_places::TextPlaces;
 use std::alloc::{AllocError, Global};
 
 /// How many bytes of a line are handed out at most. The front of a line that is shown has 100 characters of at most four bytes.
 const MOST_OF_LINE: usize = 404;
 
-/// How many bytes of the text stand between two marks.
-const STRIDE: usize = 1024;
-
-/// A source text, the table of its lines, and marks by which a column is found in a long line.
+/// A source text, and the places in it.
 #[derive(Drop)]
 pub struct SourceText<'a> {
-    text: &'a [u8],
-    lines: Lines,
-    /// How many 16-bit units of UTF-16 stand in front of the first byte, of that after `STRIDE` bytes, and so on.
-    marks: Vec<usize>,
+    places: TextPlaces<'a>,
+}
+
+/// The source text of a script where it is at hand, as it is not of an image.
+#[derive(Drop)]
+pub(crate) struct KnownText<'a> {
+    pub(crate) text: Option<SourceText<'a>>,
 }
 
 /// A line without its end (ECMA-262, clause 12.3).
@@ -50,52 +53,37 @@ fn units_of(byte: u8) -> usize {
     }
 }
 
-/// How many 16-bit units some bytes bring.
-fn units_in(bytes: &[u8]) -> usize {
-    let mut units = 0usize;
-    for byte in bytes {
-        units = units.saturating_add(units_of(*byte));
-    }
-    units
-}
-
-/// The marks of a text.
-fn marks_of(alloc: Global, text: &[u8]) -> Result<Vec<usize>, AllocError> {
-    let mut marks = Vec::new(alloc);
-    let mut units = 0usize;
-    for piece in text.chunks(STRIDE) {
-        marks.push(units)?;
-        units = units.saturating_add(units_in(piece));
-    }
-    marks.push(units)?;
-    Ok(marks)
-}
-
 impl<'a> SourceText<'a> {
     /// A source text, of which the lines are looked for. Takes time in proportion to its bytes; a place then takes as much at most as
     /// some thousand bytes.
-    pub fn of(alloc: Global, text: &'a [u8]) -> Result<SourceText<'a>, AllocError> {
-        let lines = Lines::of(alloc, text)?;
-        let marks = marks_of(alloc, text)?;
-        Ok(SourceText { text, lines, marks })
+    pub fn of(alloc: Global, text: &'a [u8]) -> Result<SourceText<'a>, AllocError>
+        ensures { IfOk result (λ source. source.places.text.now ≡ text.now) }
+    {
+        let places = TextPlaces::of(alloc, text)?;
+        Ok(SourceText { places })
     }
 
-    /// How many 16-bit units stand in front of an offset.
-    fn units_before(&self, offset: usize) -> usize {
-        let place = offset / STRIDE;
-        let units = self.marks.get(place).copied().unwrap_or(0);
-        match self.text.get(place.saturating_mul(STRIDE)..offset) {
-            None => units,
-            Some(piece) => units.saturating_add(units_in(piece)),
+    /// The line and the column of an offset; none where the text has no such offset.
+    pub(crate) fn spot_of(&self, offset: u32) -> Option<Spot>
+        ensures { IsSpotIn (Some self.now.places.text.now) offset result }
+    {
+        match self.places.place_of(offset as usize) {
+            None => None,
+            Some(place) => Some(Spot {
+                line: place.line,
+                column: place.column,
+            }),
         }
     }
 
     /// The line of this number, from 1, with its end, and where it starts.
     fn line(&self, number: usize) -> Option<(usize, &'a [u8])> {
         let index = number.checked_sub(1)?;
-        let start = self.lines.starts.get(index).copied()?;
-        let end = self.lines.starts.get(number).copied();
-        let line = self.text.get(start..end.unwrap_or(self.text.len()))?;
+        let starts = &self.places.lines.starts;
+        let start = starts.get(index).copied()?;
+        let end = starts.get(number).copied();
+        let text = self.places.text;
+        let line = text.get(start..end.unwrap_or(text.len()))?;
         Some((start, line))
     }
 
@@ -119,24 +107,45 @@ impl<'a> SourceText<'a> {
 
 impl<'a> Source for SourceText<'a> {
     fn spot(&self, offset: u32) -> Option<Spot> {
-        let offset = offset as usize;
-        if offset > self.text.len() {
-            return None;
-        }
-        let line = self.lines.starts.partition_point(|start| *start <= offset);
-        let (start, _) = self.line(line)?;
-        let units = self
-            .units_before(offset)
-            .saturating_sub(self.units_before(start));
-        Some(Spot {
-            line,
-            column: units.saturating_add(1),
-        })
+        self.spot_of(offset)
     }
 
     fn line_of(&self, offset: u32) -> Option<&[u8]> {
         let spot = self.spot(offset)?;
         let (_, line) = self.line(spot.line)?;
         Some(front_of(without_end(line)))
+    }
+}
+
+impl<'a> KnownText<'a> {
+    /// This text.
+    pub(crate) fn of(alloc: Global, text: &'a [u8]) -> Result<KnownText<'a>, AllocError>
+        ensures { IfOk result (λ known. source_of known ≡ Some text.now) }
+    {
+        let source = SourceText::of(alloc, text)?;
+        Ok(KnownText { text: Some(source) })
+    }
+
+    /// The line and the column of an offset, where the text is at hand and has that offset.
+    pub(crate) fn spot_of(&self, offset: u32) -> Option<Spot>
+        ensures { IsSpotIn (source_of self.now) offset result }
+    {
+        match &self.text {
+            None => None,
+            Some(text) => text.spot_of(offset),
+        }
+    }
+}
+
+impl<'a> Source for KnownText<'a> {
+    fn spot(&self, offset: u32) -> Option<Spot> {
+        self.spot_of(offset)
+    }
+
+    fn line_of(&self, offset: u32) -> Option<&[u8]> {
+        match &self.text {
+            None => None,
+            Some(text) => text.line_of(offset),
+        }
     }
 }

@@ -1,8 +1,15 @@
 //! The table of the counts of scripts.
 
+ghost use Rattle.std.specs.Prelude.{◌≡◌, ◌<◌, IfOk, IsPermutation};
+ghost use Rattle.std.specs.List.Sorted.{IsSorted, IsStable};
+ghost use Rattle.holzikra_scripts.specs.Rows.{falling, line_cmp};
+
 use crate::counts::Row;
 use holzikra_places::push_shown_text;
+use holzikra_words::Column;
 use std::alloc::{AllocError, Global};
+use std::cmp::Ordering;
+use std::mem;
 
 /// How many columns of numbers the table has.
 const COLUMNS: usize = 7;
@@ -44,6 +51,45 @@ fn numbers_of(row: &Row) -> [u128; COLUMNS] {
         u128::from(row.counts.nested),
         row.source_bytes as u128,
     ]
+}
+
+/// How lines stand to each other whose greater number in this place comes first.
+fn falling_cmp(one: &Line, other: &Line, place: usize) -> Ordering
+    requires { place < 7 }
+    ensures { result ≡ falling place one.now other.now }
+{
+    other.numbers[place].cmp(&one.numbers[place])
+}
+
+/// How lines stand to each other by a column: names rise, numbers fall.
+fn column_cmp(one: &Line, other: &Line, column: Column) -> Ordering
+    ensures { result ≡ line_cmp column one.now other.now }
+{
+    match column {
+        Column::File => one.name.cmp(&other.name),
+        Column::Functions => falling_cmp(one, other, 0),
+        Column::Closed => falling_cmp(one, other, 1),
+        Column::Instructions => falling_cmp(one, other, 2),
+        Column::CodeBytes => falling_cmp(one, other, 3),
+        Column::Depth => falling_cmp(one, other, 4),
+        Column::Nested => falling_cmp(one, other, 5),
+        Column::SourceBytes => falling_cmp(one, other, 6),
+    }
+}
+
+/// The lines by a column; those that are equal there come as they came.
+fn sorted_lines(lines: Vec<Line>, column: Column) -> Result<Vec<Line>, AllocError>
+    ensures permutation { IfOk result (λ sorted. IsPermutation lines.items sorted.items) }
+    ensures sorted { IfOk result (λ sorted. IsSorted (line_cmp column) sorted.items) }
+    ensures stable { IfOk result (λ sorted. IsStable (line_cmp column) lines.items sorted.items) }
+{
+    let mut sorted = lines;
+    sorted.sort_by(
+        |one: &Line, other: &Line| -> Ordering
+            ensures { result ≡ line_cmp column one.now other.now }
+        { column_cmp(one, other, column) },
+    )?;
+    Ok(sorted)
 }
 
 /// Whether a column has the greatest number at the end, and not the sum.
@@ -114,6 +160,13 @@ impl Table {
         Ok(())
     }
 
+    /// Sorts the lines by a column.
+    pub fn sort(&mut self, column: Column) -> Result<(), AllocError> {
+        let lines = mem::replace(&mut self.lines, Vec::new(self.alloc));
+        self.lines = sorted_lines(lines, column)?;
+        Ok(())
+    }
+
     /// How many lines there are.
     pub fn count(&self) -> usize {
         self.lines.len()
@@ -162,9 +215,9 @@ impl Table {
         into.push('\n')
     }
 
-    /// The table, with a last line of this name for all together: of depths the greatest, else sums.
-    pub fn text(&self, last: &str) -> Result<String, AllocError> {
-        let width = self.name_width(last);
+    /// The table, where it is named with a last line of this name for all together: of depths the greatest, else sums.
+    pub fn text(&self, last: Option<&str>) -> Result<String, AllocError> {
+        let width = self.name_width(last.unwrap_or(""));
         let widths = self.widths()?;
         let mut text = String::new(self.alloc);
         push_left(&mut text, "file", width)?;
@@ -173,8 +226,10 @@ impl Table {
             push_left(&mut text, line.name.as_str(), width)?;
             self.push_numbers(&mut text, &line.numbers, &widths)?;
         }
-        push_left(&mut text, last, width)?;
-        self.push_numbers(&mut text, &self.totals, &widths)?;
+        if let Some(last) = last {
+            push_left(&mut text, last, width)?;
+            self.push_numbers(&mut text, &self.totals, &widths)?;
+        }
         Ok(text)
     }
 }

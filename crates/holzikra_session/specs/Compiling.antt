@@ -1,6 +1,6 @@
 -- What compiling a text comes to, and what is written of it. What a judge says of a text is its own: `judges` is what its verdict means,
 -- and `shows` what is shown of the script that a text is where these functions are wanted.
-use Rattle.std.specs.Prelude.{◌≡◌, ℕ, ◌<◌, List, ◌++◌, length, codes}
+use Rattle.std.specs.Prelude.{◌≡◌, ℕ, ◌<◌, List, ◌++◌, length, codes, Option}
 use Rattle.stencil_data.specs.MergedView.{MergedView}
 use Rattle.stencil_data.specs.Named.{NamedMerged}
 use Rattle.stencil_data.specs.StandsFor.{MergedStandsFor}
@@ -9,7 +9,6 @@ use Rattle.script_image.specs.ScriptLines.{code_text, scope_text, listed_merged}
 use Rattle.script_image.specs.declared.script_lines.Listing.TheVariants as of
 use Rattle.session_words.specs.Asked.{Wanted}
 use Rattle.holzikra_stats.specs.Counts as counts
-use Rattle.holzikra_objects.specs.Objects.{IsScriptLine}
 use Rattle.holzikra_words.specs.declared.code.CodeFormat.{CodeFormat}
 use Rattle.holzikra_words.specs.declared.code.CodeFormat.TheVariants as code
 use Rattle.holzikra_words.specs.declared.scopes.ScopesFormat.{ScopesFormat}
@@ -18,6 +17,7 @@ use Rattle.holzikra_words.specs.declared.functions.FunctionWord.{FunctionWord}
 use Rattle.holzikra_scripts.specs.declared.choice.Choice.{Choice}
 use Rattle.holzikra_scripts.specs.declared.choice.Choice.TheVariants as choice
 use Rattle.holzikra_scripts.specs.declared.counts.Row.{Row}
+use Rattle.holzikra_scripts.specs.Notes.{IsScriptLine}
 use Rattle.holzikra_scripts.specs.Written.{HasNoted, IsChoiceOf, wanted_of}
 use Rattle.holzikra_session.specs.declared.verdict.Verdict.{Verdict}
 use Rattle.holzikra_session.specs.declared.verdict.Verdict.TheVariants as verdict
@@ -65,18 +65,18 @@ IsInspected judges words text Is (inspected.Refused reason) = judges text (verdi
 IsInspected judges words text Is (inspected.NoFunction place) = place < length words
 
 -- the code of a file of this name and so many bytes: the listing as `stencilc code` writes it; that with notes, or itself, where no function is
--- left out; or the line of its value in JSON
-abbrev pub IsCode : CodeFormat → List ℕ → ℕ → Choice → NamedMerged (List Listed) → List ℕ → Type 0
-IsCode code.Plain name bytes chosen named out = out ≡ codes "file " ++ name ++ codes "\n" ++ code_text named
-IsCode code.Human name bytes chosen named out = chosen ≡ choice.All → HasNoted (code_text named) out
-IsCode code.Json name bytes chosen named out = IsScriptLine of.Code name bytes named out
+-- left out; or the line of its value in JSON, with the places of the source text where that is at hand
+abbrev pub IsCode : CodeFormat → (name : List ℕ) → (bytes : ℕ) → (source : Option (List ℕ)) → Choice → NamedMerged (List Listed) → List ℕ → Type 0
+IsCode code.Plain name bytes source chosen named out = out ≡ codes "file " ++ name ++ codes "\n" ++ code_text named
+IsCode code.Human name bytes source chosen named out = chosen ≡ choice.All → HasNoted (code_text named) out
+IsCode code.Json name bytes source chosen named out = IsScriptLine of.Code name bytes source named out
 
 -- the scopes: the listing as `stencilc scopes` writes it, or the line of its value in JSON; of drawings nothing is said
-abbrev pub AreScopes : ScopesFormat → List ℕ → ℕ → Choice → NamedMerged (List Listed) → List ℕ → Type 0
-AreScopes scopes.Plain name bytes chosen named out = out ≡ codes "file " ++ name ++ codes "\n" ++ scope_text named
-AreScopes scopes.Json name bytes chosen named out = IsScriptLine of.Scopes name bytes named out
-AreScopes scopes.Human name bytes chosen named out = Unit {0}
-AreScopes scopes.Dot name bytes chosen named out = Unit {0}
+abbrev pub AreScopes : ScopesFormat → (name : List ℕ) → (bytes : ℕ) → (source : Option (List ℕ)) → Choice → NamedMerged (List Listed) → List ℕ → Type 0
+AreScopes scopes.Plain name bytes source chosen named out = out ≡ codes "file " ++ name ++ codes "\n" ++ scope_text named
+AreScopes scopes.Json name bytes source chosen named out = IsScriptLine of.Scopes name bytes source named out
+AreScopes scopes.Human name bytes source chosen named out = Unit {0}
+AreScopes scopes.Dot name bytes source chosen named out = Unit {0}
 
 -- the counts are those of the stencil
 pub record AreCountsOf (stencil : MergedView) (text : List ℕ) (row : Row) : Type 0 where

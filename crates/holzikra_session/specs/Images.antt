@@ -1,5 +1,5 @@
 -- What saving a text comes to, what is listed of an image, and which images count as refused. What a judge says of an image is its own.
-use Rattle.std.specs.Prelude.{◌≡◌, ℕ, Bool, true, false, ◌||◌, List, Some, ◌⊎◌}
+use Rattle.std.specs.Prelude.{◌≡◌, ℕ, Bool, true, false, ◌||◌, List, length, Some, None, ◌⊎◌}
 use Rattle.stencil_data.specs.Named.{NamedMerged}
 use Rattle.bytecode_buf.specs.Command.{Command}
 use Rattle.script_image.specs.ScriptLines.{listed_merged}
@@ -37,7 +37,7 @@ pub record IsImageCounted (found : Verified) (before after : Tally) : Type 0 whe
 
 -- an image is listed, and counts as no refusal
 pub record IsListedImage (format : LoadFormat) (name image : List ℕ) (before after : Tally) (out : List ℕ) : Type 0 where
-  pub is : IsLoaded image (λ named lines. IsImageCode format name named lines) (Some out)
+  pub is : IsLoaded image (λ named lines. IsImageCode format name image named lines) (Some out)
   pub refused : after.refused ≡ before.refused
   pub failed : after.failed ≡ before.failed
 
@@ -55,9 +55,10 @@ IsListed format name image before after out = IsListedImage format name image be
 abbrev pub code_format : LoadFormat → CodeFormat
 code_format load.Plain = code.Plain
 code_format load.Human = code.Human
+code_format load.Json = code.Json
 
--- where the bytes were saved of a script, this is a listing of that script as `code` has it, of however many bytes of text
+-- where the bytes were saved of a script, this is a listing of that script as `code` has it, of a file of so many bytes without a source text
 abbrev pub IsSavedCode : LoadFormat → List ℕ → List ℕ → List ℕ → Type 0
 IsSavedCode format name image out =
-    (named : NamedMerged (List Command)) (bytes : ℕ) → IsImage named image
-    → IsCode (code_format format) name bytes choice.All (listed_merged named) out
+    (named : NamedMerged (List Command)) → IsImage named image
+    → IsCode (code_format format) name (length image) None choice.All (listed_merged named) out

@@ -1,13 +1,16 @@
 //! The command `diff`.
 
 use crate::complaint::complain;
-use crate::human::image_line;
+use crate::images::image_line;
+use crate::json;
 use crate::reading::{image_of, input_image};
 use crate::refusal::{Said, Showing, answer_refused};
+use crate::screen::{Surroundings, print_answer};
 use crate::status::{Status, Tally};
 use crate::verdict::{Compiled, Judge, Reason, Verified};
+use holzikra_colours::Answer;
 use holzikra_scripts::{Compared, compare_scripts};
-use holzikra_words::{DiffOptions, Format};
+use holzikra_words::{DiffFormat, DiffOptions, Format, VerifyFormat};
 use std::io;
 use std::io::{ErrorKind, Write};
 use std::rt::Runtime;
@@ -35,9 +38,31 @@ enum Side {
     Refused,
 }
 
-/// The file that a word names. One that cannot be read is complained of; want of memory ends the command.
+/// Says that a file cannot be read. Want of memory ends the command.
+fn fault<R: Runtime + AllocGlobal>(
+    rt: &R,
+    format: DiffFormat,
+    name: &str,
+    error: io::Error,
+) -> io::Result<()> {
+    if error.kind() == ErrorKind::OutOfMemory {
+        return Err(error);
+    }
+    let why = format!(in rt.alloc(); "{error}")?;
+    complain(rt, name, why.as_str())?;
+    match format {
+        DiffFormat::Human => Ok(()),
+        DiffFormat::Json => {
+            let line = json::unreadable_line(rt.alloc(), name, why.as_str())?;
+            io::writer(rt).write_all(line.as_bytes())
+        }
+    }
+}
+
+/// The file that a word names; none where it cannot be read, which is said.
 fn file_of<'a, R: Runtime + AllocGlobal>(
     rt: &R,
+    format: DiffFormat,
     word: &'a str,
     stdin_name: &'a str,
 ) -> io::Result<Option<File<'a>>> {
@@ -49,22 +74,40 @@ fn file_of<'a, R: Runtime + AllocGlobal>(
     match read {
         Ok(bytes) => Ok(Some(File { name, bytes })),
         Err(error) => {
-            if error.kind() == ErrorKind::OutOfMemory {
-                return Err(error);
-            }
-            let why = format!(in rt.alloc(); "{error}")?;
-            complain(rt, name, why.as_str())?;
+            fault(rt, format, name, error)?;
             Ok(None)
         }
     }
 }
 
+/// How refusals are shown where differences are written so.
+fn refusal_format(format: DiffFormat) -> Format {
+    match format {
+        DiffFormat::Human => Format::Human,
+        DiffFormat::Json => Format::Json,
+    }
+}
+
+/// How the verdict on an image is written there.
+fn verdict_format(format: DiffFormat) -> VerifyFormat {
+    match format {
+        DiffFormat::Human => VerifyFormat::Human,
+        DiffFormat::Json => VerifyFormat::Json,
+    }
+}
+
 /// Writes why a text is refused, as `check` does.
-fn refuse<R: Runtime + AllocGlobal>(rt: &R, file: &File<'_>, reason: Reason) -> io::Result<()> {
+fn refuse<R: Runtime + AllocGlobal>(
+    rt: &R,
+    format: DiffFormat,
+    colors: bool,
+    file: &File<'_>,
+    reason: Reason,
+) -> io::Result<()> {
     let alloc = rt.alloc();
     let mut tally = Tally::new();
     let mut said = Said::new(alloc);
-    let showing = Showing::all(Format::Human);
+    let showing = Showing::all(refusal_format(format));
     let lines = answer_refused(
         alloc,
         showing,
@@ -74,17 +117,19 @@ fn refuse<R: Runtime + AllocGlobal>(rt: &R, file: &File<'_>, reason: Reason) -> 
         &mut tally,
         &mut said,
     )?;
-    io::writer(rt).write_all(lines.as_bytes())
+    print_answer(rt, colors, Answer::Refusals, lines.into_bytes())
 }
 
 /// Writes why a file is refused that is taken as an image, as `verify` does.
 fn refuse_image<R: Runtime + AllocGlobal>(
     rt: &R,
+    format: DiffFormat,
+    colors: bool,
     file: &File<'_>,
     found: Verified,
 ) -> io::Result<Side> {
-    let line = image_line(rt.alloc(), file.name, found)?;
-    io::writer(rt).write_all(line.as_bytes())?;
+    let line = image_line(rt.alloc(), verdict_format(format), file.name, found)?;
+    print_answer(rt, colors, Answer::Images, line.into_bytes())?;
     Ok(Side::Refused)
 }
 
@@ -92,13 +137,15 @@ fn refuse_image<R: Runtime + AllocGlobal>(
 fn script_of<R: Runtime + AllocGlobal, J: Judge>(
     rt: &R,
     judge: &J,
+    format: DiffFormat,
+    colors: bool,
     file: &File<'_>,
 ) -> io::Result<Side> {
     let compiled = judge.compile(rt.alloc(), &file.bytes, &[])?;
     match compiled {
         Compiled::Script(stencil, _) => Ok(Side::Script(stencil)),
         Compiled::Refused(reason) => {
-            refuse(rt, file, reason)?;
+            refuse(rt, format, colors, file, reason)?;
             Ok(Side::Refused)
         }
         Compiled::NoFunction(_) => unreachable!(),
@@ -109,16 +156,20 @@ fn script_of<R: Runtime + AllocGlobal, J: Judge>(
 fn side_of<R: Runtime + AllocGlobal, J: Judge>(
     rt: &R,
     judge: &J,
+    format: DiffFormat,
+    colors: bool,
     file: &File<'_>,
 ) -> io::Result<Side> {
     let found = judge.verify(rt.alloc(), &file.bytes)?;
     match found {
-        Verified::Unsound { .. } => refuse_image(rt, file, found),
-        Verified::NoImage if file.name.ends_with(IMAGE_END) => refuse_image(rt, file, found),
-        Verified::NoImage => script_of(rt, judge, file),
+        Verified::Unsound { .. } => refuse_image(rt, format, colors, file, found),
+        Verified::NoImage if file.name.ends_with(IMAGE_END) => {
+            refuse_image(rt, format, colors, file, found)
+        }
+        Verified::NoImage => script_of(rt, judge, format, colors, file),
         Verified::Sound { .. } => match read_image(rt.alloc(), &file.bytes) {
             Ok(stencil) => Ok(Side::Image(stencil)),
-            Err(ImageFault::NoImage) => refuse_image(rt, file, Verified::NoImage),
+            Err(ImageFault::NoImage) => refuse_image(rt, format, colors, file, Verified::NoImage),
             Err(ImageFault::NoMemory) => Err(ErrorKind::OutOfMemory.into()),
         },
     }
@@ -145,15 +196,18 @@ fn compare<R: Runtime + AllocGlobal, J: Judge>(
     options: &DiffOptions,
     old: &File<'_>,
     new: &File<'_>,
+    around: Surroundings,
 ) -> io::Result<Status> {
-    let old_side = side_of(rt, judge, old)?;
-    let new_side = side_of(rt, judge, new)?;
+    let format = options.format;
+    let colors = format == DiffFormat::Human && around.colors(options.colors);
+    let old_side = side_of(rt, judge, format, colors, old)?;
+    let new_side = side_of(rt, judge, format, colors, new)?;
     let (Some(before), Some(after)) = (compared_of(old, &old_side), compared_of(new, &new_side))
     else {
         return Ok(Status::Trouble);
     };
     let comparison = compare_scripts(rt.alloc(), options.format, before, after)?;
-    io::writer(rt).write_all(&comparison.lines)?;
+    print_answer(rt, colors, Answer::Difference, comparison.lines)?;
     if comparison.differs {
         Ok(Status::Refused)
     } else {
@@ -166,12 +220,14 @@ pub(crate) fn diff_files<R: Runtime + AllocGlobal, J: Judge>(
     rt: &R,
     judge: &J,
     options: &DiffOptions,
+    around: Surroundings,
 ) -> io::Result<Status> {
     let stdin_name = options.stdin_name.as_str();
-    let old = file_of(rt, options.old.as_str(), stdin_name)?;
-    let new = file_of(rt, options.new.as_str(), stdin_name)?;
+    let format = options.format;
+    let old = file_of(rt, format, options.old.as_str(), stdin_name)?;
+    let new = file_of(rt, format, options.new.as_str(), stdin_name)?;
     match (old, new) {
-        (Some(old), Some(new)) => compare(rt, judge, options, &old, &new),
+        (Some(old), Some(new)) => compare(rt, judge, options, &old, &new, around),
         _ => Ok(Status::Trouble),
     }
 }

@@ -5,6 +5,7 @@ use crate::explain::explain_all;
 use crate::files::answer_files;
 use crate::report::report_files;
 use crate::save::save_file;
+use crate::screen::{Surroundings, Terminals};
 use crate::status::Status;
 use crate::task::Task;
 use crate::verdict::Judge;
@@ -18,18 +19,19 @@ fn perform<R: Runtime + AllocGlobal, J: Judge>(
     rt: &R,
     judge: &J,
     request: &Request,
+    around: Surroundings,
 ) -> io::Result<Status> {
     match request {
-        Request::Check(options) => answer_files(rt, judge, Task::Check(options)),
-        Request::Code(options) => answer_files(rt, judge, Task::Code(options)),
-        Request::Scopes(options) => answer_files(rt, judge, Task::Scopes(options)),
-        Request::Stats(options) => answer_files(rt, judge, Task::Stats(options)),
-        Request::Diff(options) => diff_files(rt, judge, options),
-        Request::Report(options) => report_files(rt, judge, options),
+        Request::Check(options) => answer_files(rt, judge, Task::Check(options), around),
+        Request::Code(options) => answer_files(rt, judge, Task::Code(options), around),
+        Request::Scopes(options) => answer_files(rt, judge, Task::Scopes(options), around),
+        Request::Stats(options) => answer_files(rt, judge, Task::Stats(options), around),
+        Request::Diff(options) => diff_files(rt, judge, options, around),
+        Request::Report(options) => report_files(rt, judge, options, around),
         Request::Save(options) => save_file(rt, judge, options),
-        Request::Load(options) => answer_files(rt, judge, Task::Load(options)),
-        Request::Verify(options) => answer_files(rt, judge, Task::Verify(options)),
-        Request::Explain(options) => explain_all(rt, options),
+        Request::Load(options) => answer_files(rt, judge, Task::Load(options), around),
+        Request::Verify(options) => answer_files(rt, judge, Task::Verify(options), around),
+        Request::Explain(options) => explain_all(rt, options, around),
     }
 }
 
@@ -49,9 +51,17 @@ fn status_of(done: io::Result<Status>) -> Status {
 
 /// Does what the words behind the program's name ask for, with this judge. Help and the version go to standard output, what is wrong
 /// with the words to standard error.
-pub fn run<R: Runtime + AllocGlobal, J: Judge>(rt: &R, judge: &J, words: &[String]) -> Status {
+pub fn run<R: Runtime + AllocGlobal, J: Judge>(
+    rt: &R,
+    judge: &J,
+    words: &[String],
+    terminals: Terminals,
+) -> Status {
     match read_words(rt.alloc(), words) {
-        Ok(request) => status_of(perform(rt, judge, &request)),
+        Ok(request) => {
+            let around = Surroundings::of(rt, terminals);
+            status_of(perform(rt, judge, &request, around))
+        }
         Err(error) => {
             let shown = error.print(rt);
             if error.kind() == clap::error::ErrorKind::OutOfMemory {

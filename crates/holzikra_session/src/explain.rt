@@ -1,6 +1,8 @@
 //! The command `explain`.
 
+use crate::screen::{Surroundings, print_answer};
 use crate::status::Status;
+use holzikra_colours::Answer;
 use holzikra_refusals::{Entry, all_entries, code_named};
 use holzikra_words::ExplainOptions;
 use std::alloc::{AllocError, Global};
@@ -50,10 +52,12 @@ fn list(alloc: Global) -> Result<String, AllocError> {
 pub(crate) fn explain_all<R: Runtime + AllocGlobal>(
     rt: &R,
     options: &ExplainOptions,
+    around: Surroundings,
 ) -> io::Result<Status> {
+    let colors = around.colors(options.colors);
     if options.codes.is_empty() {
         let lines = list(rt.alloc())?;
-        print!(rt; "{lines}")?;
+        print_answer(rt, colors, Answer::Codes, lines.into_bytes())?;
         return Ok(Status::Fine);
     }
     let mut status = Status::Fine;
@@ -65,8 +69,10 @@ pub(crate) fn explain_all<R: Runtime + AllocGlobal>(
             }
             Some(entry) => {
                 let lines = explained(rt.alloc(), entry)?;
-                let gap = if place == 0 { "" } else { "\n" };
-                print!(rt; "{gap}{lines}")?;
+                if place > 0 {
+                    print!(rt; "\n")?;
+                }
+                print_answer(rt, colors, Answer::Codes, lines.into_bytes())?;
             }
         }
     }

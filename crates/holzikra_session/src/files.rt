@@ -7,11 +7,13 @@ use crate::inspected::Inspected;
 use crate::listings::{code_of, scopes_of};
 use crate::reading::{image_of, input_image};
 use crate::refusal::{Said, Showing, answer_refused};
+use crate::screen::{Screen, Surroundings};
 use crate::stats::counts_of_text;
 use crate::status::{Status, Tally};
 use crate::task::Task;
 use crate::verdict::{Judge, Reason};
 use crate::{human, json, sarif};
+use holzikra_colours::Answer;
 use holzikra_scripts::{Row, Table, row_line};
 use holzikra_walk::{Found, Walk};
 use holzikra_words::{CheckOptions, Format, LoadOptions, StatsFormat, StatsOptions, VerifyOptions};
@@ -41,7 +43,7 @@ pub(crate) fn input_bytes<R: Input + AllocGlobal>(rt: &R) -> io::Result<Vec<u8>>
 #[derive(Drop)]
 struct Progress<'a, W: Write + Drop> {
     task: Task<'a>,
-    out: W,
+    screen: Screen<W>,
     tally: Tally,
     said: Said,
     /// The counts of `stats`.
@@ -63,11 +65,12 @@ impl<'a, W: Write + Drop> Progress<'a, W> {
         }
         self.tally.fail();
         let why = format!(in rt.alloc(); "{error}")?;
+        self.screen.wipe(rt)?;
         complain(rt, name, why.as_str())?;
         match self.task.format() {
             Format::Json => {
                 let line = json::unreadable_line(rt.alloc(), name, why.as_str())?;
-                self.out.write_all(line.as_bytes())?;
+                self.screen.write(rt, Answer::Refusals, line.into_bytes())?;
             }
             Format::Sarif => {
                 let fault = sarif::fault_notification(rt.alloc(), name, why.as_str())?;
@@ -88,6 +91,7 @@ impl<'a, W: Write + Drop> Progress<'a, W> {
         self.tally.fail();
         let word = self.task.function_word(rt.alloc(), place)?;
         let why = format!(in rt.alloc(); "no function {word}")?;
+        self.screen.wipe(rt)?;
         complain(rt, name, why.as_str())
     }
 
@@ -109,7 +113,7 @@ impl<'a, W: Write + Drop> Progress<'a, W> {
             &mut self.tally,
             &mut self.said,
         )?;
-        self.out.write_all(lines.as_bytes())
+        self.screen.write(rt, Answer::Refusals, lines.into_bytes())
     }
 
     /// Answers for a text with what `check` says of it.
@@ -130,13 +134,14 @@ impl<'a, W: Write + Drop> Progress<'a, W> {
             &mut self.tally,
             &mut self.said,
         )?;
-        self.out.write_all(lines.as_bytes())
+        self.screen.write(rt, Answer::Refusals, lines.into_bytes())
     }
 
     /// Answers for a text with a listing or a drawing.
     fn list<R: Runtime + AllocGlobal>(
         &mut self,
         rt: &R,
+        answer: Answer,
         name: &str,
         text: &[u8],
         inspected: Inspected<Vec<u8>>,
@@ -144,7 +149,7 @@ impl<'a, W: Write + Drop> Progress<'a, W> {
         match inspected {
             Inspected::Script(lines) => {
                 self.tally.count_script();
-                self.out.write_all(&lines)
+                self.screen.write(rt, answer, lines)
             }
             Inspected::Refused(reason) => self.refused(rt, name, text, reason),
             Inspected::NoFunction(place) => self.no_function(rt, name, place),
@@ -167,7 +172,7 @@ impl<'a, W: Write + Drop> Progress<'a, W> {
                     StatsFormat::Human => self.table.add(name, &row)?,
                     StatsFormat::Json => {
                         let line = row_line(rt.alloc(), name, &row)?;
-                        self.out.write_all(line.as_bytes())?;
+                        self.screen.write(rt, Answer::Table, line.into_bytes())?;
                     }
                 }
                 Ok(())
@@ -186,7 +191,7 @@ impl<'a, W: Write + Drop> Progress<'a, W> {
         image: &[u8],
     ) -> io::Result<()> {
         let lines = list_image(rt.alloc(), options.format, name, image, &mut self.tally)?;
-        self.out.write_all(&lines)
+        self.screen.write(rt, Answer::Listing, lines)
     }
 
     /// Answers for an image with the verdict on its code.
@@ -198,9 +203,8 @@ impl<'a, W: Write + Drop> Progress<'a, W> {
         name: &str,
         image: &[u8],
     ) -> io::Result<()> {
-        let format = options.format;
-        let line = answer_image(rt.alloc(), judge, format, name, image, &mut self.tally)?;
-        self.out.write_all(line.as_bytes())
+        let line = answer_image(rt.alloc(), judge, options, name, image, &mut self.tally)?;
+        self.screen.write(rt, Answer::Images, line.into_bytes())
     }
 
     /// Does for the bytes of a file what the task is.
@@ -215,11 +219,11 @@ impl<'a, W: Write + Drop> Progress<'a, W> {
             Task::Check(options) => self.check(rt, judge, options, name, text),
             Task::Code(options) => {
                 let listing = code_of(rt.alloc(), judge, options, name, text)?;
-                self.list(rt, name, text, listing)
+                self.list(rt, Answer::Listing, name, text, listing)
             }
             Task::Scopes(options) => {
                 let drawing = scopes_of(rt.alloc(), judge, options, name, text)?;
-                self.list(rt, name, text, drawing)
+                self.list(rt, Answer::Tree, name, text, drawing)
             }
             Task::Stats(options) => {
                 let row = counts_of_text(rt.alloc(), judge, text)?;
@@ -273,10 +277,19 @@ impl<'a, W: Write + Drop> Progress<'a, W> {
         }
     }
 
+    /// Shows how far the command is, if it is time.
+    fn go_on<R: Runtime>(&mut self, rt: &R) -> io::Result<()> {
+        let refused = self.tally.errors.saturating_add(self.tally.outside);
+        self.screen.go_on(rt, self.task.word(), refused)
+    }
+
     /// Writes what comes in front of all files.
-    fn start(&mut self) -> io::Result<()> {
+    fn start<R: Runtime + AllocGlobal>(&mut self, rt: &R) -> io::Result<()> {
         match self.task.format() {
-            Format::Sarif => self.out.write_all(sarif::HEAD.as_bytes()),
+            Format::Sarif => {
+                let head = String::from_str(rt.alloc(), sarif::HEAD)?;
+                self.screen.write(rt, Answer::Refusals, head.into_bytes())
+            }
             Format::Human | Format::Json | Format::Github => Ok(()),
         }
     }
@@ -290,14 +303,14 @@ impl<'a, W: Write + Drop> Progress<'a, W> {
         if options.format == Format::Sarif {
             let faults = mem::replace(&mut self.faults, Vec::new(rt.alloc()));
             let lines = sarif::tail(rt.alloc(), faults)?;
-            self.out.write_all(lines.as_bytes())?;
+            self.screen.write(rt, Answer::Refusals, lines.into_bytes())?;
         }
-        if options.quiet {
+        if options.look.quiet {
             return Ok(());
         }
         let line = human::summary(rt.alloc(), &self.tally, &self.said)?;
         match options.format {
-            Format::Human => self.out.write_all(line.as_bytes()),
+            Format::Human => self.screen.write(rt, Answer::Refusals, line.into_bytes()),
             Format::Json | Format::Github | Format::Sarif => eprint!(rt; "{line}"),
         }
     }
@@ -311,20 +324,25 @@ impl<'a, W: Write + Drop> Progress<'a, W> {
         match options.format {
             StatsFormat::Json => Ok(()),
             StatsFormat::Human => {
-                let lines = human::table(rt.alloc(), &self.table, &self.tally)?;
-                self.out.write_all(lines.as_bytes())
+                if let Some(column) = options.sort {
+                    self.table.sort(column)?;
+                }
+                let quiet = options.look.quiet;
+                let lines = human::table(rt.alloc(), &self.table, &self.tally, quiet)?;
+                self.screen.write(rt, Answer::Table, lines.into_bytes())
             }
         }
     }
 
     /// Writes what comes behind all files.
     fn finish<R: Runtime + AllocGlobal>(&mut self, rt: &R) -> io::Result<Status> {
+        self.screen.wipe(rt)?;
         match self.task {
             Task::Check(options) => self.finish_check(rt, options)?,
             Task::Stats(options) => self.finish_stats(rt, options)?,
             Task::Code(_) | Task::Scopes(_) | Task::Load(_) | Task::Verify(_) => (),
         }
-        self.out.flush()?;
+        self.screen.finish()?;
         Ok(self.tally.status())
     }
 }
@@ -335,23 +353,26 @@ pub(crate) fn answer_files<R: Runtime + AllocGlobal, J: Judge>(
     rt: &R,
     judge: &J,
     task: Task<'_>,
+    around: Surroundings,
 ) -> io::Result<Status> {
     let files = task.files();
     let mut walk = Walk::new(rt, files)?;
+    let out = BufWriter::new(rt.alloc(), io::writer(rt))?;
     let mut progress = Progress {
         task,
-        out: BufWriter::new(rt.alloc(), io::writer(rt))?,
+        screen: Screen::of(out, task, around),
         tally: Tally::new(),
         said: Said::new(rt.alloc()),
         table: Table::new(rt.alloc()),
         faults: Vec::new(rt.alloc()),
     };
-    progress.start()?;
+    progress.start(rt)?;
     for _ in 0..u64::MAX {
         let Some(found) = walk.next(rt, files)? else {
             break;
         };
         progress.answer(rt, judge, found)?;
+        progress.go_on(rt)?;
     }
     progress.finish(rt)
 }

@@ -128,12 +128,20 @@ pub(crate) fn image_line(alloc: Global, name: &str, found: Verified) -> Result<S
     Ok(line)
 }
 
-/// The table of counts, and how many files are refused.
-pub(crate) fn table(alloc: Global, table: &Table, tally: &Tally) -> Result<String, AllocError> {
+/// The table of counts; and for a person who wants a summary what all files have together, and how many are refused.
+pub(crate) fn table(
+    alloc: Global,
+    table: &Table,
+    tally: &Tally,
+    quiet: bool,
+) -> Result<String, AllocError> {
+    if quiet {
+        return table.text(None);
+    }
     let refused = tally.errors.saturating_add(tally.outside);
     let mut last = String::new(alloc);
     push_count(&mut last, table.count() as u64, "file", "files")?;
-    let mut lines = table.text(last.as_str())?;
+    let mut lines = table.text(Some(last.as_str()))?;
     if refused > 0 {
         push_count(&mut lines, refused, "file", "files")?;
         lines.push_str(" refused\n")?;

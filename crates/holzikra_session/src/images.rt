@@ -1,6 +1,7 @@
 //! The commands `load` and `verify`, for one image.
 
-ghost use Rattle.std.specs.Prelude.{IfOk};
+ghost use Rattle.std.specs.Prelude.{IfOk, string_bytes};
+ghost use Rattle.holzikra_session.specs.Answers.{IsVerdictLine};
 ghost use Rattle.holzikra_session.specs.Images.{IsImageCounted, IsListed, IsSavedCode};
 ghost use Rattle.holzikra_session.specs.declared.verdict.Verified.{Verified as AnyImage};
 
@@ -8,8 +9,16 @@ use crate::status::Tally;
 use crate::verdict::{Judge, Verified};
 use crate::{human, json};
 use holzikra_scripts::image_code;
-use holzikra_words::{LoadFormat, VerifyFormat};
+use holzikra_words::{LoadFormat, VerifyFormat, VerifyOptions};
 use std::alloc::{AllocError, Global};
+
+/// How the verdict on a file is written where its listing is written so.
+fn verdict_format(format: LoadFormat) -> VerifyFormat {
+    match format {
+        LoadFormat::Json => VerifyFormat::Json,
+        LoadFormat::Human | LoadFormat::Plain => VerifyFormat::Human,
+    }
+}
 
 /// Lists an image and counts it. The answer is what is to be written of it.
 pub(crate) fn list_image(
@@ -30,22 +39,41 @@ pub(crate) fn list_image(
         }
         None => {
             tally.count_image(Verified::NoImage);
-            let line = human::image_line(alloc, name, Verified::NoImage)?;
+            let shown = verdict_format(format);
+            let line = image_line(alloc, shown, name, Verified::NoImage)?;
             Ok(line.into_bytes())
         }
     }
 }
 
 /// The line for a verdict on an image.
-fn image_line(
+pub(crate) fn image_line(
     alloc: Global,
     format: VerifyFormat,
     name: &str,
     found: Verified,
-) -> Result<String, AllocError> {
+) -> Result<String, AllocError>
+    ensures { IfOk result (λ line. IsVerdictLine format name.now found (string_bytes line)) }
+{
     match format {
         VerifyFormat::Human => human::image_line(alloc, name, found),
-        VerifyFormat::Json => json::image_line(alloc, name, found),
+        VerifyFormat::Json => {
+            let line = json::image_line(alloc, name, found)?;
+            Ok(line)
+        }
+    }
+}
+
+/// What `verify` writes of a verdict on an image: its line, but with `--quiet` no person is told of one that is sound.
+fn told_line(
+    alloc: Global,
+    options: &VerifyOptions,
+    name: &str,
+    found: Verified,
+) -> Result<String, AllocError> {
+    match options.format {
+        VerifyFormat::Human if options.look.quiet && found.is_sound() => Ok(String::new(alloc)),
+        format => image_line(alloc, format, name, found),
     }
 }
 
@@ -53,7 +81,7 @@ fn image_line(
 pub(crate) fn answer_image<J: Judge>(
     alloc: Global,
     judge: &J,
-    format: VerifyFormat,
+    options: &VerifyOptions,
     name: &str,
     image: &[u8],
     tally: &mut Tally,
@@ -62,6 +90,6 @@ pub(crate) fn answer_image<J: Judge>(
 {
     let found = judge.verify(alloc, image)?;
     tally.count_image(found);
-    let line = image_line(alloc, format, name, found)?;
+    let line = told_line(alloc, options, name, found)?;
     Ok(line)
 }

@@ -1,6 +1,6 @@
 //! The commands `code` and `scopes`, for one text.
 
-ghost use Rattle.std.specs.Prelude.{List, length, IfOk};
+ghost use Rattle.std.specs.Prelude.{List, Some, length, IfOk};
 ghost use Rattle.stencil_data.specs.Named.{NamedMerged};
 ghost use Rattle.stencil_data.specs.StandsFor.{MergedStandsFor};
 ghost use Rattle.bytecode_buf.specs.Command.{Listed};
@@ -27,7 +27,7 @@ fn code_lines(
     chosen: &Choice,
 ) -> Result<Vec<u8>, AllocError>
     ensures { IfOk result (λ out. (named : NamedMerged (List Listed)) → MergedStandsFor ShowsListed stencil.now named
-        → IsCode options.now.format name.now (length text.now) chosen.now named out.items) }
+        → IsCode options.now.format name.now (length text.now) (Some text.now) chosen.now named out.items) }
 {
     match options.format {
         CodeFormat::Plain => {
@@ -55,7 +55,7 @@ pub(crate) fn code_of<J: Judge>(
 ) -> Result<Inspected<Vec<u8>>, AllocError>
     ensures { IfOk result (IsInspected (J.judges judge.now) options.now.functions.items text.now
         (λ out. IsWritten (J.shows judge.now) options.now.functions.items text.now
-        (IsCode options.now.format name.now (length text.now)) out.items)) }
+        (IsCode options.now.format name.now (length text.now) (Some text.now)) out.items)) }
 {
     let compiled = judge.compile(alloc, text, &options.functions)?;
     match compiled {
@@ -78,7 +78,7 @@ fn scope_lines(
     chosen: &Choice,
 ) -> Result<Vec<u8>, AllocError>
     ensures { IfOk result (λ out. (named : NamedMerged (List Listed)) → MergedStandsFor ShowsListed stencil.now named
-        → AreScopes options.now.format name.now (length text.now) chosen.now named out.items) }
+        → AreScopes options.now.format name.now (length text.now) (Some text.now) chosen.now named out.items) }
 {
     match options.format {
         ScopesFormat::Plain => {
@@ -104,7 +104,7 @@ pub(crate) fn scopes_of<J: Judge>(
 ) -> Result<Inspected<Vec<u8>>, AllocError>
     ensures { IfOk result (IsInspected (J.judges judge.now) options.now.functions.items text.now
         (λ out. IsWritten (J.shows judge.now) options.now.functions.items text.now
-        (AreScopes options.now.format name.now (length text.now)) out.items)) }
+        (AreScopes options.now.format name.now (length text.now) (Some text.now)) out.items)) }
 {
     let compiled = judge.compile(alloc, text, &options.functions)?;
     match compiled {

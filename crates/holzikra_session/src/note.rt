@@ -1,5 +1,8 @@
 //! The other place that a refusal speaks of.
 
+ghost use Rattle.std.specs.Prelude.{IfOk, IfSome};
+ghost use Rattle.holzikra_places.specs.Places.{IsPlace};
+
 use crate::refusal::Refused;
 use crate::verdict::Spot;
 use holzikra_places::Lines;
@@ -17,7 +20,10 @@ pub(crate) struct OtherPlace {
 pub(crate) fn other_place(
     alloc: Global,
     refused: Refused<'_>,
-) -> Result<Option<OtherPlace>, AllocError> {
+) -> Result<Option<OtherPlace>, AllocError>
+    ensures { IfOk result (λ other. IfSome other
+        (λ one. IsPlace refused.entry.text.now one.spot.offset one.spot.place.line one.spot.place.column)) }
+{
     let text = refused.text;
     let Some(note) = note_of(alloc, refused.code, text, refused.reason.offset())? else {
         return Ok(None);

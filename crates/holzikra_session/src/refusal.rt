@@ -1,7 +1,8 @@
 //! A text that is refused: counted, and shown.
 
-ghost use Rattle.std.specs.Prelude.{◌≡◌, IfOk};
+ghost use Rattle.std.specs.Prelude.{◌≡◌, length, IfOk, string_bytes};
 ghost use Rattle.holzikra_words.specs.declared.check.Unsupported.TheVariants as counting;
+ghost use Rattle.holzikra_session.specs.Answers.{IsShownAs, MayBeShownAs};
 ghost use Rattle.holzikra_session.specs.Statuses.{IsCounted};
 ghost use Rattle.holzikra_session.specs.declared.verdict.Verdict.TheVariants as verdict;
 
@@ -105,10 +106,15 @@ fn refused_lines(
     format: Format,
     refused: Refused<'_>,
     first: bool,
-) -> Result<String, AllocError> {
+) -> Result<String, AllocError>
+    ensures { IfOk result (λ lines. IsShownAs format refused.entry.name.now (length refused.entry.text.now) refused.entry.reason (string_bytes lines)) }
+{
     match format {
         Format::Human => human::refusal_lines(alloc, refused),
-        Format::Json => json::refusal_line(alloc, refused),
+        Format::Json => {
+            let line = json::refusal_line(alloc, refused)?;
+            Ok(line)
+        }
         Format::Github => github::refusal_line(alloc, refused),
         Format::Sarif => sarif::refusal_result(alloc, refused, first),
     }
@@ -124,7 +130,8 @@ pub(crate) fn answer_refused(
     tally: &mut Tally,
     said: &mut Said,
 ) -> Result<String, AllocError>
-    ensures { IfOk result (λ _. IsCounted showing.unsupported (verdict.Refused reason) tally.old tally.new) }
+    ensures counted { IfOk result (λ _. IsCounted showing.unsupported (verdict.Refused reason) tally.old tally.new) }
+    ensures shown { IfOk result (λ lines. MayBeShownAs showing.format name.now (length text.now) reason (string_bytes lines)) }
 {
     let code = code_of(reason, text);
     tally.count(

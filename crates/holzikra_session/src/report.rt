@@ -3,8 +3,10 @@
 use crate::complaint::complain;
 use crate::files::{bytes_of, input_bytes};
 use crate::refusal::{Said, Showing, answer_refused, code_of};
+use crate::screen::Surroundings;
 use crate::status::{Status, Tally};
 use crate::task::shown_function;
+use crate::ticker::Ticker;
 use crate::verdict::{Compiled, Judge, Reason};
 use crate::writing::write_to;
 use holzikra_page::{Refusal, append_end, append_refused, append_start};
@@ -27,6 +29,7 @@ struct Report {
     count: usize,
     tally: Tally,
     said: Said,
+    ticker: Ticker,
 }
 
 impl Report {
@@ -42,6 +45,7 @@ impl Report {
         }
         self.tally.fail();
         let why = format!(in rt.alloc(); "{error}")?;
+        self.ticker.wipe(rt)?;
         complain(rt, name, why.as_str())
     }
 
@@ -90,6 +94,7 @@ impl Report {
         if let Some(word) = word {
             let function = shown_function(rt.alloc(), &word.name)?;
             let why = format!(in rt.alloc(); "no function {function}")?;
+            self.ticker.wipe(rt)?;
             complain(rt, name, why.as_str())?;
         }
         Ok(())
@@ -155,6 +160,15 @@ impl Report {
         }
     }
 
+    /// Shows how far the command is, if it is time.
+    fn go_on<R: Runtime>(&mut self, rt: &R) -> io::Result<()> {
+        if self.ticker.is_due(rt) {
+            let refused = self.tally.errors.saturating_add(self.tally.outside);
+            self.ticker.show(rt, "report", refused)?;
+        }
+        Ok(())
+    }
+
     /// Puts on the page what the walk found.
     fn found<R: Runtime + AllocGlobal, J: Judge>(
         &mut self,
@@ -182,6 +196,7 @@ pub(crate) fn report_files<R: Runtime + AllocGlobal, J: Judge>(
     rt: &R,
     judge: &J,
     options: &ReportOptions,
+    around: Surroundings,
 ) -> io::Result<Status> {
     let mut walk = Walk::new(rt, &options.files)?;
     let mut report = Report {
@@ -189,6 +204,7 @@ pub(crate) fn report_files<R: Runtime + AllocGlobal, J: Judge>(
         count: 0,
         tally: Tally::new(),
         said: Said::new(rt.alloc()),
+        ticker: around.ticker(options.quiet),
     };
     append_start(&mut report.page)?;
     for _ in 0..u64::MAX {
@@ -196,7 +212,9 @@ pub(crate) fn report_files<R: Runtime + AllocGlobal, J: Judge>(
             break;
         };
         report.found(rt, judge, options, found)?;
+        report.go_on(rt)?;
     }
+    report.ticker.wipe(rt)?;
     append_end(&mut report.page)?;
     if let Err(error) = write_to(rt, options.page.as_str(), &report.page) {
         report.fault(rt, options.page.as_str(), error)?;

@@ -1,8 +1,9 @@
 //! What is done with each file.
 
 use holzikra_words::{
-    CheckOptions, CodeFormat, CodeOptions, FileOptions, Format, FunctionName, LoadOptions,
-    ScopesFormat, ScopesOptions, StatsFormat, StatsOptions, VerifyFormat, VerifyOptions,
+    CheckOptions, CodeFormat, CodeOptions, FileOptions, Format, FunctionName, LoadFormat,
+    LoadOptions, ScopesFormat, ScopesOptions, StatsFormat, StatsOptions, VerifyFormat,
+    VerifyOptions,
 };
 use std::alloc::{AllocError, Global};
 
@@ -30,6 +31,18 @@ impl<'a> Task<'a> {
         }
     }
 
+    /// What the command is called.
+    pub(crate) fn word(self) -> &'static str {
+        match self {
+            Task::Check(_) => "check",
+            Task::Code(_) => "code",
+            Task::Scopes(_) => "scopes",
+            Task::Stats(_) => "stats",
+            Task::Load(_) => "load",
+            Task::Verify(_) => "verify",
+        }
+    }
+
     /// How a file that is refused is shown.
     pub(crate) fn format(self) -> Format {
         match self {
@@ -37,6 +50,7 @@ impl<'a> Task<'a> {
             Task::Code(options) if options.format == CodeFormat::Json => Format::Json,
             Task::Scopes(options) if options.format == ScopesFormat::Json => Format::Json,
             Task::Stats(options) if options.format == StatsFormat::Json => Format::Json,
+            Task::Load(options) if options.format == LoadFormat::Json => Format::Json,
             Task::Verify(options) if options.format == VerifyFormat::Json => Format::Json,
             Task::Code(_) | Task::Scopes(_) | Task::Stats(_) => Format::Human,
             Task::Load(_) | Task::Verify(_) => Format::Human,

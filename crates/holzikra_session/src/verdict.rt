@@ -1,9 +1,10 @@
 //! Verdicts on texts and images, what compiling texts comes to, and who does it.
 
-ghost use Rattle.std.specs.Prelude.{ℕ, List, IfOk};
+ghost use Rattle.std.specs.Prelude.{◌≡◌, ℕ, List, IfOk};
 ghost use Rattle.stencil_data.specs.Named.{NamedMerged};
 ghost use Rattle.bytecode_buf.specs.Command.{Command};
 ghost use Rattle.session_words.specs.Asked.{Wanted};
+ghost use Rattle.holzikra_session.specs.Answers.{spot_of, word_of};
 ghost use Rattle.holzikra_session.specs.Compiling.{IsCompiledBy};
 ghost use Rattle.holzikra_session.specs.Images.{IsSavedBy};
 ghost use Rattle.holzikra_session.specs.declared.verdict.Verdict.{Verdict};
@@ -109,15 +110,27 @@ pub trait Judge {
         ensures { IfOk result (verifies self.now image.now) };
 }
 
+impl Verified {
+    /// Whether it is an image, all code of which is sound.
+    pub(crate) fn is_sound(self) -> bool {
+        match self {
+            Verified::Sound { .. } => true,
+            Verified::Unsound { .. } | Verified::NoImage => false,
+        }
+    }
+}
+
 impl Reason {
     /// Where the reason stands, if it has a place.
-    pub(crate) fn spot(self) -> Option<Spot> {
+    pub(crate) fn spot(self) -> Option<Spot>
+        ensures { result ≡ spot_of self }
+    {
         match self {
             Reason::TooLong => None,
-            Reason::BadUtf8(spot)
-            | Reason::Unexpected(spot)
-            | Reason::TooDeep(spot)
-            | Reason::Early(spot, _) => Some(spot),
+            Reason::BadUtf8(spot) => Some(spot),
+            Reason::Unexpected(spot) => Some(spot),
+            Reason::TooDeep(spot) => Some(spot),
+            Reason::Early(spot, _) => Some(spot),
         }
     }
 
@@ -141,7 +154,9 @@ impl Reason {
     }
 
     /// The name of the reason in JSON.
-    pub(crate) fn word(self) -> &'static str {
+    pub(crate) fn word(self) -> &'static str
+        ensures { result.now ≡ word_of self }
+    {
         match self {
             Reason::TooLong => "too_long",
             Reason::BadUtf8(_) => "not_utf8",

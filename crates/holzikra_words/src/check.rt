@@ -1,7 +1,8 @@
 //! The words of `check`.
 
 use crate::files::{FileOptions, file_options, with_files};
-use crate::parts::{choice, named, switch, value, valued, with};
+use crate::look::{Look, NO_SUMMARY, found_look, with_look};
+use crate::parts::{choice, named, value, valued, with};
 use clap::builder::ValueParser;
 use clap::{Arg, ArgMatches, Command};
 use std::alloc::{AllocError, Global};
@@ -38,8 +39,7 @@ pub struct CheckOptions {
     pub unsupported: Unsupported,
     /// How many refusals are shown, where there is a limit.
     pub most: Option<u32>,
-    /// No summary.
-    pub quiet: bool,
+    pub look: Look,
 }
 
 static FORMATS: [&str; 4] = ["human", "json", "github", "sarif"];
@@ -73,7 +73,7 @@ pub(crate) fn command<'a>(alloc: Global) -> Result<Command<'a>, AllocError> {
     );
     let command = with(command, unsupported)?;
     let command = with(command, most(alloc))?;
-    with(command, switch(alloc, "quiet", "no summary").short('q'))
+    with_look(alloc, command, NO_SUMMARY)
 }
 
 fn most<'a>(alloc: Global) -> Arg<'a> {
@@ -117,6 +117,6 @@ pub(crate) fn options(alloc: Global, found: &ArgMatches<'_>) -> Result<CheckOpti
         format: format_of(value(found, "format", "human")),
         unsupported: unsupported_of(value(found, "unsupported", "error")),
         most: most_of(found.get_one::<u32>("max").unwrap_or(50)),
-        quiet: found.get_flag("quiet"),
+        look: found_look(found),
     })
 }

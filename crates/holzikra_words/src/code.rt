@@ -2,6 +2,7 @@
 
 use crate::files::{FileOptions, file_options, with_files};
 use crate::functions::{FunctionWord, function_words, with_functions};
+use crate::look::{Look, NO_PROGRESS, found_look, with_look};
 use crate::parts::{choice, named, switch, value, with};
 use clap::{ArgMatches, Command};
 use std::alloc::{AllocError, Global};
@@ -26,6 +27,7 @@ pub struct CodeOptions {
     pub functions: Vec<FunctionWord>,
     /// Whether the line of the source in which a function starts stands in front of its code.
     pub source_lines: bool,
+    pub look: Look,
 }
 
 static FORMATS: [&str; 3] = ["human", "plain", "json"];
@@ -42,10 +44,9 @@ pub(crate) fn command<'a>(alloc: Global) -> Result<Command<'a>, AllocError> {
     let formats = FORMATS.as_slice();
     let format = choice(alloc, "format", formats, "human", "how code is listed");
     let command = with(command, format)?;
-    with(
-        command,
-        switch(alloc, "no-source", "no lines of the source"),
-    )
+    let no_source = switch(alloc, "no-source", "no lines of the source");
+    let command = with(command, no_source)?;
+    with_look(alloc, command, NO_PROGRESS)
 }
 
 fn format_of(word: &str) -> CodeFormat {
@@ -65,5 +66,6 @@ pub(crate) fn options(alloc: Global, found: &ArgMatches<'_>) -> Result<CodeOptio
         format: format_of(value(found, "format", "human")),
         functions,
         source_lines: !found.get_flag("no-source"),
+        look: found_look(found),
     })
 }

@@ -1,5 +1,6 @@
 //! The words of `diff`.
 
+use crate::look::{Colors, found_colors, with_colors};
 use crate::parts::{choice, named, value, valued, with};
 use clap::{Arg, ArgMatches, Command};
 use std::alloc::{AllocError, Global};
@@ -22,6 +23,7 @@ pub struct DiffOptions {
     pub format: DiffFormat,
     /// What standard input is called.
     pub stdin_name: String,
+    pub colors: Colors,
 }
 
 /// What both files are, in help.
@@ -46,7 +48,8 @@ pub(crate) fn command<'a>(alloc: Global) -> Result<Command<'a>, AllocError> {
     );
     let command = with(command, format)?;
     let stdin_name = valued(alloc, "stdin-name", "NAME", "<stdin>", "what - is called");
-    with(command, stdin_name)
+    let command = with(command, stdin_name)?;
+    with_colors(alloc, command)
 }
 
 fn format_of(word: &str) -> DiffFormat {
@@ -78,5 +81,6 @@ pub(crate) fn options(alloc: Global, found: &ArgMatches<'_>) -> Result<DiffOptio
         new,
         format: format_of(value(found, "format", "human")),
         stdin_name,
+        colors: found_colors(found),
     })
 }

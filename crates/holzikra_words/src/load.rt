@@ -1,6 +1,7 @@
 //! The words of `load`.
 
 use crate::files::{FileOptions, file_options, with_images};
+use crate::look::{Look, NO_PROGRESS, found_look, with_look};
 use crate::parts::{choice, named, value, with};
 use clap::{ArgMatches, Command};
 use std::alloc::{AllocError, Global};
@@ -12,6 +13,8 @@ pub enum LoadFormat {
     Human,
     /// As `stencilc load` lists it.
     Plain,
+    /// A JSON object an image, one line each.
+    Json,
 }
 
 /// What `load` is asked for.
@@ -19,9 +22,10 @@ pub enum LoadFormat {
 pub struct LoadOptions {
     pub files: FileOptions,
     pub format: LoadFormat,
+    pub look: Look,
 }
 
-static FORMATS: [&str; 2] = ["human", "plain"];
+static FORMATS: [&str; 3] = ["human", "plain", "json"];
 
 /// The command `load`.
 pub(crate) fn command<'a>(alloc: Global) -> Result<Command<'a>, AllocError> {
@@ -29,12 +33,14 @@ pub(crate) fn command<'a>(alloc: Global) -> Result<Command<'a>, AllocError> {
     let command = with_images(alloc, command)?;
     let formats = FORMATS.as_slice();
     let format = choice(alloc, "format", formats, "human", "how code is listed");
-    with(command, format)
+    let command = with(command, format)?;
+    with_look(alloc, command, NO_PROGRESS)
 }
 
 fn format_of(word: &str) -> LoadFormat {
     match word {
         "plain" => LoadFormat::Plain,
+        "json" => LoadFormat::Json,
         _ => LoadFormat::Human,
     }
 }
@@ -45,5 +51,6 @@ pub(crate) fn options(alloc: Global, found: &ArgMatches<'_>) -> Result<LoadOptio
     Ok(LoadOptions {
         files,
         format: format_of(value(found, "format", "human")),
+        look: found_look(found),
     })
 }

@@ -2,6 +2,7 @@
 
 use crate::files::{FileOptions, file_options, with_files};
 use crate::functions::{FunctionWord, function_words, with_functions};
+use crate::look::{NO_PROGRESS, found_quiet, with_quiet};
 use crate::parts::{named, value, with};
 use clap::{Arg, ArgMatches, Command};
 use std::alloc::{AllocError, Global};
@@ -14,6 +15,8 @@ pub struct ReportOptions {
     pub functions: Vec<FunctionWord>,
     /// The file that the page is written to, or `-` for standard output.
     pub page: String,
+    /// Not how far the command is.
+    pub quiet: bool,
 }
 
 /// The command `report`.
@@ -23,10 +26,9 @@ pub(crate) fn command<'a>(alloc: Global) -> Result<Command<'a>, AllocError> {
     let command = with_functions(alloc, command)?;
     let page = Arg::new(alloc, "output").long("output").short('o');
     let page = page.value_name("PAGE").required(true);
-    with(
-        command,
-        page.help("where the page is written; - is standard output"),
-    )
+    let page = page.help("where the page is written; - is standard output");
+    let command = with(command, page)?;
+    with_quiet(alloc, command, NO_PROGRESS)
 }
 
 /// What the words of `report` ask for.
@@ -38,5 +40,6 @@ pub(crate) fn options(alloc: Global, found: &ArgMatches<'_>) -> Result<ReportOpt
         files,
         functions,
         page,
+        quiet: found_quiet(found),
     })
 }

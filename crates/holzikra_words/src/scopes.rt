@@ -2,6 +2,7 @@
 
 use crate::files::{FileOptions, file_options, with_files};
 use crate::functions::{FunctionWord, function_words, with_functions};
+use crate::look::{Look, NO_PROGRESS, found_look, with_look};
 use crate::parts::{choice, named, value, with};
 use clap::{ArgMatches, Command};
 use std::alloc::{AllocError, Global};
@@ -26,6 +27,7 @@ pub struct ScopesOptions {
     pub format: ScopesFormat,
     /// The functions that are meant; all where there is none.
     pub functions: Vec<FunctionWord>,
+    pub look: Look,
 }
 
 static FORMATS: [&str; 4] = ["human", "plain", "json", "dot"];
@@ -41,7 +43,8 @@ pub(crate) fn command<'a>(alloc: Global) -> Result<Command<'a>, AllocError> {
     let command = with_functions(alloc, command)?;
     let formats = FORMATS.as_slice();
     let format = choice(alloc, "format", formats, "human", "how scopes are drawn");
-    with(command, format)
+    let command = with(command, format)?;
+    with_look(alloc, command, NO_PROGRESS)
 }
 
 fn format_of(word: &str) -> ScopesFormat {
@@ -61,5 +64,6 @@ pub(crate) fn options(alloc: Global, found: &ArgMatches<'_>) -> Result<ScopesOpt
         files,
         format: format_of(value(found, "format", "human")),
         functions,
+        look: found_look(found),
     })
 }

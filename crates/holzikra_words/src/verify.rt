@@ -1,6 +1,7 @@
 //! The words of `verify`.
 
 use crate::files::{FileOptions, file_options, with_images};
+use crate::look::{Look, found_look, with_look};
 use crate::parts::{choice, named, value, with};
 use clap::{ArgMatches, Command};
 use std::alloc::{AllocError, Global};
@@ -19,6 +20,7 @@ pub enum VerifyFormat {
 pub struct VerifyOptions {
     pub files: FileOptions,
     pub format: VerifyFormat,
+    pub look: Look,
 }
 
 static FORMATS: [&str; 2] = ["human", "json"];
@@ -35,7 +37,9 @@ pub(crate) fn command<'a>(alloc: Global) -> Result<Command<'a>, AllocError> {
         "human",
         "how the answers are written",
     );
-    with(command, format)
+    let command = with(command, format)?;
+    let quiet = "images that are sound have no line; no progress on a terminal";
+    with_look(alloc, command, quiet)
 }
 
 fn format_of(word: &str) -> VerifyFormat {
@@ -51,5 +55,6 @@ pub(crate) fn options(alloc: Global, found: &ArgMatches<'_>) -> Result<VerifyOpt
     Ok(VerifyOptions {
         files,
         format: format_of(value(found, "format", "human")),
+        look: found_look(found),
     })
 }

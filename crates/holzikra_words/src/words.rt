@@ -6,6 +6,7 @@ use crate::diff::{self, DiffOptions};
 use crate::explain::{self, ExplainOptions};
 use crate::functions;
 use crate::load::{self, LoadOptions};
+use crate::look::Colors;
 use crate::report::{self, ReportOptions};
 use crate::save::{self, SaveOptions};
 use crate::scopes::{self, ScopesOptions};
@@ -85,6 +86,7 @@ fn found_request(alloc: Global, matches: &ArgMatches<'_>) -> Result<Request, All
         Some((_, found)) => Ok(Request::Explain(explain::options(alloc, found)?)),
         None => Ok(Request::Explain(ExplainOptions {
             codes: Vec::new(alloc),
+            colors: Colors::Auto,
         })),
     }
 }
@@ -93,6 +95,7 @@ fn found_request(alloc: Global, matches: &ArgMatches<'_>) -> Result<Request, All
 fn complaint_of(alloc: Global, matches: &ArgMatches<'_>) -> Result<Option<String>, AllocError> {
     match matches.subcommand() {
         Some(("code" | "scopes" | "report", found)) => functions::complaint(alloc, found),
+        Some(("stats", found)) => stats::complaint(alloc, found),
         Some(("diff", found)) => diff::complaint(alloc, found),
         _ => Ok(None),
     }

@@ -5,14 +5,6 @@ use Rattle.holzikra_objects.specs.Objects.{shown}
 use Rattle.holzikra_objects.proofs.Fine.{script_line_is}
 use Rattle.holzikra_objects.proofs.scripts.script_line.Goals as goal
 
-pub returns-clause-value : goal.returns-clause-value
-returns-clause-value c =
+pub returns : goal.returns
+returns c =
     script_line_is (shown c.args.listing c.args.merged.now.texts c.args.notes.now) c.args.name.now c.args.bytes c.args.merged.now (object (members_of c.in_ok-members.members)) (string_bytes c.in_ok-line.line) c.in_ok-members.ensures c.in_ok-line.ensures
-
-pub returns-clause-script : goal.returns-clause-script
-returns-clause-script c named stands = record {
-  stencil = c.args.merged.now;
-  stands = stands;
-  notes = c.args.notes.now;
-  is = script_line_is (shown c.args.listing c.args.merged.now.texts c.args.notes.now) c.args.name.now c.args.bytes c.args.merged.now (object (members_of c.in_ok-members.members)) (string_bytes c.in_ok-line.line) c.in_ok-members.ensures c.in_ok-line.ensures named stands;
-}

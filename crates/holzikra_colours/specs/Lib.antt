@@ -1,0 +1,2 @@
+-- A text without its colour sequences.
+pub mod Colours

@@ -77,7 +77,8 @@ class Browser:
         return [one[ELEMENT] for one in found]
 
     def click(self, element):
-        """Moves the pointer to an element and clicks there."""
+        """Moves an element to the middle of what shows it, so that nothing that stays in its place lies over it, and clicks there."""
+        self.run("arguments[0].scrollIntoView({block: 'center', inline: 'nearest'});", {ELEMENT: element})
         self.ask("POST", f"/element/{element}/click")
 
     def keys(self, *keys):

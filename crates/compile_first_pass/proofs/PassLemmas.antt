@@ -2,7 +2,7 @@
 use Rattle.std.proofs.Common.{◌≡◌, ℕ, false, List, [], ◌∷◌, ◌++◌, map, length, refl, ap, sym, subst, ◌∙◌, append_assoc, arith, length-append}
 use Rattle.std.proofs.lemmas.List.{length-map}
 use Rattle.std.proofs.lemmas.List.Folds.{flat_map-map}
-use Rattle.std.specs.Prelude.{Option, None, Some, codes, bytes_eq, nat_eq, ◌&&◌, ◌-◌}
+use Rattle.std.specs.Prelude.{Option, None, Some, Result, Ok, Err, codes, bytes_eq, nat_eq, ◌&&◌, ◌-◌}
 use Rattle.std.specs.List.{flat_map}
 use Rattle.script_grammar.specs.Braced.{braced_all}
 use Rattle.script_grammar.specs.Interpretation.{Interpretation}
@@ -45,7 +45,9 @@ use Rattle.early_script_errors.proofs.Own.{tree_own, braced_own}
 use Rattle.session_specs.specs.Sources.{IsValid, ErrorAt}
 use Rattle.compile_first_pass.specs.declared.skim.SkimmedScript.{SkimmedScript}
 use Rattle.compile_first_pass.specs.Skims.{SkimsScript}
-use Rattle.compile_first_pass.specs.Passes.{IsSkimmedFile}
+use Rattle.compile_first_pass.specs.declared.pass.CheckedScript.{CheckedScript}
+use Rattle.compile_first_pass.specs.declared.pass.SourceFault.{SourceFault}
+use Rattle.compile_first_pass.specs.Passes.{IsChecked, IsCheckedScript, IsReadApart, IsRefusedFor, IsSkimmedFile, IsSyntaxOf}
 use Rattle.compile_first_pass.proofs.FileLemmas.{of_file, script_read}
 
 pub none_of : {A : Type 0} (o : Option A) → ((x : A) → o ≡ Some x → ⊥) → o ≡ None
@@ -182,3 +184,18 @@ skimmed_file shows file script made shown skims =
             skims i (fill_stmts (body_at i) first.items) (map (fill_stmts (body_at i)) (braced_all first.items)) p.top p.bodies;
       },
     )
+
+-- ---- what the steps answer
+
+pub script_apart : (file : FileTokens) (o : Result SkimmedScript SourceFault) (script : SkimmedScript) → IsReadApart file o → o ≡ Ok script → (items : Stmts) × IsSkimmedFile file script items
+script_apart file o script h is = subst (λ (x : Result SkimmedScript SourceFault). IsReadApart file x) is h
+
+pub script_checked : (file : FileTokens) (items : Stmts) (o : Result CheckedScript SourceFault) (checked : CheckedScript) → IsChecked file items o → o ≡ Ok checked → IsCheckedScript file items checked
+script_checked file items o checked h is = subst (λ (x : Result CheckedScript SourceFault). IsChecked file items x) is h
+
+pub script_refused : (file : FileTokens) (items : Stmts) (o : Result CheckedScript SourceFault) (fault : SourceFault) → IsChecked file items o → o ≡ Err fault → IsRefusedFor file fault
+script_refused file items o fault h is = subst (λ (x : Result CheckedScript SourceFault). IsChecked file items x) is h
+
+pub syntax_of : (file : FileTokens) (items : Stmts) (checked : CheckedScript) → IsCheckedScript file items checked → IsSound file → (bytes : List ℕ) → AreTokensOf file (length bytes) bytes
+    → IsSyntaxOf bytes (record { file = file; functions = checked.functions; closed = checked.closed })
+syntax_of file items checked h sound bytes tokens = record { items = items; valid = h.valid bytes tokens; tokens = tokens; sound = sound; placed = h.placed; closed = h.closed }

@@ -1,5 +1,5 @@
 -- What a first pass over a file comes to.
-use Rattle.std.specs.Prelude.{◌≡◌, ℕ, List, length, map}
+use Rattle.std.specs.Prelude.{◌≡◌, ℕ, List, length, map, Result, Ok, Err}
 use Rattle.script_grammar.specs.Braced.{braced_all}
 use Rattle.script_grammar.specs.Tree.{Stmts}
 use Rattle.grammar_parser_specs.specs.Filling.{fill_stmts}
@@ -20,10 +20,13 @@ use Rattle.early_script_errors.specs.Told.{own}
 use Rattle.parse_function_list.specs.Placed.{ArePlaced}
 use Rattle.compile_first_pass.specs.declared.pass.FirstPass.{FirstPass}
 use Rattle.compile_first_pass.specs.declared.pass.FirstPass.TheVariants as pass
+use Rattle.compile_first_pass.specs.declared.pass.CheckedScript.{CheckedScript}
 use Rattle.compile_first_pass.specs.declared.pass.SourceFault.{SourceFault}
 use Rattle.compile_first_pass.specs.declared.pass.SourceFault.TheVariants as fault
 use Rattle.compile_first_pass.specs.declared.pass.SyntaxScript.{SyntaxScript}
 use Rattle.compile_first_pass.specs.declared.skim.SkimmedScript.{SkimmedScript}
+use Rattle.compile_first_pass.specs.declared.verdict.FileVerdict.{FileVerdict}
+use Rattle.compile_first_pass.specs.declared.verdict.FileVerdict.TheVariants as verdict
 use Rattle.compile_first_pass.specs.Skims.{SkimsScript}
 
 -- The bytes are a script without errors, these are its tokens and all functions in it, in order of number, and these are the
@@ -47,6 +50,11 @@ abbrev pub IsFirstPass : List ℕ → FirstPass → Type 0
 IsFirstPass bytes (pass.Script s) = IsSyntaxOf bytes s
 IsFirstPass bytes (pass.Refused why) = IsSource All bytes (IsRefused (refusal_of why))
 
+-- The bytes are a script without errors that has so many functions, or are refused for this.
+abbrev pub IsVerdict : List ℕ → FileVerdict → Type 0
+IsVerdict bytes (verdict.Script functions) = (items : Stmts) × IsValid bytes items functions
+IsVerdict bytes (verdict.Refused why) = IsSource All bytes (IsRefused (refusal_of why))
+
 -- The tokens are a script of these statements, and what was taken apart is of them and of the braced bodies of its functions,
 -- whatever bodies are given for those that were passed over.
 pub record IsSkimmedFile (file : FileTokens) (script : SkimmedScript) (items : Stmts) : Type 0 where
@@ -54,3 +62,23 @@ pub record IsSkimmedFile (file : FileTokens) (script : SkimmedScript) (items : S
   pub parts : (bodies : ℕ → Stmts)
       → SkimsScript (under file.texts.items bodies) script
       (fill_stmts (body_at (under file.texts.items bodies)) items) (map (fill_stmts (body_at (under file.texts.items bodies))) (braced_all items))
+
+-- the file is refused for this
+abbrev pub IsRefusedFor : FileTokens → SourceFault → Type 0
+IsRefusedFor file fault = (bytes : List ℕ) → AreTokensOf file (length bytes) bytes → IsSource All bytes (IsRefused (refusal_of fault))
+
+-- what reading a file's script and taking it apart comes to
+abbrev pub IsReadApart : FileTokens → Result SkimmedScript SourceFault → Type 0
+IsReadApart file (Ok script) = (items : Stmts) × IsSkimmedFile file script items
+IsReadApart file (Err fault) = IsRefusedFor file fault
+
+-- The file is the script of these statements, without errors, and these are its functions and the names that they close over.
+pub record IsCheckedScript (file : FileTokens) (items : Stmts) (checked : CheckedScript) : Type 0 where
+  pub valid : (bytes : List ℕ) → AreTokensOf file (length bytes) bytes → IsValid bytes items (length checked.functions.items)
+  pub placed : ArePlaced (own file.texts.items items) checked.functions.items (inner_script items)
+  pub closed : map (renamed_bound (text_at file.texts.items)) (bounds_of checked.closed.items) ≡ closed_names items
+
+-- what checking the script of these statements comes to
+abbrev pub IsChecked : FileTokens → Stmts → Result CheckedScript SourceFault → Type 0
+IsChecked file items (Ok checked) = IsCheckedScript file items checked
+IsChecked file items (Err fault) = IsRefusedFor file fault

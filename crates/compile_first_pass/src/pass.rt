@@ -5,8 +5,9 @@ ghost use Rattle.script_grammar.specs.Interpretation.{Interpretation};
 ghost use Rattle.script_grammar.specs.Lexeme.{lexeme_of};
 ghost use Rattle.script_grammar.specs.Tree.{Stmts};
 ghost use Rattle.session_specs.specs.Sources as source;
+ghost use Rattle.parse_script.specs.declared.file_tokens.FileTokens.{FileTokens};
 ghost use Rattle.parse_script.specs.Tokens.{AreTokensOf, IsSound};
-ghost use Rattle.compile_first_pass.specs.Passes.{IsFirstPass, IsSkimmedFile};
+ghost use Rattle.compile_first_pass.specs.Passes.{IsChecked, IsFirstPass, IsReadApart, IsSkimmedFile};
 
 use crate::skim::{SkimmedScript, Skims, skim};
 use early_script_errors::check_told;
@@ -14,7 +15,7 @@ use parse_early_handler::early::{first_of_bodies, sooner};
 use parse_exprs::place::ParseFault;
 use parse_function_list::{ListedFunction, functions_of};
 use parse_script::{FileTokens, read_script, tokens_of};
-use parse_track::region::ClosedAt;
+use parse_track::region::{ClosedAt, WellKnownAtoms};
 use script_grammar::token::Token;
 use std::alloc::{AllocError, Global};
 use unit_text::DecodeFault;
@@ -57,6 +58,15 @@ pub enum SourceFault {
     },
 }
 
+/// A script without errors, but for the tokens of its file.
+#[derive(Drop)]
+pub(crate) struct CheckedScript {
+    /// Its functions in order of number, from 1.
+    pub functions: Vec<ListedFunction>,
+    /// The names that inner functions close over.
+    pub closed: Vec<ClosedAt>,
+}
+
 /// What a first pass over a file comes to.
 #[derive(Drop)]
 pub enum FirstPass {
@@ -74,29 +84,53 @@ pub fn start_of(tokens: &[Token], token: u32) -> u32
     }
 }
 
-/// Checks the script of a file that was taken apart.
-fn check_skimmed(
+/// Reads the script of a file by this handler, and takes it apart; or finds why the file is none.
+pub(crate) fn read_apart<H: Skims + Drop>(
     alloc: Global,
-    file: FileTokens,
+    handler: H,
+    file: &FileTokens,
+) -> Result<Result<SkimmedScript, SourceFault>, AllocError>
+    requires { IsSound file.now }
+    ensures { IfOk result (IsReadApart file.now) }
+{
+    match read_script(alloc, file, handler) {
+        Ok(script) => {
+            let skimmed = skim::<H>(alloc, script)?;
+            Ok(Ok(skimmed))
+        }
+        Err(ParseFault::Unexpected { token }) => {
+            let offset = start_of(&file.tokens, token);
+            Ok(Err(SourceFault::Unexpected { offset }))
+        }
+        Err(ParseFault::TooDeep { token }) => {
+            let offset = start_of(&file.tokens, token);
+            Ok(Err(SourceFault::TooDeep { offset }))
+        }
+        Err(ParseFault::NoMemory) => Err(AllocError),
+    }
+}
+
+/// Checks a script that was taken apart, where the known words have these atoms. The file's tokens are not asked for.
+pub(crate) fn check_skimmed(
+    alloc: Global,
+    known: WellKnownAtoms,
     script: SkimmedScript,
-) -> Result<FirstPass, AllocError>
-    requires sound { IsSound file }
-    requires skimmed { (items : Stmts) × IsSkimmedFile file script items }
-    ensures { IfOk result (λ pass. (bytes : List ℕ) → AreTokensOf file (length bytes) bytes → IsFirstPass bytes pass) }
+) -> Result<Result<CheckedScript, SourceFault>, AllocError>
+    ensures { IfOk result (λ checked. (file : FileTokens) (items : Stmts) → IsSound file → IsSkimmedFile file script items → file.known ≡ known
+        → IsChecked file items checked) }
 {
     let SkimmedScript { top, bodies } = script;
     let listed = functions_of(alloc, top.found, bodies.found)?;
     let first = first_of_bodies(top.errors, &bodies.errors);
     let first = sooner(first, listed.late);
-    let checked = check_told(alloc, file.known, &top.told, bodies.told, first)?;
+    let checked = check_told(alloc, known, &top.told, bodies.told, first)?;
     if let Some(early) = checked.early {
-        return Ok(FirstPass::Refused(SourceFault::Early {
+        return Ok(Err(SourceFault::Early {
             offset: early.offset,
             rule: early.rule,
         }));
     }
-    Ok(FirstPass::Script(SyntaxScript {
-        file,
+    Ok(Ok(CheckedScript {
         functions: listed.functions,
         closed: checked.closed,
     }))
@@ -111,20 +145,17 @@ fn pass_over<H: Skims + Drop>(
     requires { IsSound file }
     ensures { IfOk result (λ pass. (bytes : List ℕ) → AreTokensOf file (length bytes) bytes → IsFirstPass bytes pass) }
 {
-    match read_script(alloc, &file, handler) {
-        Ok(script) => {
-            let skimmed = skim::<H>(alloc, script)?;
-            Ok(check_skimmed(alloc, file, skimmed)?)
-        }
-        Err(ParseFault::Unexpected { token }) => {
-            let offset = start_of(&file.tokens, token);
-            Ok(FirstPass::Refused(SourceFault::Unexpected { offset }))
-        }
-        Err(ParseFault::TooDeep { token }) => {
-            let offset = start_of(&file.tokens, token);
-            Ok(FirstPass::Refused(SourceFault::TooDeep { offset }))
-        }
-        Err(ParseFault::NoMemory) => Err(AllocError),
+    let script = match read_apart(alloc, handler, &file)? {
+        Ok(script) => script,
+        Err(fault) => return Ok(FirstPass::Refused(fault)),
+    };
+    match check_skimmed(alloc, file.known, script)? {
+        Ok(CheckedScript { functions, closed }) => Ok(FirstPass::Script(SyntaxScript {
+            file,
+            functions,
+            closed,
+        })),
+        Err(fault) => Ok(FirstPass::Refused(fault)),
     }
 }
 

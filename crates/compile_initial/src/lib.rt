@@ -23,9 +23,10 @@ use compile_first_pass::SyntaxScript;
 use compile_numbers::ClosedNames;
 use compile_script::{CompiledScript, compile_script};
 use parse_handlers::Full;
+use parse_script::FileTokens;
 use parse_top::read_top;
 use std::alloc::{AllocError, Global};
-use stencil_data::{Chain, InitialParts};
+use stencil_data::{Chain, InitialParts, Text};
 
 /// Where a function stands.
 #[derive(Clone, Copy, Debug)]
@@ -46,6 +47,13 @@ pub struct InitialStencil {
     pub around: Vec<Nesting>,
 }
 
+/// The texts of a file whose tokens were read. The tokens are let go of, before memory is asked for code.
+fn texts_of(file: FileTokens) -> Vec<Text>
+    ensures { result ≡ file.texts }
+{
+    file.texts
+}
+
 /// What a script that was read without trees, of a file of n bytes, is before any of its functions is compiled. Takes time
 /// and memory in proportion to the bytes. Only memory can fail.
 pub fn initial(alloc: Global, script: SyntaxScript, size: u32) -> Result<InitialStencil, AllocError>
@@ -59,19 +67,20 @@ pub fn initial(alloc: Global, script: SyntaxScript, size: u32) -> Result<Initial
     } = script;
     let closed = ClosedNames::of(alloc, &closed)?;
     let top = read_top(alloc, &file, Full::new(alloc))?;
+    let texts = texts_of(file);
     let CompiledScript { stencil, inside } = compile_script(
         alloc,
         &top,
         size,
         closed.of_script(),
-        &file.texts,
+        &texts,
     )?;
     let chains = chains_of(alloc, inside)?;
     let records = records_of(alloc, &functions, &closed)?;
     let around = around_of(alloc, &functions)?;
     Ok(InitialStencil {
         parts: InitialParts {
-            texts: file.texts,
+            texts,
             top: stencil,
             records,
         },

@@ -6,16 +6,19 @@ use Rattle.compile_first_pass.specs.Passes.{IsSyntaxOf}
 use Rattle.compile_first_pass.specs.declared.pass.SourceFault.{SourceFault}
 use Rattle.compile_first_pass.specs.declared.pass.SyntaxScript.{SyntaxScript}
 use Rattle.compile_session.proofs.SourceLemmas.{answers_source, settles_within}
-use Rattle.compile_session.specs.Answers.{IsAnswerFor, IsMissing, IsScriptOf, IsSourceText, SettlesRead, refusal_of}
+use Rattle.compile_session.specs.Answers.{IsAnswerFor, IsFineOf, IsMissing, IsScriptOf, IsSourceText, IsSourceVerdict, SettlesRead, refusal_of}
 use Rattle.compile_session.specs.Work.{is_source}
 use Rattle.compile_session.specs.declared.answer.FileAnswer.{FileAnswer}
 use Rattle.compile_session.specs.declared.refusal.Refusal.{Refusal}
 use Rattle.compile_session.specs.declared.source.SourceText.{SourceText}
+use Rattle.compile_session.specs.declared.source.SourceVerdict.{SourceVerdict}
+use Rattle.compile_session.specs.declared.source.SourceVerdict.TheVariants as verdict
+use Rattle.script_grammar.specs.Tree.{Stmts}
 use Rattle.session_outside.specs.Loops.{IsWholeBehind}
 use Rattle.session_specs.specs.Answer.{IsWritten, most_bytes}
 use Rattle.session_specs.specs.Compiled.{shows_scripts}
 use Rattle.session_specs.specs.Refusals.{refusal_line}
-use Rattle.session_specs.specs.Sources.{IsLeastOf, IsRefused, IsScript, IsSource, LacksFunction, missing}
+use Rattle.session_specs.specs.Sources.{IsLeastOf, IsRefused, IsScript, IsSource, IsValid, LacksFunction, missing}
 use Rattle.session_words.specs.Asked.{All, Job, Wanted}
 use Rattle.session_words.specs.declared.options.Command.{Command}
 use Rattle.session_words.specs.declared.options.Command.TheVariants as command
@@ -74,11 +77,20 @@ pub answers_script : (c : Command) (want : Wanted) (name file : List ℕ) (scrip
 answers_script c want name file script answer built s written fine =
     answers_source c want name file answer (IsScript s.is.items (length script.functions.items)) built (record { valid = s.is.valid; present = s.present }) (written, fine)
 
-pub answers_checked : (c : Command) (want : Wanted) (name file : List ℕ) (script : SyntaxScript) (functions : ℕ) (answer : FileAnswer) → c ≡ command.Check → IsScriptOf want file script → functions ≡ length script.functions.items
+pub answers_checked : (c : Command) (want : Wanted) (name file : List ℕ) (functions : ℕ) (answer : FileAnswer) → c ≡ command.Check → IsFineOf want file functions
     → answer.text ≡ name ++ codes ": ok, " ++ decimal functions ++ codes " functions\n" → answer.refused ≡ false → IsAnswerFor c want name file answer
-answers_checked c want name file script functions answer is s counted printed fine =
+answers_checked c want name file functions answer is s printed fine =
     subst (λ (x : Command). IsAnswerFor x want name file answer) (sym is)
-    (answers_script command.Check want name file script answer refl s (printed ∙ ap (λ (n : ℕ). name ++ codes ": ok, " ++ decimal n ++ codes " functions\n") counted) fine)
+    (answers_source command.Check want name file answer (IsScript s.items functions) refl (record { valid = s.valid; present = s.present }) (printed, fine))
+
+pub fine_is : (want : Wanted) (file : List ℕ) (v : SourceVerdict) (functions : ℕ) → IsSourceVerdict want file v → v ≡ verdict.Fine functions → IsFineOf want file functions
+fine_is want file v functions comes is = subst (λ (x : SourceVerdict). IsSourceVerdict want file x) is comes
+
+pub is_fine : (want : Wanted) (file : List ℕ) (items : Stmts) (count : ℕ) (o : Option ℕ) → IsValid file items count → IsMissing want count o → o ≡ None → IsFineOf want file count
+is_fine want file items count o valid least none = record { items = items; valid = valid; present = subst (λ (x : Option ℕ). IsMissing want count x) none least }
+
+pub lacks_function : (want : Wanted) (file : List ℕ) (items : Stmts) (count : ℕ) (o : Option ℕ) (n : ℕ) → IsValid file items count → IsMissing want count o → o ≡ Some n → LacksFunction file want n
+lacks_function want file items count o n valid least some = record { items = items; count = count; valid = valid; least = subst (λ (x : Option ℕ). IsMissing want count x) some least }
 
 -- ---- refused source text
 

@@ -1,6 +1,7 @@
 -- What the calls for one file answer.
 use Rattle.std.specs.Prelude.{◌≡◌, ℕ, Bool, true, List, [], length, Option, Some, None, Vec}
 use Rattle.std.specs.declared.alloc.Global.{Global}
+use Rattle.script_grammar.specs.Tree.{Stmts}
 use Rattle.session_outside.specs.Loops.{IsWholeBehind}
 use Rattle.session_words.specs.declared.options.Command.{Command}
 use Rattle.session_words.specs.Asked.{Wanted, Job, Files}
@@ -8,13 +9,15 @@ use Rattle.session_specs.specs.Answer as answer
 use Rattle.session_specs.specs.Answer.{IsOfFile, most_bytes}
 use Rattle.session_specs.specs.Compiled.{CompilesFile, compiles_none}
 use Rattle.session_specs.specs.Refusals as line
-use Rattle.session_specs.specs.Sources.{IsSource, IsRefused, IsLeastOf, missing}
+use Rattle.session_specs.specs.Sources.{IsSource, IsRefused, IsLeastOf, IsValid, missing}
 use Rattle.compile_first_pass.specs.declared.pass.SyntaxScript.{SyntaxScript}
 use Rattle.compile_first_pass.specs.Passes.{IsSyntaxOf}
 use Rattle.compile_first_pass.specs.Passes as pass
 use Rattle.compile_session.specs.declared.answer.FileAnswer.{FileAnswer}
 use Rattle.compile_session.specs.declared.source.SourceText.{SourceText}
 use Rattle.compile_session.specs.declared.source.SourceText.TheVariants as source
+use Rattle.compile_session.specs.declared.source.SourceVerdict.{SourceVerdict}
+use Rattle.compile_session.specs.declared.source.SourceVerdict.TheVariants as verdict
 use Rattle.compile_session.specs.declared.refusal.Refusal.{Refusal}
 use Rattle.compile_session.specs.declared.refusal.Refusal.TheVariants as refusal
 
@@ -39,6 +42,17 @@ pub record IsScriptOf (want : Wanted) (file : List ℕ) (script : SyntaxScript) 
 abbrev pub IsSourceText : Wanted → List ℕ → SourceText → Type 0
 IsSourceText want file (source.Script script) = IsScriptOf want file script
 IsSourceText want file (source.Refused why) = IsSource want file (IsRefused (refusal_of why))
+
+-- The file is a script without errors of n functions, among which are those that are wanted.
+pub record IsFineOf (want : Wanted) (file : List ℕ) (functions : ℕ) : Type 0 where
+  pub items : Stmts
+  pub valid : IsValid file items functions
+  pub present : missing functions want ≡ []
+
+-- what checking a file of source text comes to
+abbrev pub IsSourceVerdict : Wanted → List ℕ → SourceVerdict → Type 0
+IsSourceVerdict want file (verdict.Fine functions) = IsFineOf want file functions
+IsSourceVerdict want file (verdict.Refused why) = IsSource want file (IsRefused (refusal_of why))
 
 -- what is written for a file that is within the limit, and whether it is refused: this, and nothing else
 pub record IsAnswerFor (command : Command) (want : Wanted) (name file : List ℕ) (given : FileAnswer) : Type 0 where

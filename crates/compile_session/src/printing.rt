@@ -12,7 +12,7 @@ ghost use Rattle.compile_session.specs.Listed.{IsWrittenFor};
 use crate::answer::{FileAnswer, refused};
 use crate::lines::{file_text, fine_text};
 use crate::listing::listing_of;
-use crate::source::{SourceText, read_source};
+use crate::source::{SourceVerdict, check_source};
 use session_output::OutputText;
 use session_words::{Command, Want};
 use std::alloc::{AllocError, Global};
@@ -54,17 +54,17 @@ pub(crate) fn check_answer(
     ensures is { IfOk result (IsAnswerFor command.Check (asked.wanted want.now) name.now bytes.now) }
     ensures idle { IfOk result (λ answer. answer.compiled ≡ 0) }
 {
-    let source = read_source(alloc, want, bytes)?;
-    match source {
-        SourceText::Script(script) => {
-            let text = fine_text(alloc, name, script.functions.len())?;
+    let verdict = check_source(alloc, want, bytes)?;
+    match verdict {
+        SourceVerdict::Fine { functions } => {
+            let text = fine_text(alloc, name, functions)?;
             Ok(FileAnswer {
                 text: OutputText::of_bytes(text),
                 refused: false,
                 compiled: 0,
             })
         }
-        SourceText::Refused(why) => {
+        SourceVerdict::Refused(why) => {
             let answer = refused(alloc, name, why)?;
             Ok(answer)
         }

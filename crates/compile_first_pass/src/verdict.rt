@@ -1,0 +1,71 @@
+//! Whether a file is a script without errors, where nobody reads it further: its tokens are let go of before the names are looked at.
+
+ghost use Rattle.std.specs.Prelude.{◌≡◌, ◌≤◌, ℕ, List, length, IfOk};
+ghost use Rattle.parse_script.specs.Tokens.{AreTokensOf, IsSound};
+ghost use Rattle.compile_first_pass.specs.Passes.{IsVerdict};
+
+use crate::pass::{SourceFault, check_skimmed, read_apart};
+use crate::skim::Skims;
+use parse_script::{FileTokens, tokens_of};
+use parse_track::region::WellKnownAtoms;
+use std::alloc::{AllocError, Global};
+use unit_text::DecodeFault;
+
+/// What checking a file comes to.
+#[derive(Clone, Copy, Debug)]
+pub enum FileVerdict {
+    /// It is a script without errors.
+    Script {
+        /// How many functions it has.
+        functions: usize,
+    },
+    Refused(SourceFault),
+}
+
+/// The atoms of the known words. All else of the file is let go of.
+fn known_of(file: FileTokens) -> WellKnownAtoms
+    ensures { result ≡ file.known }
+{
+    file.known
+}
+
+/// What checking the tokens of a file comes to.
+fn check_over<H: Skims + Drop>(
+    alloc: Global,
+    handler: H,
+    file: FileTokens,
+) -> Result<FileVerdict, AllocError>
+    requires { IsSound file }
+    ensures { IfOk result (λ verdict. (bytes : List ℕ) → AreTokensOf file (length bytes) bytes → IsVerdict bytes verdict) }
+{
+    let script = match read_apart(alloc, handler, &file)? {
+        Ok(script) => script,
+        Err(fault) => return Ok(FileVerdict::Refused(fault)),
+    };
+    let known = known_of(file);
+    match check_skimmed(alloc, known, script)? {
+        Ok(checked) => Ok(FileVerdict::Script {
+            functions: checked.functions.len(),
+        }),
+        Err(fault) => Ok(FileVerdict::Refused(fault)),
+    }
+}
+
+/// Reads the script of a file as [`first_pass`](crate::first_pass) does, and answers no more than how many functions it has, or why
+/// there is none. Takes time and memory in proportion to the bytes, and less memory than `first_pass`.
+pub fn check_file<H: Skims + Drop>(
+    alloc: Global,
+    handler: H,
+    bytes: &[u8],
+) -> Result<FileVerdict, AllocError>
+    requires { length bytes.now ≤ 16777215 }
+    ensures { IfOk result (IsVerdict bytes.now) }
+{
+    match tokens_of(alloc, bytes) {
+        Ok(file) => Ok(check_over(alloc, handler, file)?),
+        Err(DecodeFault::BadUtf8 { offset }) => {
+            Ok(FileVerdict::Refused(SourceFault::BadUtf8 { offset }))
+        }
+        Err(DecodeFault::NoMemory) => Err(AllocError),
+    }
+}

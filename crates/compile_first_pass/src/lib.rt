@@ -3,7 +3,8 @@
 //! It stands on `parse_script`, which finds the tokens of a file and reads the script that they are by any handler, on
 //! `parse_function_list`, which puts the functions that were found into the order of their numbers, and on
 //! `early_script_errors`, which checks a script by what it tells. What it answers is what the definitions of `session_specs`
-//! say of the file's bytes. `check` of `compile_session` asks it, and so does whoever compiles a script's functions later.
+//! say of the file's bytes. Whoever compiles a script's functions later asks it; `check` of
+//! `compile_session` asks [`check_file`], which keeps less.
 //!
 //! A script is read once. The handler has to keep of each body what its functions are, what it tells of its names, and its first
 //! early error of a rule that looks at no region (`Skims` of `skim`), in whatever form its nodes have. `Skimming` of

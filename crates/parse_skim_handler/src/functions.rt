@@ -61,7 +61,8 @@ fn skim_read(alloc: Global, kept: Kept, more: bool, body: SkimBody) -> Result<Ke
     let noted = with_error(kept, error);
     let mut pieces = Vec::new(alloc);
     pieces.push(told)?;
-    with_said(alloc, noted, Piece::Kept { pieces })
+    let piece = Piece::kept(alloc, pieces)?;
+    with_said(alloc, noted, piece)
 }
 
 /// The body of a function whose parameters start at this offset, in bytes; `more` says that these are more than names.

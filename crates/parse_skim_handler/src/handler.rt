@@ -595,8 +595,8 @@ impl Handler for Skimming {
     ) -> Result<SkimStmt, AllocError>
         ensures { (i : Interpretation) → IfOk result (λ s. SkimsStmt i s (model.Continue at (maybe_named i label) _semi)) }
     {
-        let word = Jump::Continue;
-        let kept = with_said(self.alloc, nothing(), Piece::Jumped { word, at, label })?;
+        let jump = Piece::jump(self.alloc, Jump::Continue, at, label)?;
+        let kept = with_said(self.alloc, nothing(), jump)?;
         let node = plain(self.alloc, kept)?;
         Ok(node)
     }
@@ -609,8 +609,8 @@ impl Handler for Skimming {
     ) -> Result<SkimStmt, AllocError>
         ensures { (i : Interpretation) → IfOk result (λ s. SkimsStmt i s (model.Break at (maybe_named i label) _semi)) }
     {
-        let word = Jump::Break;
-        let kept = with_said(self.alloc, nothing(), Piece::Jumped { word, at, label })?;
+        let jump = Piece::jump(self.alloc, Jump::Break, at, label)?;
+        let kept = with_said(self.alloc, nothing(), jump)?;
         let node = plain(self.alloc, kept)?;
         Ok(node)
     }
@@ -690,8 +690,9 @@ impl Handler for Skimming {
         let kept = skim_top(self.alloc, nothing(), items)?;
         let Kept { told, first } = kept;
         let Parts { pieces, found } = parts_of(self.alloc, told)?;
+        let told = Piece::many(self.alloc, pieces)?;
         Ok(SkimBody {
-            told: Piece::Many { pieces },
+            told,
             found: SyntaxBody { found },
             errors: BodyErrors { first, strict },
         })

@@ -176,10 +176,10 @@ fn a_body_that_was_passed_over_has_none(rt: HostRuntime) -> Result<(), Fail> {
     let body = script(rt.alloc(), &mut handler, function)?;
     assert!(rt; body.errors.first.is_none());
     match &body.told {
-        Piece::Many { pieces } => {
+        Piece::Many(pieces) => {
             assert_eq!(rt; pieces.len(), 2);
             assert!(rt; matches!(&pieces[0], Piece::Declared { .. }));
-            assert!(rt; matches!(&pieces[1], Piece::Inside { .. }));
+            assert!(rt; matches!(&pieces[1], Piece::Inside(_)));
         }
         _ => assert!(rt; false),
     }

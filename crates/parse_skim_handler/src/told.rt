@@ -116,7 +116,7 @@ fn find_all(parts: &mut Parts, mut found: Vec<FoundFunction>) -> Result<(), Allo
 }
 
 /// Pieces after the pieces that are there, one by one or together.
-fn push_all(parts: &mut Parts, mut pieces: Vec<Piece>) -> Result<(), AllocError>
+fn push_all(alloc: Global, parts: &mut Parts, mut pieces: Vec<Piece>) -> Result<(), AllocError>
     ensures pieces { OnOk result ((i : Interpretation) → Appends i parts.old.pieces.items parts.new.pieces.items (pieces_say i pieces.items)) }
     ensures found { OnOk result (parts.new.found.items ≡ parts.old.found.items) }
 {
@@ -124,7 +124,8 @@ fn push_all(parts: &mut Parts, mut pieces: Vec<Piece>) -> Result<(), AllocError>
         parts.pieces.append(&mut pieces)?;
         Ok(())
     } else {
-        push(parts, Piece::Many { pieces })?;
+        let many = Piece::many(alloc, pieces)?;
+        push(parts, many)?;
         Ok(())
     }
 }
@@ -160,9 +161,10 @@ fn used_and_many(alloc: Global, atom: u32, others: Parts) -> Result<Box<Parts>, 
         pieces: many,
         found,
     } = others;
+    let together = Piece::many(alloc, many)?;
     let mut pieces = Vec::with_capacity(alloc, 2)?;
     pieces.push(Piece::Used { atom })?;
-    pieces.push(Piece::Many { pieces: many })?;
+    pieces.push(together)?;
     let boxed = Box::new(alloc, Parts { pieces, found })?;
     Ok(boxed)
 }
@@ -188,11 +190,11 @@ fn use_before(alloc: Global, atom: u32, mut others: Box<Parts>) -> Result<Box<Pa
 }
 
 /// Parts after parts.
-fn join(mut parts: Box<Parts>, others: Box<Parts>) -> Result<Box<Parts>, AllocError>
+fn join(alloc: Global, mut parts: Box<Parts>, others: Box<Parts>) -> Result<Box<Parts>, AllocError>
     ensures { IfOk result (λ made. Joins parts.value others.value made.value) }
 {
     let Parts { pieces, found } = Box::into_inner(others);
-    push_all(&mut *parts, pieces)?;
+    push_all(alloc, &mut *parts, pieces)?;
     find_all(&mut *parts, found)?;
     Ok(parts)
 }
@@ -213,7 +215,7 @@ fn with_parts(alloc: Global, told: Told, others: Box<Parts>) -> Result<Told, All
             Ok(Told::Parts(parts))
         }
         Told::Parts(parts) => {
-            let parts = join(parts, others)?;
+            let parts = join(alloc, parts, others)?;
             Ok(Told::Parts(parts))
         }
     }
@@ -247,7 +249,8 @@ pub(crate) fn with_region(
 {
     let Parts { pieces, found } = parts_of(alloc, inside)?;
     let mut parts = opened(alloc, told, 1)?;
-    push(&mut *parts, Piece::Inside { kind, at, pieces })?;
+    let piece = Piece::region(alloc, kind, at, pieces)?;
+    push(&mut *parts, piece)?;
     find_all(&mut *parts, found)?;
     Ok(Told::Parts(parts))
 }
@@ -265,7 +268,8 @@ pub(crate) fn with_function(
     ensures { IfOk result (λ new. Tells told new (λ i. says_region (region_text i (region_of kind)) at (pieces_say i pieces.items)) (found ∷ [])) }
 {
     let mut parts = opened(alloc, told, 1)?;
-    push(&mut *parts, Piece::Inside { kind, at, pieces })?;
+    let piece = Piece::region(alloc, kind, at, pieces)?;
+    push(&mut *parts, piece)?;
     find(&mut *parts, found)?;
     Ok(Told::Parts(parts))
 }

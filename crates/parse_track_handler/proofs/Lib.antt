@@ -1,6 +1,5 @@
 pub mod PieceEquations
 pub mod Appending
 pub mod Saying
-pub mod SayingParts
 pub mod Logs
 pub mod Walking

@@ -1,17 +1,18 @@
 -- What each variant of a piece says.
-use Rattle.std.proofs.Common.{◌≡◌, ◌∙◌, ℕ, Option, ap, sym}
+use Rattle.std.proofs.Common.{◌≡◌, ◌∙◌, ℕ, ap, sym}
 use Rattle.std.specs.Prelude.{codes}
 use Rattle.std.specs.declared.vec.Vec.{Vec}
+use Rattle.std.specs.declared.boxed.Box.{Box}
 use Rattle.std.specs.declared.alloc.Global.{Global}
 use Rattle.script_grammar.specs.declared.tree.Ident.{Ident}
 use Rattle.script_grammar.specs.Interpretation.{Interpretation, text_of, maybe_named}
 use Rattle.parse_track.specs.declared.region.Declare.{Declare}
-use Rattle.parse_track.specs.declared.region.Jump.{Jump}
-use Rattle.parse_track.specs.declared.region.Region.{Region}
 use Rattle.parse_track.specs.Log.{region_of}
 use Rattle.parse_track.specs.Tells.{tells_use, tells_jump}
 use Rattle.track_log_laws.specs.Spelled.{region_text}
 use Rattle.parse_track_handler.specs.declared.piece.Piece.{Piece}
+use Rattle.parse_track_handler.specs.declared.piece.RegionHead.{RegionHead}
+use Rattle.parse_track_handler.specs.declared.piece.ToldJump.{ToldJump}
 use Rattle.parse_track_handler.specs.declared.piece.Piece.TheVariants as piece
 use Rattle.parse_track_handler.specs.declared.piece.Piece.TheOpen as layer
 use Rattle.parse_track_handler.specs.declared.piece.Piece.TheFolds.{fold-roll-Piece}
@@ -27,17 +28,18 @@ module _ (i : Interpretation) where
   pub says-This : (rest : Rest) → piece_says i piece.This rest ≡ telling rest (tells_use (codes ".this") rest.told)
   says-This rest = ap (λ (f : Rest → Rest). f rest) (ap (piece_says i) (sym piece.rolls-This) ∙ fold-roll-Piece (Rest → Rest) (piece_step i) layer.This)
 
-  pub says-Jumped : (word : Jump) (at : ℕ) (label : Option Ident) (rest : Rest) → piece_says i (piece.Jumped word at label) rest ≡ telling rest (tells_jump word at (maybe_named i label) rest.told)
-  says-Jumped word at label rest = ap (λ (f : Rest → Rest). f rest) (ap (piece_says i) (sym (piece.rolls-Jumped word at label)) ∙ fold-roll-Piece (Rest → Rest) (piece_step i) (layer.Jumped word at label))
+  pub says-Jumped : (jump : Box ToldJump Global) (rest : Rest) → piece_says i (piece.Jumped jump) rest ≡ telling rest (tells_jump jump.value.word jump.value.at (maybe_named i jump.value.label) rest.told)
+  says-Jumped jump rest = ap (λ (f : Rest → Rest). f rest) (ap (piece_says i) (sym (piece.rolls-Jumped jump)) ∙ fold-roll-Piece (Rest → Rest) (piece_step i) (layer.Jumped jump))
 
-  pub says-Inside : (kind : Region) (at : ℕ) (pieces : Vec Piece Global) (rest : Rest) → piece_says i (piece.Inside kind at pieces) rest ≡ says_region (region_text i (region_of kind)) at (pieces_say i pieces.items) rest
-  says-Inside kind at pieces rest = ap (λ (f : Rest → Rest). f rest) (ap (piece_says i) (sym (piece.rolls-Inside kind at pieces)) ∙ fold-roll-Piece (Rest → Rest) (piece_step i) (layer.Inside kind at pieces))
+  pub says-Inside : (region : Box (RegionHead × Vec Piece Global) Global) (rest : Rest)
+      → piece_says i (piece.Inside region) rest ≡ says_region (region_text i (region_of region.value.0.kind)) region.value.0.at (pieces_say i region.value.1.items) rest
+  says-Inside region rest = ap (λ (f : Rest → Rest). f rest) (ap (piece_says i) (sym (piece.rolls-Inside region)) ∙ fold-roll-Piece (Rest → Rest) (piece_step i) (layer.Inside region))
 
-  pub says-Many : (pieces : Vec Piece Global) (rest : Rest) → piece_says i (piece.Many pieces) rest ≡ pieces_say i pieces.items rest
+  pub says-Many : (pieces : Box (Vec Piece Global) Global) (rest : Rest) → piece_says i (piece.Many pieces) rest ≡ pieces_say i pieces.value.items rest
   says-Many pieces rest = ap (λ (f : Rest → Rest). f rest) (ap (piece_says i) (sym (piece.rolls-Many pieces)) ∙ fold-roll-Piece (Rest → Rest) (piece_step i) (layer.Many pieces))
 
   pub says-Passed : (start : ℕ) (rest : Rest) → piece_says i (piece.Passed start) rest ≡ says_passed i start rest
   says-Passed start rest = ap (λ (f : Rest → Rest). f rest) (ap (piece_says i) (sym (piece.rolls-Passed start)) ∙ fold-roll-Piece (Rest → Rest) (piece_step i) (layer.Passed start))
 
-  pub says-Kept : (pieces : Vec Piece Global) (rest : Rest) → piece_says i (piece.Kept pieces) rest ≡ says_read (pieces_say i pieces.items) rest
+  pub says-Kept : (pieces : Box (Vec Piece Global) Global) (rest : Rest) → piece_says i (piece.Kept pieces) rest ≡ says_read (pieces_say i pieces.value.items) rest
   says-Kept pieces rest = ap (λ (f : Rest → Rest). f rest) (ap (piece_says i) (sym (piece.rolls-Kept pieces)) ∙ fold-roll-Piece (Rest → Rest) (piece_step i) (layer.Kept pieces))

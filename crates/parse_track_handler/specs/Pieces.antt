@@ -49,11 +49,11 @@ abbrev pub piece_step : Interpretation → Piece-F (Rest → Rest) → Rest → 
 piece_step i (layer.Declared how name) rest = says_name i how name rest
 piece_step i (layer.Used atom) rest = telling rest (tells_use (text_of i atom) rest.told)
 piece_step i layer.This rest = telling rest (tells_use (codes ".this") rest.told)
-piece_step i (layer.Jumped word at label) rest = telling rest (tells_jump word at (maybe_named i label) rest.told)
-piece_step i (layer.Inside kind at pieces) rest = says_region (region_text i (region_of kind)) at (in_turn pieces.items) rest
-piece_step i (layer.Many pieces) rest = in_turn pieces.items rest
+piece_step i (layer.Jumped jump) rest = telling rest (tells_jump jump.value.word jump.value.at (maybe_named i jump.value.label) rest.told)
+piece_step i (layer.Inside region) rest = says_region (region_text i (region_of region.value.0.kind)) region.value.0.at (in_turn region.value.1.items) rest
+piece_step i (layer.Many pieces) rest = in_turn pieces.value.items rest
 piece_step i (layer.Passed start) rest = says_passed i start rest
-piece_step i (layer.Kept pieces) rest = says_read (in_turn pieces.items) rest
+piece_step i (layer.Kept pieces) rest = says_read (in_turn pieces.value.items) rest
 
 -- what a piece says, in front of what is said after it
 abbrev pub piece_says : Interpretation → Piece → Rest → Rest

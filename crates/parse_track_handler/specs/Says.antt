@@ -1,14 +1,12 @@
--- The law of the handler: which trees its nodes stand for.
-use Rattle.std.specs.Prelude.{◌≡◌, Bool, true, List, [], ◌∷◌}
-use Rattle.script_grammar.specs.Braced.{in_expr, in_prop, in_stmt, in_stmts}
+-- When a piece says what a tree tells.
+use Rattle.std.specs.Prelude.{◌≡◌, true, List, [], ◌∷◌}
+use Rattle.script_grammar.specs.Braced.{in_stmts}
 use Rattle.script_grammar.specs.Interpretation.{Interpretation}
-use Rattle.script_grammar.specs.Tree.{Expr, Prop, Stmt, Stmts}
+use Rattle.script_grammar.specs.Tree.{Stmts}
 use Rattle.parse_track.specs.Told.{Told}
-use Rattle.parse_track.specs.Tells.{Text, tells_expr, tells_prop, tells_stmt, tells_stmts, labels_on}
+use Rattle.parse_track.specs.Tells.{Text, tells_stmts}
 use Rattle.parse_track_handler.specs.declared.piece.Piece.{Piece}
-use Rattle.parse_track_handler.specs.declared.piece.ToldStmt.{ToldStmt}
 use Rattle.parse_track_handler.specs.Pieces.{Body, Wanted, Read, Rest, piece_says}
-use Rattle.parse_track_handler.specs.Parts.{stmt_says}
 
 -- Bodies that are wanted are these, in their order: of each that was passed over its statements, and then all inside them.
 abbrev pub AreWanted : List Body → List Stmts → Type 0
@@ -21,17 +19,6 @@ pub record Says (says : Rest → Rest) (tells : Told Text → Told Text) (braced
   pub holds : (rest : Rest) (others : List Stmts) → AreWanted rest.bodies others
       → ((says rest).told ≡ tells rest.told) × AreWanted (says rest).bodies (braced others)
 
-abbrev pub SaysExpr : Interpretation → Piece → Expr → Type 0
-SaysExpr i n t = Says (piece_says i n) (tells_expr t) (in_expr true t)
-
-abbrev pub SaysProp : Interpretation → Piece → Prop → Type 0
-SaysProp i n t = Says (piece_says i n) (tells_prop t) (in_prop true t)
-
 -- a body, whose statements stand at its top
 abbrev pub SaysBody : Interpretation → Piece → Stmts → Type 0
 SaysBody i n ss = Says (piece_says i n) (tells_stmts true ss) (in_stmts true ss)
-
--- a statement, wherever it stands
-pub record SaysStmt (i : Interpretation) (n : ToldStmt) (s : Stmt) : Type 0 where
-  pub says : (top : Bool) → Says (stmt_says i top n) (tells_stmt top s) (in_stmt true s)
-  pub labels : n.labels_on ≡ labels_on s

@@ -5,7 +5,7 @@ ghost use Rattle.script_grammar.specs.Braced.{in_stmts};
 ghost use Rattle.script_grammar.specs.Interpretation.{Interpretation};
 ghost use Rattle.script_grammar.specs.Shows.{ShowAll};
 ghost use Rattle.script_grammar.specs.Tree as model;
-ghost use Rattle.parse_track.specs.Log.{with_leaf};
+ghost use Rattle.parse_track.specs.Log.{label_of, with_leaf};
 ghost use Rattle.parse_track.specs.Tells.{tells_script};
 ghost use Rattle.parse_track.specs.Told as told;
 ghost use Rattle.track_log_laws.specs.Spelled.{log_text, logged};
@@ -14,7 +14,7 @@ ghost use Rattle.parse_track_handler.specs.Pieces.{piece_says, pieces_say, says_
 ghost use Rattle.parse_track_handler.specs.Says.{SaysBody};
 ghost use Rattle.parse_track_handler.specs.Weight.{weight};
 
-use crate::piece::Piece;
+use crate::piece::{Piece, ToldJump};
 use parse_track::region::Region;
 use parse_track::track::Track;
 use std::alloc::AllocError;
@@ -31,16 +31,17 @@ fn tell_piece(piece: &Piece, track: &mut Track, bodies: &mut Vec<Piece>) -> Resu
         Piece::Declared { how, name } => Ok(track.declare(*how, *name)?),
         Piece::Used { atom } => Ok(track.used(*atom)?),
         Piece::This => Ok(tell_this(track)?),
-        Piece::Jumped { word, at, label } => Ok(track.jump(*word, *at, *label)?),
-        Piece::Inside { kind, at, pieces } => {
-            track.enter(*kind, *at)?;
+        Piece::Jumped(jump) => Ok(tell_jump(jump, track)?),
+        Piece::Inside(region) => {
+            let (head, pieces) = &**region;
+            track.enter(head.kind, head.at)?;
             tell_pieces(pieces, track, bodies)?;
             track.leave();
             Ok(())
         }
-        Piece::Many { pieces } => Ok(tell_pieces(pieces, track, bodies)?),
+        Piece::Many(pieces) => Ok(tell_pieces(pieces, track, bodies)?),
         Piece::Passed { .. } => Ok(tell_next(track, bodies)?),
-        Piece::Kept { pieces } => Ok(tell_kept(pieces, track, bodies)?),
+        Piece::Kept(pieces) => Ok(tell_kept(pieces, track, bodies)?),
     }
 }
 
@@ -88,6 +89,15 @@ fn tell_kept(pieces: &[Piece], track: &mut Track, bodies: &mut Vec<Piece>) -> Re
 {
     bodies.pop();
     tell_pieces(pieces, track, bodies)?;
+    Ok(())
+}
+
+// A jump.
+fn tell_jump(jump: &ToldJump, track: &mut Track) -> Result<(), AllocError>
+    requires { IsSome track.old.present }
+    ensures { OnOk result (track.new ≡ with_leaf track.old (told.Jumped jump.now.word jump.now.at (label_of jump.now.label))) }
+{
+    track.jump(jump.word, jump.at, jump.label)?;
     Ok(())
 }
 

@@ -2,9 +2,7 @@ use Rattle.std.proofs.Common.{[], ap, refl, ◌++◌, ◌∙◌, ◌∷◌}
 use Rattle.parse_track.specs.Log.{region_of}
 use Rattle.track_log_laws.specs.Spelled.{region_text}
 use Rattle.parse_track_handler.specs.Pieces.{pieces_say, says_region}
-use Rattle.parse_track_handler.specs.declared.piece.Piece.TheVariants as piece
 use Rattle.parse_track_handler.proofs.Appending.{appended_as}
-use Rattle.parse_track_handler.proofs.PieceEquations.{says-Inside}
 use Rattle.parse_skim_handler.proofs.Telling.{tells-more}
 use Rattle.parse_skim_handler.proofs.told.with_function.Goals as goal
 
@@ -14,9 +12,9 @@ returns c =
     let one = c.args.found ∷ [] in
     let pieces =
     c.in_ok-find.ensures.pieces ∙ (ap (λ p. p.pieces.items) c.deref_mut-2.ensures.value
-    ∙ (c.in_ok-push.ensures.pieces ∙ ap (λ p. p.pieces.items ++ (piece.Inside c.args.kind c.args.at c.args.pieces ∷ [])) c.deref_mut.ensures.value)) in
+    ∙ (c.in_ok-push.ensures.pieces ∙ ap (λ p. p.pieces.items ++ (c.in_ok-piece.piece ∷ [])) c.deref_mut.ensures.value)) in
     let found =
     c.in_ok-find.ensures.found ∙ (ap (λ p. p.found.items ++ one) c.deref_mut-2.ensures.value
     ∙ ap (λ l. l ++ one) (c.in_ok-push.ensures.found ∙ ap (λ p. p.found.items) c.deref_mut.ensures.value)) in
     tells-more c.args.told _ opened c.find.new.parts (λ i. says_region (region_text i (region_of c.args.kind)) c.args.at (pieces_say i c.args.pieces.items)) one c.in_ok-parts.ensures (record { says = λ i rest. refl; found = refl })
-    (λ i rest. appended_as i opened.pieces.items _ c.find.new.parts.pieces.items (says_region (region_text i (region_of c.args.kind)) c.args.at (pieces_say i c.args.pieces.items)) pieces (says-Inside i c.args.kind c.args.at c.args.pieces) rest) found
+    (λ i rest. appended_as i opened.pieces.items _ c.find.new.parts.pieces.items (says_region (region_text i (region_of c.args.kind)) c.args.at (pieces_say i c.args.pieces.items)) pieces (c.in_ok-piece.ensures i) rest) found

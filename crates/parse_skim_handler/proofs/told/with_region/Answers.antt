@@ -2,9 +2,7 @@ use Rattle.std.proofs.Common.{[], ap, refl, ◌++◌, ◌∙◌, ◌∷◌}
 use Rattle.parse_track.specs.Log.{region_of}
 use Rattle.track_log_laws.specs.Spelled.{region_text}
 use Rattle.parse_track_handler.specs.Pieces.{pieces_say, says_region}
-use Rattle.parse_track_handler.specs.declared.piece.Piece.TheVariants as piece
 use Rattle.parse_track_handler.proofs.Appending.{appended_as, region-same}
-use Rattle.parse_track_handler.proofs.PieceEquations.{says-Inside}
 use Rattle.parse_skim_handler.specs.Telling.{told_found, told_says}
 use Rattle.parse_skim_handler.proofs.Telling.{tells-more}
 use Rattle.parse_skim_handler.proofs.told.with_region.Goals as goal
@@ -15,7 +13,7 @@ returns c =
     let inner = c.in_ok-pieces.ensures in
     let pieces =
     c.in_ok-find_all.ensures.pieces ∙ (ap (λ p. p.pieces.items) c.deref_mut-2.ensures.value
-    ∙ (c.in_ok-push.ensures.pieces ∙ ap (λ p. p.pieces.items ++ (piece.Inside c.args.kind c.args.at c.in_ok-pieces.field-0.pieces ∷ [])) c.deref_mut.ensures.value)) in
+    ∙ (c.in_ok-push.ensures.pieces ∙ ap (λ p. p.pieces.items ++ (c.in_ok-piece.piece ∷ [])) c.deref_mut.ensures.value)) in
     let found =
     c.in_ok-find_all.ensures.found ∙ (ap (λ p. p.found.items ++ c.in_ok-pieces.field-0.found.items) c.deref_mut-2.ensures.value
     ∙ (ap (λ l. l ++ c.in_ok-pieces.field-0.found.items) (c.in_ok-push.ensures.found ∙ ap (λ p. p.found.items) c.deref_mut.ensures.value)
@@ -24,4 +22,4 @@ returns c =
     (λ i rest.
     let kind = region_text i (region_of c.args.kind) in
     appended_as i opened.pieces.items _ c.find_all.new.parts.pieces.items (says_region kind c.args.at (told_says i c.args.inside)) pieces
-    (λ r. says-Inside i c.args.kind c.args.at c.in_ok-pieces.field-0.pieces r ∙ region-same kind c.args.at (pieces_say i c.in_ok-pieces.field-0.pieces.items) (told_says i c.args.inside) (inner.says i) r) rest) found
+    (λ r. c.in_ok-piece.ensures i r ∙ region-same kind c.args.at (pieces_say i c.in_ok-pieces.field-0.pieces.items) (told_says i c.args.inside) (inner.says i) r) rest) found

@@ -1,9 +1,16 @@
-use Rattle.std.proofs.Common.{◌≡◌, ◌∙◌, ◌+◌, ap, arith, drop, drop_of_length-le, refl, sym}
+use Rattle.std.proofs.Common.{◌∙◌, ◌+◌, ap, arith, drop, drop_of_length-le, sym}
+use Rattle.std.specs.declared.vec.Vec.{Vec}
+use Rattle.std.specs.declared.alloc.Global.{Global}
+use Rattle.script_grammar.specs.Interpretation.{maybe_named}
 use Rattle.parse_track.specs.Told as told
-use Rattle.parse_track.specs.Log.{label_of, name_of}
-use Rattle.parse_track_handler.specs.Pieces.{Rest, telling, piece_says, pieces_say, says_read}
+use Rattle.parse_track.specs.Log.{label_of, name_of, region_of}
+use Rattle.parse_track.specs.Tells.{tells_jump}
+use Rattle.track_log_laws.specs.Spelled.{region_text}
+use Rattle.parse_track_handler.specs.declared.piece.Piece.{Piece}
+use Rattle.parse_track_handler.specs.declared.piece.RegionHead.{RegionHead}
+use Rattle.parse_track_handler.specs.declared.piece.ToldJump.{ToldJump}
+use Rattle.parse_track_handler.specs.Pieces.{telling, piece_says, pieces_say, says_read, says_region}
 use Rattle.parse_track_handler.specs.Weight.{weight}
-use Rattle.parse_track_handler.proofs.Logs.{stays_then}
 use Rattle.parse_track_handler.proofs.PieceEquations.{says-Declared, says-Used, says-This, says-Jumped, says-Inside, says-Many, says-Passed, says-Kept}
 use Rattle.parse_track_handler.proofs.Walking.{label_text, leaf_stays_as, next_of, none_left, popped_lighter, region_stays_as, turn_begin, turn_end, turn_next, walk_as, walk_leaf, walk_none, walk_passed, walk_popped, walk_region, walk_this, weight_push}
 use Rattle.parse_track_handler.proofs.walk.+telling.Goals as goal
@@ -31,30 +38,45 @@ tell_piece-returns-in_ok-tell_this-in-This-clause-tells t c = λ i.
 pub tell_piece-returns-in_ok-tell_this-in-This-clause-stays : goal.tell_piece-returns-in_ok-tell_this-in-This-clause-stays
 tell_piece-returns-in_ok-tell_this-in-This-clause-stays t c = leaf_stays_as (told.Used c.args.track.now.known.this) c.in_ok-tell_this-in-This.ensures
 
-pub tell_piece-returns-in_ok-jump-in-Jumped-clause-tells : goal.tell_piece-returns-in_ok-jump-in-Jumped-clause-tells
-tell_piece-returns-in_ok-jump-in-Jumped-clause-tells t c = λ i.
+pub tell_piece-returns-in_ok-tell_jump-in-Jumped-clause-tells : goal.tell_piece-returns-in_ok-tell_jump-in-Jumped-clause-tells
+tell_piece-returns-in_ok-tell_jump-in-Jumped-clause-tells t c = λ i.
+    let jump = c.deref.result.now in
     walk_as i
     (λ rest.
     ap (λ p. piece_says i p rest) c.in-Jumped.is
-    ∙ says-Jumped i c.in-Jumped.word c.in-Jumped.at c.in-Jumped.label rest
-    ∙ ap (λ l. telling rest (told.leaf (told.Jumped c.in-Jumped.word c.in-Jumped.at l) rest.told)) (sym (label_text i c.in-Jumped.label)))
-    (walk_leaf i _ (told.Jumped c.in-Jumped.word c.in-Jumped.at (label_of c.in-Jumped.label)) c.in_ok-jump-in-Jumped.ensures)
+    ∙ says-Jumped i c.in-Jumped.jump rest
+    ∙ ap (λ (j : ToldJump). telling rest (tells_jump j.word j.at (maybe_named i j.label) rest.told)) (sym c.deref.ensures)
+    ∙ ap (λ l. telling rest (told.leaf (told.Jumped jump.word jump.at l) rest.told)) (sym (label_text i jump.label)))
+    (walk_leaf i _ (told.Jumped jump.word jump.at (label_of jump.label)) c.in_ok-tell_jump-in-Jumped.ensures)
 
-pub tell_piece-returns-in_ok-jump-in-Jumped-clause-stays : goal.tell_piece-returns-in_ok-jump-in-Jumped-clause-stays
-tell_piece-returns-in_ok-jump-in-Jumped-clause-stays t c = leaf_stays_as (told.Jumped c.in-Jumped.word c.in-Jumped.at (label_of c.in-Jumped.label)) c.in_ok-jump-in-Jumped.ensures
+pub tell_piece-returns-in_ok-tell_jump-in-Jumped-clause-stays : goal.tell_piece-returns-in_ok-tell_jump-in-Jumped-clause-stays
+tell_piece-returns-in_ok-tell_jump-in-Jumped-clause-stays t c =
+    let jump = c.deref.result.now in
+    leaf_stays_as (told.Jumped jump.word jump.at (label_of jump.label)) c.in_ok-tell_jump-in-Jumped.ensures
 
 pub tell_piece-returns-in_ok-tell_pieces-in-Inside-clause-tells : goal.tell_piece-returns-in_ok-tell_pieces-in-Inside-clause-tells
 tell_piece-returns-in_ok-tell_pieces-in-Inside-clause-tells t c = λ i.
-    walk_as i (λ rest. ap (λ p. piece_says i p rest) c.in-Inside.is ∙ says-Inside i c.in-Inside.kind c.in-Inside.at c.in-Inside.pieces rest)
-    (walk_region i c.in-Inside.kind c.in-Inside.at c.in_ok-enter-in-Inside.ensures.1 c.in_ok-tell_pieces-in-Inside.ensures.stays
-    (walk_as i (λ rest. ap (λ ps. pieces_say i ps rest) (sym c.deref.ensures.value)) (c.in_ok-tell_pieces-in-Inside.ensures.tells i)) c.leave.ensures)
+    let region = c.deref-in-Inside.result.now in
+    walk_as i
+    (λ rest.
+    ap (λ p. piece_says i p rest) c.in-Inside.is
+    ∙ says-Inside i c.in-Inside.region rest
+    ∙ ap (λ (r : RegionHead × Vec Piece Global). says_region (region_text i (region_of r.0.kind)) r.0.at (pieces_say i r.1.items) rest) (sym c.deref-in-Inside.ensures))
+    (walk_region i region.0.kind region.0.at c.in_ok-enter-in-Inside.ensures.1 c.in_ok-tell_pieces-in-Inside.ensures.stays
+    (walk_as i (λ rest. ap (λ ps. pieces_say i ps rest) (sym c.deref-in-Inside-2.ensures.value)) (c.in_ok-tell_pieces-in-Inside.ensures.tells i)) c.leave.ensures)
 
 pub tell_piece-returns-in_ok-tell_pieces-in-Inside-clause-stays : goal.tell_piece-returns-in_ok-tell_pieces-in-Inside-clause-stays
-tell_piece-returns-in_ok-tell_pieces-in-Inside-clause-stays t c = region_stays_as c.in-Inside.kind c.in-Inside.at c.in_ok-enter-in-Inside.ensures.1 c.in_ok-tell_pieces-in-Inside.ensures.stays c.leave.ensures
+tell_piece-returns-in_ok-tell_pieces-in-Inside-clause-stays t c =
+    let region = c.deref-in-Inside.result.now in
+    region_stays_as region.0.kind region.0.at c.in_ok-enter-in-Inside.ensures.1 c.in_ok-tell_pieces-in-Inside.ensures.stays c.leave.ensures
 
 pub tell_piece-returns-in_ok-tell_pieces-in-Many-clause-tells : goal.tell_piece-returns-in_ok-tell_pieces-in-Many-clause-tells
 tell_piece-returns-in_ok-tell_pieces-in-Many-clause-tells t c = λ i.
-    walk_as i (λ rest. ap (λ p. piece_says i p rest) c.in-Many.is ∙ says-Many i c.in-Many.pieces rest ∙ ap (λ ps. pieces_say i ps rest) (sym c.deref-in-Many.ensures.value))
+    walk_as i
+    (λ rest.
+    ap (λ p. piece_says i p rest) c.in-Many.is
+    ∙ says-Many i c.in-Many.pieces rest
+    ∙ ap (λ ps. pieces_say i ps rest) (sym (c.deref-in-Many-2.ensures.value ∙ ap (λ (v : Vec Piece Global). v.items) c.deref-in-Many.ensures)))
     (c.in_ok-tell_pieces-in-Many.ensures.tells i)
 
 pub tell_piece-returns-in_ok-tell_next-in-Passed-clause-tells : goal.tell_piece-returns-in_ok-tell_next-in-Passed-clause-tells
@@ -63,7 +85,7 @@ tell_piece-returns-in_ok-tell_next-in-Passed-clause-tells t c = λ i.
 
 pub tell_piece-returns-in_ok-tell_kept-in-Kept-clause-tells : goal.tell_piece-returns-in_ok-tell_kept-in-Kept-clause-tells
 tell_piece-returns-in_ok-tell_kept-in-Kept-clause-tells t c = λ i.
-    walk_as i (λ rest. ap (λ p. piece_says i p rest) c.in-Kept.is ∙ says-Kept i c.in-Kept.pieces rest ∙ ap (λ ps. says_read (pieces_say i ps) rest) (sym c.deref-in-Kept.ensures.value))
+    walk_as i (λ rest. ap (λ p. piece_says i p rest) c.in-Kept.is ∙ says-Kept i c.in-Kept.pieces rest ∙ ap (λ ps. says_read (pieces_say i ps) rest) (sym (c.deref-in-Kept-2.ensures.value ∙ ap (λ (v : Vec Piece Global). v.items) c.deref-in-Kept.ensures)))
     (c.in_ok-tell_kept-in-Kept.ensures.tells i)
 
 pub tell_pieces-loop-piece-init : goal.tell_pieces-loop-piece-init

@@ -3,7 +3,6 @@ use Rattle.parse_track.specs.EarlyErrors.{error_of}
 use Rattle.parse_handlers.specs.FoundOf.{founds_before}
 use Rattle.parse_early_handler.specs.Firsts.{strict_first}
 use Rattle.parse_early_handler.proofs.Statements.{strict-first}
-use Rattle.parse_track_handler.proofs.PieceEquations.{says-Many}
 use Rattle.parse_track_handler.proofs.Saying.{same-says}
 use Rattle.parse_skim_handler.specs.Packed.{stmt_errors}
 use Rattle.parse_skim_handler.proofs.Meanings.{begun}
@@ -17,7 +16,7 @@ returns c = λ i ss h.
     let stands = stmts-stand i true items ss h in
     let parts = c.in_ok-pieces.ensures in
     record {
-      told = same-says (λ rest. says-Many i _ rest ∙ (parts.says i rest ∙ kept.says rest)) stands.says;
+      told = same-says (λ rest. c.in_ok-told.ensures i rest ∙ (parts.says i rest ∙ kept.says rest)) stands.says;
       found = λ r. ap (λ l. founds_before i l r) parts.found ∙ (kept.puts r ∙ stands.puts r);
       errors = record {
         holds = λ e k. record {

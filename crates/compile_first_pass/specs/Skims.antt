@@ -3,8 +3,8 @@ use Rattle.std.specs.Prelude.{◌≡◌, List, map}
 use Rattle.script_grammar.specs.Interpretation.{Interpretation}
 use Rattle.script_grammar.specs.Shows.{ShowAll}
 use Rattle.script_grammar.specs.Tree.{Stmts}
-use Rattle.parse_track_handler.specs.declared.piece.Piece.{Piece}
-use Rattle.parse_track_handler.specs.Says.{SaysBody}
+use Rattle.parse_track_pieces.specs.declared.piece.Piece.{Piece}
+use Rattle.parse_track_pieces.specs.Says.{SaysBody}
 use Rattle.parse_handlers.specs.FoundOf.{HoldsBody}
 use Rattle.parse_early_handler.specs.declared.nodes.BodyErrors.{BodyErrors}
 use Rattle.parse_early_handler.specs.HasErrors.{HasErrorsBody, HasEmptyBodies}

@@ -8,7 +8,7 @@ use parse_early_handler::BodyErrors;
 use parse_function_list::FoundBody;
 use parse_handlers::SyntaxBody;
 use parse_skim_handler::{SkimBody, Skimming};
-use parse_track_handler::Piece;
+use parse_track_pieces::Piece;
 use script_grammar::handler::Handler;
 use std::alloc::{AllocError, Global};
 

@@ -1,5 +1,5 @@
 -- One file: what is printed is its answer.
-use Rattle.std.proofs.Common.{List, None, Option, Some, Vec, [], ap, codes, false, length, refl, subst, sym, true, ℕ, ◌++◌, ◌∙◌, ◌≡◌}
+use Rattle.std.proofs.Common.{List, None, Option, Some, Vec, [], codes, false, length, refl, subst, sym, true, ℕ, ◌++◌, ◌∙◌, ◌≡◌}
 use Rattle.std.specs.Fmt.{decimal}
 use Rattle.std.specs.declared.alloc.Global.{Global}
 use Rattle.compile_first_pass.specs.Passes.{IsSyntaxOf}

@@ -19,9 +19,9 @@ use Rattle.track_renaming_laws.specs.Texts.{text_at, TellsOf}
 use Rattle.track_renaming_laws.proofs.Scripts.{track-early_error, track-closed_names}
 use Rattle.track_log_laws.specs.Spelled.{log_text, logged}
 use Rattle.track_log_laws.proofs.Scripts.{script-tells, script-functions}
-use Rattle.parse_track_handler.specs.declared.piece.Piece.{Piece}
-use Rattle.parse_track_handler.specs.Says.{SaysBody}
-use Rattle.parse_track_handler.specs.Walks.{KnowsThis}
+use Rattle.parse_track_pieces.specs.declared.piece.Piece.{Piece}
+use Rattle.parse_track_pieces.specs.Says.{SaysBody}
+use Rattle.parse_track_pieces.specs.Walks.{KnowsThis}
 use Rattle.early_script_errors.specs.Told.{own, IsOf, IsTold, IsTrackOf}
 use Rattle.early_script_errors.proofs.Words.{knows_this, knows_names}
 

@@ -16,8 +16,8 @@ use Rattle.parse_track.specs.Notes.{first_note, notes_stmts}
 use Rattle.parse_track.specs.Tells.{tells_script}
 use Rattle.track_renaming_laws.specs.Texts.{AreWithoutEquals}
 use Rattle.track_log_laws.specs.Spelled.{TextLog, log_text, logged}
-use Rattle.parse_track_handler.specs.declared.piece.Piece.{Piece}
-use Rattle.parse_track_handler.specs.Says.{SaysBody}
+use Rattle.parse_track_pieces.specs.declared.piece.Piece.{Piece}
+use Rattle.parse_track_pieces.specs.Says.{SaysBody}
 
 -- the known words, by their atoms
 pub record Knows (texts : List (List ℕ)) (known : WellKnownAtoms) : Type 0 where

@@ -12,8 +12,8 @@ ghost use Rattle.early_script_errors.specs.Told.{IsOf, IsTold, IsTrackOf};
 
 use parse_track::region::{ClosedAt, Early, WellKnownAtoms};
 use parse_track::track::Track;
-use parse_track_handler::Piece;
-use parse_track_handler::walk::tell_script;
+use parse_track_pieces::Piece;
+use parse_track_pieces::walk::tell_script;
 use std::alloc::{AllocError, Global};
 
 /// What is found in a script.

@@ -18,8 +18,8 @@ use Rattle.parse_early_handler.specs.Shapes.{shape_of}
 use Rattle.parse_early_handler.specs.declared.directive.Directive.TheVariants as kind
 use Rattle.parse_early_handler.specs.declared.nodes.ExprErrors.{ExprErrors}
 use Rattle.parse_early_handler.specs.declared.shape.Shape.{Shape}
-use Rattle.parse_track_handler.specs.Says.{Says}
-use Rattle.parse_track_handler.proofs.Saying.{name-says, then-says}
+use Rattle.parse_track_pieces.specs.Says.{Says}
+use Rattle.parse_track_pieces.proofs.Saying.{name-says, then-says}
 use Rattle.parse_skim_handler.specs.Kept.{Means, kept_means, whole_as, whole_expr_means, whole_prop_means}
 use Rattle.parse_skim_handler.specs.Meaning.{Meaning}
 use Rattle.parse_skim_handler.specs.Means.{Owed, Stands, expr_owed, prop_owed, stmt_owed, then_owed}

@@ -7,8 +7,8 @@ use Rattle.parse_track.specs.Told as told
 use Rattle.parse_track.specs.declared.region.Early.{Early}
 use Rattle.parse_handlers.specs.Inner.{Inner}
 use Rattle.parse_early_handler.proofs.Sooner.{sooner_assoc, sooner_none}
-use Rattle.parse_track_handler.specs.Pieces.{Rest}
-use Rattle.parse_track_handler.proofs.Appending.{region-same}
+use Rattle.parse_track_pieces.specs.Pieces.{Rest}
+use Rattle.parse_track_pieces.proofs.Appending.{region-same}
 use Rattle.parse_skim_handler.specs.Kept.{Adds, Means, kept_means}
 use Rattle.parse_skim_handler.specs.Meaning.{Meaning, all_meant, nothing_meant, region_meant, then_meant}
 use Rattle.parse_skim_handler.specs.declared.kept.Kept.{Kept}

@@ -10,8 +10,8 @@ use Rattle.parse_track.specs.declared.region.Early.{Early}
 use Rattle.parse_early_handler.specs.HasErrors.{HasEmptyBodies}
 use Rattle.parse_early_handler.specs.Known.{KnowsWords, known_atoms}
 use Rattle.parse_early_handler.proofs.Parting.{IsFirst, then-first}
-use Rattle.parse_track_handler.proofs.Appending.{region-same}
-use Rattle.parse_track_handler.proofs.Saying.{name-says, none-says, region-says, same-says, then-says}
+use Rattle.parse_track_pieces.proofs.Appending.{region-same}
+use Rattle.parse_track_pieces.proofs.Saying.{name-says, none-says, region-says, same-says, then-says}
 use Rattle.parse_skim_handler.specs.Kept.{Means, kept_means}
 use Rattle.parse_skim_handler.specs.Meaning.{Meaning, all_meant, error_meant, maybe_meant, name_meant, nothing_meant, region_meant, then_meant}
 use Rattle.parse_skim_handler.specs.Means.{Owed, Stands, error_owed, name_owed, nothing_owed, region_owed, then_owed}

@@ -22,9 +22,9 @@ use Rattle.parse_handlers.specs.Inner as inner
 use Rattle.parse_early_handler.specs.Firsts.{are_more, is_some_or}
 use Rattle.parse_early_handler.proofs.Expressions.{inside}
 use Rattle.parse_early_handler.proofs.Functions.{braced-first, deferred-first, more-is, more_params, params_many, short-first}
-use Rattle.parse_track_handler.specs.Parts as listed
-use Rattle.parse_track_handler.specs.Parts.{have_initializer}
-use Rattle.parse_track_handler.proofs.Saying.{passed-says, read-says, told-same}
+use Rattle.parse_track_pieces.specs.Parts as listed
+use Rattle.parse_track_pieces.specs.Parts.{have_initializer}
+use Rattle.parse_track_pieces.proofs.Saying.{passed-says, read-says, told-same}
 use Rattle.parse_skim_handler.specs.Kept.{body_means, function_around, function_means, has_braces, inside_means, named_means, own_means, param_means}
 use Rattle.parse_skim_handler.specs.Meaning.{Meaning, all_meant}
 use Rattle.parse_skim_handler.specs.Means.{Owed, Stands, error_owed, name_owed, then_owed}

@@ -4,8 +4,8 @@ use Rattle.script_grammar.specs.Interpretation.{Interpretation}
 use Rattle.parse_handlers.specs.FoundOf.{before, found_of, founds_before}
 use Rattle.parse_handlers.specs.Inner.{Inner}
 use Rattle.parse_handlers.specs.declared.found.FoundFunction.{FoundFunction}
-use Rattle.parse_track_handler.specs.Pieces.{Rest, piece_says, pieces_say}
-use Rattle.parse_track_handler.specs.declared.piece.Piece.{Piece}
+use Rattle.parse_track_pieces.specs.Pieces.{Rest, piece_says, pieces_say}
+use Rattle.parse_track_pieces.specs.declared.piece.Piece.{Piece}
 use Rattle.parse_skim_handler.specs.Telling.{ArePartsOf, Joins, Tells, UsesBefore, use_says}
 use Rattle.parse_skim_handler.specs.declared.told.Parts.{Parts}
 use Rattle.parse_skim_handler.specs.declared.told.Told.TheVariants as told

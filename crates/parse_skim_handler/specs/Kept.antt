@@ -31,8 +31,8 @@ use Rattle.parse_handlers.specs.Inner.{Inner, no_inner, more_inner, kind_of, tex
 use Rattle.parse_handlers.specs.FoundOf.{FoundAs, founds_before}
 use Rattle.parse_handlers.specs.declared.found.FoundFunction.{FoundFunction}
 use Rattle.parse_early_handler.specs.Firsts.{are_more, const_first, many_args, many_params, strict_error, target_first}
-use Rattle.parse_track_handler.specs.Pieces.{Rest, piece_says, says_passed, says_read, says_region}
-use Rattle.parse_track_handler.specs.Parts.{declares_as, have_initializer}
+use Rattle.parse_track_pieces.specs.Pieces.{Rest, piece_says, says_passed, says_read, says_region}
+use Rattle.parse_track_pieces.specs.Parts.{declares_as, have_initializer}
 use Rattle.parse_skim_handler.specs.declared.kept.Kept.{Kept}
 use Rattle.parse_skim_handler.specs.declared.nodes.SkimBody.{SkimBody}
 use Rattle.parse_skim_handler.specs.declared.nodes.SkimExpr.{SkimExpr}

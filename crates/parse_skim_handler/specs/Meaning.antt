@@ -8,7 +8,7 @@ use Rattle.parse_track.specs.EarlyErrors.{sooner}
 use Rattle.parse_track.specs.Tells.{Text}
 use Rattle.parse_track.specs.Told as told
 use Rattle.parse_handlers.specs.Inner.{Inner}
-use Rattle.parse_track_handler.specs.Pieces.{Rest, says_name, says_region}
+use Rattle.parse_track_pieces.specs.Pieces.{Rest, says_name, says_region}
 
 -- what it says in front of what is said after it, the functions in it in front of those after it, and its first early error of a
 -- rule that looks at no region

@@ -15,7 +15,7 @@ use Rattle.parse_handlers.specs.Inner as inner
 use Rattle.parse_handlers.specs.Inner.{Inner}
 use Rattle.parse_early_handler.specs.HasErrors.{HasEmptyBodies}
 use Rattle.parse_early_handler.specs.Known.{KnowsWords, known_atoms}
-use Rattle.parse_track_handler.specs.Says.{Says}
+use Rattle.parse_track_pieces.specs.Says.{Says}
 use Rattle.parse_skim_handler.specs.Meaning.{Meaning}
 
 -- what a part of a tree tells, the braced bodies in it, the functions directly in it, and its early errors of rules that look at no

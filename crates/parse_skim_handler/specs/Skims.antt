@@ -5,7 +5,7 @@ use Rattle.script_grammar.specs.Tree.{Expr, Prop, Stmt, Stmts}
 use Rattle.parse_track.specs.Tells.{labels_on}
 use Rattle.parse_handlers.specs.FoundOf.{HoldsBody}
 use Rattle.parse_early_handler.specs.HasErrors.{HasErrorsExpr, HasErrorsProp, HasErrorsStmt, HasErrorsBody}
-use Rattle.parse_track_handler.specs.Says.{SaysBody}
+use Rattle.parse_track_pieces.specs.Says.{SaysBody}
 use Rattle.parse_skim_handler.specs.declared.nodes.SkimBody.{SkimBody}
 use Rattle.parse_skim_handler.specs.declared.nodes.SkimExpr.{SkimExpr}
 use Rattle.parse_skim_handler.specs.declared.nodes.SkimProp.{SkimProp}

@@ -5,7 +5,7 @@ use Rattle.parse_track.specs.Tells.{tells_use}
 use Rattle.parse_handlers.specs.declared.found.FoundFunction.{FoundFunction}
 use Rattle.parse_handlers.specs.FoundOf.{founds_before}
 use Rattle.parse_handlers.specs.Inner.{Inner}
-use Rattle.parse_track_handler.specs.Pieces.{Rest, telling, pieces_say}
+use Rattle.parse_track_pieces.specs.Pieces.{Rest, telling, pieces_say}
 use Rattle.parse_skim_handler.specs.declared.told.Parts.{Parts}
 use Rattle.parse_skim_handler.specs.declared.told.Told.{Told}
 use Rattle.parse_skim_handler.specs.declared.told.Told.TheVariants as told

@@ -19,7 +19,7 @@ use parse_early_handler::limits::many_params;
 use parse_early_handler::parts::are_more;
 use parse_handlers::FoundFunction;
 use parse_track::region::{Declare, Early, Region};
-use parse_track_handler::{Piece, has_initializer};
+use parse_track_pieces::{Piece, has_initializer};
 use script_grammar::node::{NodeFunc, NodeFuncBody, NodeParam};
 use script_grammar::token::FuncForm;
 use script_grammar::tree::Ident;

@@ -27,7 +27,7 @@ use parse_early_handler::{
 };
 use parse_handlers::SyntaxBody;
 use parse_track::region::{Jump, Region};
-use parse_track_handler::Piece;
+use parse_track_pieces::Piece;
 use script_grammar::handler::Handler;
 use script_grammar::node::{
     NodeArgs, NodeBind, NodeClause, NodeEach, NodeFunc, NodeInit, NodeKey, NodeOperand, NodeTail,

@@ -4,7 +4,7 @@ ghost use Rattle.std.specs.Prelude.{◌≡◌, Option, IfOk, true, false};
 ghost use Rattle.script_grammar.specs.Interpretation.{Interpretation};
 ghost use Rattle.parse_track.specs.Log.{region_of};
 ghost use Rattle.track_log_laws.specs.Spelled.{region_text};
-ghost use Rattle.parse_track_handler.specs.Pieces.{piece_says};
+ghost use Rattle.parse_track_pieces.specs.Pieces.{piece_says};
 ghost use Rattle.parse_skim_handler.specs.Meaning.{Meaning, all_meant, error_meant, maybe_meant, name_meant, nothing_meant, region_meant, said_meant};
 ghost use Rattle.parse_skim_handler.specs.Kept.{Adds, Means, expr_means, kept_means, prop_means, stmt_as, stmt_means, target_means};
 ghost use Rattle.parse_skim_handler.specs.Telling.{told_puts, told_says};
@@ -15,7 +15,7 @@ use crate::told::{Told, then, with_piece, with_region};
 use parse_early_handler::early::sooner;
 use parse_early_handler::parts::target_first;
 use parse_track::region::{Declare, Early, Region};
-use parse_track_handler::Piece;
+use parse_track_pieces::Piece;
 use script_grammar::tree::Ident;
 use std::alloc::{AllocError, Global};
 

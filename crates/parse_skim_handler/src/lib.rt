@@ -1,6 +1,6 @@
 //! The handler `Skimming`: all that a first pass keeps of a script, in one small node for each part.
 //!
-//! It stands on `script_grammar`, whose trait `Handler` says what each method has to do, and on `parse_track_handler`,
+//! It stands on `script_grammar`, whose trait `Handler` says what each method has to do, and on `parse_track_pieces`,
 //! `parse_handlers` and `parse_early_handler`, whose definitions say what a part of a script tells a track, which functions are
 //! directly in it, and which early errors of the rules that look at no region it has. A parser that is generic over its
 //! handler reads a script with it once, and its nodes have all three. Each node is taken once into the node around it. A part that

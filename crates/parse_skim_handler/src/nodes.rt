@@ -4,7 +4,7 @@ use crate::packed::Packed;
 use crate::told::Told;
 use parse_early_handler::{BodyErrors, ExprErrors, PropErrors, Shape};
 use parse_handlers::SyntaxBody;
-use parse_track_handler::Piece;
+use parse_track_pieces::Piece;
 use script_grammar::tree::Ident;
 
 /// What is kept of an expression.

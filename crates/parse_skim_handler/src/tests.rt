@@ -5,7 +5,7 @@ use crate::nodes::{SkimBody, SkimExpr};
 use crate::packed::Packed;
 use crate::told::Told;
 use parse_track::region::Early;
-use parse_track_handler::Piece;
+use parse_track_pieces::Piece;
 use script_grammar::handler::Handler;
 use script_grammar::node::{NodeArgs, NodeFunc, NodeFuncBody, NodeParam, NodeTail};
 use script_grammar::token::FuncForm;

@@ -4,14 +4,14 @@ ghost use Rattle.std.specs.Prelude.{◌≡◌, ◌≤◌, ◌++◌, List, [], �
 ghost use Rattle.script_grammar.specs.Interpretation.{Interpretation};
 ghost use Rattle.parse_track.specs.Log.{region_of};
 ghost use Rattle.track_log_laws.specs.Spelled.{region_text};
-ghost use Rattle.parse_track_handler.specs.Pieces.{piece_says, pieces_say, says_region};
-ghost use Rattle.parse_track_handler.specs.Parts.{Appends};
-ghost use Rattle.parse_track_handler.specs.declared.piece.Piece.TheVariants as piece;
+ghost use Rattle.parse_track_pieces.specs.Pieces.{piece_says, pieces_say, says_region};
+ghost use Rattle.parse_track_pieces.specs.Parts.{Appends};
+ghost use Rattle.parse_track_pieces.specs.declared.piece.Piece.TheVariants as piece;
 ghost use Rattle.parse_skim_handler.specs.Telling.{ArePartsOf, Joins, Tells, UsesBefore, told_found, told_says, use_says};
 
 use parse_handlers::FoundFunction;
 use parse_track::region::Region;
-use parse_track_handler::Piece;
+use parse_track_pieces::Piece;
 use std::alloc::{AllocError, Global};
 
 /// What is told, one piece after another, and the functions that were found.

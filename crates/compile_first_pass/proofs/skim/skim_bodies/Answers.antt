@@ -1,7 +1,7 @@
 use Rattle.std.proofs.Common.{◌∙◌, sym, subst}
 use Rattle.std.proofs.lemmas.Iterator.Consumers.{YieldsList-end}
 use Rattle.std.proofs.lemmas.Iterator.Adapters.{YieldsList-from_vec}
-use Rattle.parse_track_handler.proofs.Appending.{map-same}
+use Rattle.parse_track_pieces.proofs.Appending.{map-same}
 use Rattle.compile_first_pass.specs.Skims.{AreSkimmed}
 use Rattle.compile_first_pass.proofs.SkimLemmas.{none_skimmed, more_skimmed}
 use Rattle.compile_first_pass.proofs.skim.skim_bodies.Goals as goal

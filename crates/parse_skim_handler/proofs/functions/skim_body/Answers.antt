@@ -1,5 +1,5 @@
 use Rattle.std.proofs.Common.{refl}
-use Rattle.parse_track_handler.proofs.PieceEquations.{says-Passed}
+use Rattle.parse_track_pieces.proofs.PieceEquations.{says-Passed}
 use Rattle.parse_skim_handler.specs.Kept.{body_means}
 use Rattle.parse_skim_handler.proofs.Meanings.{adds-same, if_ok, made-as}
 use Rattle.parse_skim_handler.proofs.functions.skim_body.Goals as goal

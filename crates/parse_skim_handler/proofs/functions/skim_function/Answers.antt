@@ -4,8 +4,8 @@ use Rattle.parse_track.specs.Tells as tell
 use Rattle.parse_handlers.specs.FoundOf.{before, founds_before}
 use Rattle.parse_handlers.specs.Inner.{no_inner}
 use Rattle.parse_early_handler.specs.Firsts.{are_more}
-use Rattle.parse_track_handler.specs.Pieces.{pieces_say, says_region}
-use Rattle.parse_track_handler.proofs.Appending.{region-same}
+use Rattle.parse_track_pieces.specs.Pieces.{pieces_say, says_region}
+use Rattle.parse_track_pieces.proofs.Appending.{region-same}
 use Rattle.parse_skim_handler.specs.Kept.{inside_means}
 use Rattle.parse_skim_handler.specs.Telling.{told_found, told_says}
 use Rattle.parse_skim_handler.proofs.StandingFunctions.{found-puts}

@@ -1,6 +1,6 @@
 use Rattle.std.proofs.Common.{ap, sym, ◌∙◌}
 use Rattle.parse_early_handler.specs.Firsts.{are_more, many_params}
-use Rattle.parse_track_handler.specs.Parts.{have_initializer}
+use Rattle.parse_track_pieces.specs.Parts.{have_initializer}
 use Rattle.parse_skim_handler.specs.Kept.{own_means, param_means}
 use Rattle.parse_skim_handler.specs.Meaning.{all_meant, error_meant, then_meant}
 use Rattle.parse_skim_handler.proofs.Meanings.{adds-then, from, if_ok, means-as}

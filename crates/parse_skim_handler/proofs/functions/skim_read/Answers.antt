@@ -1,7 +1,7 @@
 use Rattle.std.proofs.Common.{[], ap, refl, ◌++◌, ◌∙◌, ◌∷◌}
 use Rattle.parse_track.specs.EarlyErrors.{sooner}
 use Rattle.parse_early_handler.proofs.Sooner.{sooner_none}
-use Rattle.parse_track_handler.specs.Pieces.{pieces_say, says_read}
+use Rattle.parse_track_pieces.specs.Pieces.{pieces_say, says_read}
 use Rattle.parse_skim_handler.proofs.Meanings.{adds-same, adds-then, if_ok}
 use Rattle.parse_skim_handler.proofs.functions.skim_read.Goals as goal
 

@@ -1,5 +1,5 @@
 use Rattle.std.proofs.Common.{refl}
-use Rattle.parse_track_handler.proofs.PieceEquations.{says-Declared}
+use Rattle.parse_track_pieces.proofs.PieceEquations.{says-Declared}
 use Rattle.parse_skim_handler.proofs.Meanings.{adds-same, if_ok}
 use Rattle.parse_skim_handler.proofs.kept.declared.Goals as goal
 

@@ -2,7 +2,7 @@ use Rattle.std.proofs.Common.{Option, sym}
 use Rattle.script_grammar.specs.Interpretation.{Interpretation}
 use Rattle.script_grammar.specs.declared.tree.Ident.{Ident}
 use Rattle.parse_track.specs.declared.region.Declare.{Declare}
-use Rattle.parse_track_handler.specs.Parts.{declares_as}
+use Rattle.parse_track_pieces.specs.Parts.{declares_as}
 use Rattle.parse_skim_handler.specs.Meaning.{Meaning}
 use Rattle.parse_skim_handler.specs.Telling.{told_puts, told_says}
 use Rattle.parse_skim_handler.specs.Kept.{whole_as}

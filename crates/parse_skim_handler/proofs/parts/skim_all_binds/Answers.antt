@@ -1,7 +1,7 @@
 use Rattle.std.proofs.Common.{sym, ◌∙◌}
 use Rattle.std.proofs.lemmas.Iterator.Adapters.{YieldsList-from_vec}
 use Rattle.std.proofs.lemmas.Iterator.Consumers.{YieldsList-end}
-use Rattle.parse_track_handler.proofs.Appending.{map-same}
+use Rattle.parse_track_pieces.proofs.Appending.{map-same}
 use Rattle.parse_skim_handler.specs.Kept.{bind_means}
 use Rattle.parse_skim_handler.specs.Meaning.{all_meant}
 use Rattle.parse_skim_handler.proofs.Meanings.{adds-as, adds-more, adds-nothing}

@@ -1,5 +1,5 @@
 use Rattle.std.proofs.Common.{ap, ◌++◌, ◌∙◌}
-use Rattle.parse_track_handler.specs.Pieces.{pieces_say}
+use Rattle.parse_track_pieces.specs.Pieces.{pieces_say}
 use Rattle.parse_skim_handler.proofs.told.join.Goals as goal
 
 pub returns : goal.returns

@@ -1,6 +1,6 @@
 use Rattle.std.proofs.Common.{ap, ◌∙◌}
-use Rattle.parse_track_handler.specs.Pieces.{pieces_say}
-use Rattle.parse_track_handler.proofs.Appending.{appended_as}
+use Rattle.parse_track_pieces.specs.Pieces.{pieces_say}
+use Rattle.parse_track_pieces.proofs.Appending.{appended_as}
 use Rattle.parse_skim_handler.proofs.Telling.{pieces-then}
 use Rattle.parse_skim_handler.proofs.told.push_all.Goals as goal
 

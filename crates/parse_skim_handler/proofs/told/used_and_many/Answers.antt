@@ -1,7 +1,7 @@
 use Rattle.std.proofs.Common.{[], ap, ◌++◌, ◌∙◌, ◌∷◌}
-use Rattle.parse_track_handler.specs.Pieces.{piece_says, pieces_say}
-use Rattle.parse_track_handler.specs.declared.piece.Piece.TheVariants as piece
-use Rattle.parse_track_handler.proofs.PieceEquations.{says-Used}
+use Rattle.parse_track_pieces.specs.Pieces.{piece_says, pieces_say}
+use Rattle.parse_track_pieces.specs.declared.piece.Piece.TheVariants as piece
+use Rattle.parse_track_pieces.proofs.PieceEquations.{says-Used}
 use Rattle.parse_skim_handler.proofs.told.used_and_many.Goals as goal
 
 pub returns : goal.returns

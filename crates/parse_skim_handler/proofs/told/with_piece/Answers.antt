@@ -1,7 +1,7 @@
 use Rattle.std.proofs.Common.{[], ap, refl, sym, ◌++◌, ◌∙◌, ◌∷◌}
 use Rattle.std.proofs.lemmas.List.{append-nil}
-use Rattle.parse_track_handler.specs.Pieces.{piece_says}
-use Rattle.parse_track_handler.proofs.Appending.{appended}
+use Rattle.parse_track_pieces.specs.Pieces.{piece_says}
+use Rattle.parse_track_pieces.proofs.Appending.{appended}
 use Rattle.parse_skim_handler.proofs.Telling.{tells-more}
 use Rattle.parse_skim_handler.proofs.told.with_piece.Goals as goal
 

@@ -1,8 +1,8 @@
 use Rattle.std.proofs.Common.{[], ap, refl, ◌++◌, ◌∙◌, ◌∷◌}
 use Rattle.parse_track.specs.Log.{region_of}
 use Rattle.track_log_laws.specs.Spelled.{region_text}
-use Rattle.parse_track_handler.specs.Pieces.{pieces_say, says_region}
-use Rattle.parse_track_handler.proofs.Appending.{appended_as, region-same}
+use Rattle.parse_track_pieces.specs.Pieces.{pieces_say, says_region}
+use Rattle.parse_track_pieces.proofs.Appending.{appended_as, region-same}
 use Rattle.parse_skim_handler.specs.Telling.{told_found, told_says}
 use Rattle.parse_skim_handler.proofs.Telling.{tells-more}
 use Rattle.parse_skim_handler.proofs.told.with_region.Goals as goal

@@ -3,7 +3,7 @@ use Rattle.parse_track.specs.EarlyErrors.{error_of}
 use Rattle.parse_handlers.specs.FoundOf.{founds_before}
 use Rattle.parse_early_handler.specs.Firsts.{strict_first}
 use Rattle.parse_early_handler.proofs.Statements.{strict-first}
-use Rattle.parse_track_handler.proofs.Saying.{same-says}
+use Rattle.parse_track_pieces.proofs.Saying.{same-says}
 use Rattle.parse_skim_handler.specs.Packed.{stmt_errors}
 use Rattle.parse_skim_handler.proofs.Meanings.{begun}
 use Rattle.parse_skim_handler.proofs.StandingParts.{stmt_errors-shown, stmts-stand}

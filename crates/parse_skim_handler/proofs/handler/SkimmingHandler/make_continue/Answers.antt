@@ -3,7 +3,7 @@ use Rattle.script_grammar.specs.Interpretation.{maybe_named}
 use Rattle.script_grammar.specs.Tree as model
 use Rattle.parse_track.specs.Tells as tell
 use Rattle.parse_track.specs.declared.region.Jump.TheVariants as jump
-use Rattle.parse_track_handler.proofs.Saying.{same-says, tell-says}
+use Rattle.parse_track_pieces.proofs.Saying.{same-says, tell-says}
 use Rattle.parse_skim_handler.proofs.Made.{stmt-made}
 use Rattle.parse_skim_handler.proofs.Meanings.{begun}
 use Rattle.parse_skim_handler.proofs.handler.SkimmingHandler.make_continue.Goals as goal

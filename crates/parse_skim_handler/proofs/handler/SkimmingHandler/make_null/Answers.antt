@@ -1,6 +1,6 @@
 use Rattle.std.proofs.Common.{refl}
 use Rattle.script_grammar.specs.Tree as model
-use Rattle.parse_track_handler.proofs.Saying.{none-says}
+use Rattle.parse_track_pieces.proofs.Saying.{none-says}
 use Rattle.parse_skim_handler.proofs.Made.{quiet-made}
 use Rattle.parse_skim_handler.proofs.handler.SkimmingHandler.make_null.Goals as goal
 

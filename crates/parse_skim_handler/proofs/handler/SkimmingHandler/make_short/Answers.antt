@@ -2,7 +2,7 @@ use Rattle.std.proofs.Common.{refl}
 use Rattle.script_grammar.specs.Interpretation.{named, text_of}
 use Rattle.script_grammar.specs.Tree as model
 use Rattle.parse_track.specs.Tells as tell
-use Rattle.parse_track_handler.proofs.Saying.{tell-says}
+use Rattle.parse_track_pieces.proofs.Saying.{tell-says}
 use Rattle.parse_skim_handler.proofs.Made.{prop-noted}
 use Rattle.parse_skim_handler.proofs.handler.SkimmingHandler.make_short.Goals as goal
 

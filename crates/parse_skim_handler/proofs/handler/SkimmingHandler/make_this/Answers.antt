@@ -1,8 +1,8 @@
 use Rattle.std.proofs.Common.{codes}
 use Rattle.script_grammar.specs.Tree as model
 use Rattle.parse_track.specs.Tells as tell
-use Rattle.parse_track_handler.proofs.PieceEquations.{says-This}
-use Rattle.parse_track_handler.proofs.Saying.{same-says, tell-says}
+use Rattle.parse_track_pieces.proofs.PieceEquations.{says-This}
+use Rattle.parse_track_pieces.proofs.Saying.{same-says, tell-says}
 use Rattle.parse_skim_handler.proofs.Made.{expr-noted}
 use Rattle.parse_skim_handler.proofs.Meanings.{begun}
 use Rattle.parse_skim_handler.proofs.handler.SkimmingHandler.make_this.Goals as goal

@@ -2,10 +2,10 @@ use Rattle.std.proofs.Common.{◌∙◌, [], ap, refl, sym}
 use Rattle.parse_track.specs.declared.region.Region.TheVariants as region
 use Rattle.parse_track.specs.Told as told
 use Rattle.parse_track.specs.Told.{nothing, inner}
-use Rattle.parse_track_handler.specs.Pieces.{Rest}
+use Rattle.parse_track_pieces.specs.Pieces.{Rest}
 use Rattle.track_log_laws.specs.Spelled.{log_text, logged}
-use Rattle.parse_track_handler.proofs.Walking.{present_behind, region_stays_as, walk_region}
-use Rattle.parse_track_handler.proofs.walk.tell_script.Goals as goal
+use Rattle.parse_track_pieces.proofs.Walking.{present_behind, region_stays_as, walk_region}
+use Rattle.parse_track_pieces.proofs.walk.tell_script.Goals as goal
 
 pub leave-requires : goal.leave-requires
 leave-requires c = present_behind c.in_ok-enter.ensures.1 refl c.in_ok-tell_piece.ensures.stays

@@ -1,8 +1,8 @@
 use Rattle.std.proofs.Common.{◌≡◌, ◌∙◌, ap, sym, drop, ◌+◌, ◌<◌, ℕ, List, ◌∷◌, length, get_or, drop_of_length-le, add-one, Option}
 use Rattle.std.proofs.Math.Seq.{drop-cons}
 use Rattle.script_grammar.specs.declared.node.NodeParam.{NodeParam}
-use Rattle.parse_track_handler.specs.Parts.{have_initializer, is_some_or}
-use Rattle.parse_track_handler.proofs.params.has_initializer.Goals as goal
+use Rattle.parse_track_pieces.specs.Parts.{have_initializer, is_some_or}
+use Rattle.parse_track_pieces.proofs.params.has_initializer.Goals as goal
 
 here : {E : Type 0} (ps : List (NodeParam E)) (k : ℕ) (p : NodeParam E) (v : Option E) → k < length ps → p ≡ get_or ps k p → p.value ≡ v
     → have_initializer (drop k ps) ≡ is_some_or v (have_initializer (drop (k + 1) ps))

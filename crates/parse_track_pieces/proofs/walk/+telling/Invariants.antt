@@ -1,7 +1,7 @@
 use Rattle.std.proofs.Common.{◌+◌, ◌*◌, drop}
-use Rattle.parse_track_handler.specs.Weight.{weight}
-use Rattle.parse_track_handler.proofs.Walking.{Turn}
-use Rattle.parse_track_handler.proofs.walk.+telling.Given as goal
+use Rattle.parse_track_pieces.specs.Weight.{weight}
+use Rattle.parse_track_pieces.proofs.Walking.{Turn}
+use Rattle.parse_track_pieces.proofs.walk.+telling.Given as goal
 
 abbrev pub invariant-tell_pieces-loop-piece : goal.invariant-tell_pieces-loop-piece
 invariant-tell_pieces-loop-piece l = Turn l.initial.track l.track l.initial.bodies.items l.bodies.items l.pieces (drop l.piece-index l.pieces)

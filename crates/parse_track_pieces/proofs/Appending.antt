@@ -4,9 +4,9 @@ use Rattle.script_grammar.specs.Interpretation.{Interpretation}
 use Rattle.parse_track.specs.Told as told
 use Rattle.parse_track.specs.Told.{inner, nothing}
 use Rattle.parse_track.specs.Tells.{Text}
-use Rattle.parse_track_handler.specs.declared.piece.Piece.{Piece}
-use Rattle.parse_track_handler.specs.Pieces.{Rest, telling, says_region, piece_says, pieces_say}
-use Rattle.parse_track_handler.specs.Parts.{Appends}
+use Rattle.parse_track_pieces.specs.declared.piece.Piece.{Piece}
+use Rattle.parse_track_pieces.specs.Pieces.{Rest, telling, says_region, piece_says, pieces_say}
+use Rattle.parse_track_pieces.specs.Parts.{Appends}
 
 pub map-same : {A : Type 0} (xs : List A) → map (λ x. x) xs ≡ xs
 map-same [] = refl

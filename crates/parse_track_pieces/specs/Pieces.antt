@@ -9,10 +9,10 @@ use Rattle.parse_track.specs.Told as told
 use Rattle.parse_track.specs.Told.{Told, nothing, inner}
 use Rattle.parse_track.specs.Tells.{Text, tells_use, tells_name, tells_jump, tells_stmts}
 use Rattle.track_log_laws.specs.Spelled.{region_text}
-use Rattle.parse_track_handler.specs.declared.piece.Piece.{Piece}
-use Rattle.parse_track_handler.specs.declared.piece.Piece.TheOpen.{Piece-F}
-use Rattle.parse_track_handler.specs.declared.piece.Piece.TheOpen as layer
-use Rattle.parse_track_handler.specs.declared.piece.Piece.TheFolds.{fold-Piece}
+use Rattle.parse_track_pieces.specs.declared.piece.Piece.{Piece}
+use Rattle.parse_track_pieces.specs.declared.piece.Piece.TheOpen.{Piece-F}
+use Rattle.parse_track_pieces.specs.declared.piece.Piece.TheOpen as layer
+use Rattle.parse_track_pieces.specs.declared.piece.Piece.TheFolds.{fold-Piece}
 
 -- a braced body of a function: these statements, with all bodies inside them, or one that was read where it stands
 pub data Body : Type 0 where

@@ -5,8 +5,8 @@ use Rattle.script_grammar.specs.Interpretation.{Interpretation}
 use Rattle.script_grammar.specs.Tree.{Stmts}
 use Rattle.parse_track.specs.Told.{Told}
 use Rattle.parse_track.specs.Tells.{Text, tells_stmts}
-use Rattle.parse_track_handler.specs.declared.piece.Piece.{Piece}
-use Rattle.parse_track_handler.specs.Pieces.{Body, Wanted, Read, Rest, piece_says}
+use Rattle.parse_track_pieces.specs.declared.piece.Piece.{Piece}
+use Rattle.parse_track_pieces.specs.Pieces.{Body, Wanted, Read, Rest, piece_says}
 
 -- Bodies that are wanted are these, in their order: of each that was passed over its statements, and then all inside them.
 abbrev pub AreWanted : List Body → List Stmts → Type 0

@@ -15,12 +15,12 @@ use Rattle.parse_track.specs.Told.{Told, nothing, leaf, inner}
 use Rattle.parse_track.specs.Log.{Log, with_leaf, entered, left, region_of, label_of}
 use Rattle.parse_track.specs.Tells.{Text, spelled_label}
 use Rattle.track_log_laws.specs.Spelled.{TextLog, name_text, leaf_text, region_text, log_text, logged}
-use Rattle.parse_track_handler.specs.declared.piece.Piece.{Piece, size-Piece}
-use Rattle.parse_track_handler.specs.Pieces.{Rest, telling, says_region, says_passed, says_read, piece_says, pieces_say}
-use Rattle.parse_track_handler.specs.Says.{AreWanted, SaysBody}
-use Rattle.parse_track_handler.specs.Walks.{KnowsThis, Stays, AtHand, Walks}
-use Rattle.parse_track_handler.specs.Weight.{weight}
-use Rattle.parse_track_handler.proofs.Logs.{leaf_logged, region_logged, present_left, region_stays, leaf_stays, stays, stays_then}
+use Rattle.parse_track_pieces.specs.declared.piece.Piece.{Piece, size-Piece}
+use Rattle.parse_track_pieces.specs.Pieces.{Rest, telling, says_region, says_passed, says_read, piece_says, pieces_say}
+use Rattle.parse_track_pieces.specs.Says.{AreWanted, SaysBody}
+use Rattle.parse_track_pieces.specs.Walks.{KnowsThis, Stays, AtHand, Walks}
+use Rattle.parse_track_pieces.specs.Weight.{weight}
+use Rattle.parse_track_pieces.proofs.Logs.{leaf_logged, region_logged, present_left, region_stays, leaf_stays, stays, stays_then}
 
 -- what stays
 

@@ -5,9 +5,9 @@ use Rattle.script_grammar.specs.Shows.{ShowAll}
 use Rattle.script_grammar.specs.Tree.{Stmts}
 use Rattle.parse_track.specs.Log.{Log, around_at}
 use Rattle.track_log_laws.specs.Spelled.{log_text, logged}
-use Rattle.parse_track_handler.specs.declared.piece.Piece.{Piece}
-use Rattle.parse_track_handler.specs.Pieces.{Rest}
-use Rattle.parse_track_handler.specs.Says.{AreWanted, SaysBody}
+use Rattle.parse_track_pieces.specs.declared.piece.Piece.{Piece}
+use Rattle.parse_track_pieces.specs.Pieces.{Rest}
+use Rattle.parse_track_pieces.specs.Says.{AreWanted, SaysBody}
 
 -- The atom that stands for the uses of `this` has that text.
 abbrev pub KnowsThis : Interpretation → Log → Type 0

@@ -5,7 +5,7 @@ ghost use Rattle.script_grammar.specs.Interpretation.{Interpretation, maybe_name
 ghost use Rattle.parse_track.specs.Log.{region_of};
 ghost use Rattle.parse_track.specs.Tells.{tells_jump};
 ghost use Rattle.track_log_laws.specs.Spelled.{region_text};
-ghost use Rattle.parse_track_handler.specs.Pieces.{Rest, piece_says, pieces_say, says_read, says_region, telling};
+ghost use Rattle.parse_track_pieces.specs.Pieces.{Rest, piece_says, pieces_say, says_read, says_region, telling};
 
 use parse_track::region::{Declare, Jump, Region};
 use script_grammar::tree::Ident;

@@ -6,14 +6,14 @@ use Rattle.parse_track.specs.Told as told
 use Rattle.parse_track.specs.Log.{label_of, name_of, region_of}
 use Rattle.parse_track.specs.Tells.{tells_jump}
 use Rattle.track_log_laws.specs.Spelled.{region_text}
-use Rattle.parse_track_handler.specs.declared.piece.Piece.{Piece}
-use Rattle.parse_track_handler.specs.declared.piece.RegionHead.{RegionHead}
-use Rattle.parse_track_handler.specs.declared.piece.ToldJump.{ToldJump}
-use Rattle.parse_track_handler.specs.Pieces.{telling, piece_says, pieces_say, says_read, says_region}
-use Rattle.parse_track_handler.specs.Weight.{weight}
-use Rattle.parse_track_handler.proofs.PieceEquations.{says-Declared, says-Used, says-This, says-Jumped, says-Inside, says-Many, says-Passed, says-Kept}
-use Rattle.parse_track_handler.proofs.Walking.{label_text, leaf_stays_as, next_of, none_left, popped_lighter, region_stays_as, turn_begin, turn_end, turn_next, walk_as, walk_leaf, walk_none, walk_passed, walk_popped, walk_region, walk_this, weight_push}
-use Rattle.parse_track_handler.proofs.walk.+telling.Goals as goal
+use Rattle.parse_track_pieces.specs.declared.piece.Piece.{Piece}
+use Rattle.parse_track_pieces.specs.declared.piece.RegionHead.{RegionHead}
+use Rattle.parse_track_pieces.specs.declared.piece.ToldJump.{ToldJump}
+use Rattle.parse_track_pieces.specs.Pieces.{telling, piece_says, pieces_say, says_read, says_region}
+use Rattle.parse_track_pieces.specs.Weight.{weight}
+use Rattle.parse_track_pieces.proofs.PieceEquations.{says-Declared, says-Used, says-This, says-Jumped, says-Inside, says-Many, says-Passed, says-Kept}
+use Rattle.parse_track_pieces.proofs.Walking.{label_text, leaf_stays_as, next_of, none_left, popped_lighter, region_stays_as, turn_begin, turn_end, turn_next, walk_as, walk_leaf, walk_none, walk_passed, walk_popped, walk_region, walk_this, weight_push}
+use Rattle.parse_track_pieces.proofs.walk.+telling.Goals as goal
 
 pub tell_piece-returns-in_ok-declare-in-Declared-clause-tells : goal.tell_piece-returns-in_ok-declare-in-Declared-clause-tells
 tell_piece-returns-in_ok-declare-in-Declared-clause-tells t c = λ i.

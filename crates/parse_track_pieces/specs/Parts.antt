@@ -4,8 +4,8 @@ use Rattle.script_grammar.specs.declared.tree.Ident.{Ident}
 use Rattle.script_grammar.specs.declared.node.NodeParam.{NodeParam}
 use Rattle.script_grammar.specs.Interpretation.{Interpretation}
 use Rattle.parse_track.specs.declared.region.Declare.{Declare}
-use Rattle.parse_track_handler.specs.declared.piece.Piece.{Piece}
-use Rattle.parse_track_handler.specs.Pieces.{Rest, says_name, pieces_say}
+use Rattle.parse_track_pieces.specs.declared.piece.Piece.{Piece}
+use Rattle.parse_track_pieces.specs.Pieces.{Rest, says_name, pieces_say}
 
 -- Pieces were appended that say this.
 abbrev pub Appends : Interpretation → (old new : List Piece) → (Rest → Rest) → Type 0

@@ -1,7 +1,7 @@
 //! The parameters of a function.
 
 ghost use Rattle.std.specs.Prelude.{◌≡◌};
-ghost use Rattle.parse_track_handler.specs.Parts.{have_initializer};
+ghost use Rattle.parse_track_pieces.specs.Parts.{have_initializer};
 
 use script_grammar::node::NodeParam;
 

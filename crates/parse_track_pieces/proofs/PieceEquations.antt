@@ -10,13 +10,13 @@ use Rattle.parse_track.specs.declared.region.Declare.{Declare}
 use Rattle.parse_track.specs.Log.{region_of}
 use Rattle.parse_track.specs.Tells.{tells_use, tells_jump}
 use Rattle.track_log_laws.specs.Spelled.{region_text}
-use Rattle.parse_track_handler.specs.declared.piece.Piece.{Piece}
-use Rattle.parse_track_handler.specs.declared.piece.RegionHead.{RegionHead}
-use Rattle.parse_track_handler.specs.declared.piece.ToldJump.{ToldJump}
-use Rattle.parse_track_handler.specs.declared.piece.Piece.TheVariants as piece
-use Rattle.parse_track_handler.specs.declared.piece.Piece.TheOpen as layer
-use Rattle.parse_track_handler.specs.declared.piece.Piece.TheFolds.{fold-roll-Piece}
-use Rattle.parse_track_handler.specs.Pieces.{Rest, telling, says_name, says_region, says_passed, says_read, piece_step, piece_says, pieces_say}
+use Rattle.parse_track_pieces.specs.declared.piece.Piece.{Piece}
+use Rattle.parse_track_pieces.specs.declared.piece.RegionHead.{RegionHead}
+use Rattle.parse_track_pieces.specs.declared.piece.ToldJump.{ToldJump}
+use Rattle.parse_track_pieces.specs.declared.piece.Piece.TheVariants as piece
+use Rattle.parse_track_pieces.specs.declared.piece.Piece.TheOpen as layer
+use Rattle.parse_track_pieces.specs.declared.piece.Piece.TheFolds.{fold-roll-Piece}
+use Rattle.parse_track_pieces.specs.Pieces.{Rest, telling, says_name, says_region, says_passed, says_read, piece_step, piece_says, pieces_say}
 
 module _ (i : Interpretation) where
   pub says-Declared : (how : Declare) (name : Ident) (rest : Rest) → piece_says i (piece.Declared how name) rest ≡ says_name i how name rest

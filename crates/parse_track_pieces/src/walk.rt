@@ -9,10 +9,10 @@ ghost use Rattle.parse_track.specs.Log.{label_of, with_leaf};
 ghost use Rattle.parse_track.specs.Tells.{tells_script};
 ghost use Rattle.parse_track.specs.Told as told;
 ghost use Rattle.track_log_laws.specs.Spelled.{log_text, logged};
-ghost use Rattle.parse_track_handler.specs.Walks.{Stays, KnowsThis, Walks};
-ghost use Rattle.parse_track_handler.specs.Pieces.{piece_says, pieces_say, says_passed, says_read};
-ghost use Rattle.parse_track_handler.specs.Says.{SaysBody};
-ghost use Rattle.parse_track_handler.specs.Weight.{weight};
+ghost use Rattle.parse_track_pieces.specs.Walks.{Stays, KnowsThis, Walks};
+ghost use Rattle.parse_track_pieces.specs.Pieces.{piece_says, pieces_say, says_passed, says_read};
+ghost use Rattle.parse_track_pieces.specs.Says.{SaysBody};
+ghost use Rattle.parse_track_pieces.specs.Weight.{weight};
 
 use crate::piece::{Piece, ToldJump};
 use parse_track::region::Region;

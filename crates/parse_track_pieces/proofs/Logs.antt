@@ -9,7 +9,7 @@ use Rattle.parse_track.specs.Told.{Told, nothing, leaf, inner}
 use Rattle.parse_track.specs.Log.{Item, Leaf, Inner, Part, Log, add, tell, with_leaf, entered, left, around_at, around_of, region_of}
 use Rattle.parse_track.proofs.Order.{length-tell}
 use Rattle.track_log_laws.specs.Spelled.{TextItem, TextLeaf, TextInner, TextPart, TextLog, item_text, part_text, leaf_text, region_text, log_text, put, put_in, with_text, opened}
-use Rattle.parse_track_handler.specs.Walks.{Stays}
+use Rattle.parse_track_pieces.specs.Walks.{Stays}
 
 module _ (i : Interpretation) where
   add_text : (item : Item) (n : ℕ) (ps : List Part) → map (part_text i) (add item n ps) ≡ put (item_text i item) n (map (part_text i) ps)

@@ -8,8 +8,8 @@ use Rattle.parse_track.specs.declared.region.Declare.{Declare}
 use Rattle.parse_track.specs.Told as told
 use Rattle.parse_track.specs.Told.{Told, inner, nothing}
 use Rattle.parse_track.specs.Tells.{Text, tells_name, tells_stmts}
-use Rattle.parse_track_handler.specs.Pieces.{Rest, telling, says_name, says_region, says_passed, says_read}
-use Rattle.parse_track_handler.specs.Says.{AreWanted, Says}
+use Rattle.parse_track_pieces.specs.Pieces.{Rest, telling, says_name, says_region, says_passed, says_read}
+use Rattle.parse_track_pieces.specs.Says.{AreWanted, Says}
 
 abbrev Tell : Type 0
 Tell = Told Text → Told Text

@@ -108,7 +108,7 @@ fn converted<N: Drop, T: Drop, F: Fn(N) -> T + Drop>(
     requires { F.IsAlwaysCallable convert }
     ensures { IfOk result (λ made. ShowAll (F.post convert) nodes.items made.items) }
 {
-    let mut made = Vec::new(alloc);
+    let mut made = Vec::with_capacity(alloc, nodes.len())?;
     for node in nodes {
         made.push(convert(node))?;
     }

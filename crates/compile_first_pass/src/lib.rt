@@ -19,6 +19,3 @@ mod skim;
 
 pub use pass::{FirstPass, SourceFault, SyntaxScript, first_pass, start_of};
 pub use skim::{Skimmed, Skims};
-
-#[cfg(test)]
-mod tests;

@@ -2,7 +2,7 @@
 
 ghost use Rattle.std.specs.Prelude.{◌≤◌, length};
 
-use crate::pass::{FirstPass, SourceFault, SyntaxScript, first_pass};
+use compile_first_pass::{FirstPass, SourceFault, SyntaxScript, first_pass};
 use parse_skim_handler::Skimming;
 use std::alloc::{AllocError, Global};
 use std::test::Fail;

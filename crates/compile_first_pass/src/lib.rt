@@ -23,6 +23,3 @@ mod verdict;
 pub use pass::{FirstPass, SourceFault, SyntaxScript, first_pass, start_of};
 pub use skim::{Skimmed, Skims};
 pub use verdict::{FileVerdict, check_file};
-
-#[cfg(test)]
-mod tests;

@@ -10,8 +10,6 @@
 
 mod sheet;
 mod tally;
-#[cfg(test)]
-mod tests;
 
 pub use sheet::Sheet;
 pub use tally::{Tally, Ticks};

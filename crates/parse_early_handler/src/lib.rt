@@ -28,6 +28,3 @@ pub use directive::Directive;
 pub use handler::EarlyErrorHandler;
 pub use nodes::{BodyErrors, ExprErrors, PropErrors, StmtErrors};
 pub use shape::Shape;
-
-#[cfg(test)]
-mod tests;

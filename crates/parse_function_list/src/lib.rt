@@ -16,6 +16,3 @@ pub mod list;
 mod listing;
 
 pub use list::{FoundBody, ListedFunction, ScriptFunctions, functions_of};
-
-#[cfg(test)]
-mod tests;

@@ -23,6 +23,3 @@ pub use handler::Skimming;
 pub use nodes::{SkimBody, SkimExpr, SkimProp, SkimStmt};
 pub use packed::Packed;
 pub use told::{Parts, Told};
-
-#[cfg(test)]
-mod tests;

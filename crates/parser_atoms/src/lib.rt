@@ -174,6 +174,3 @@ impl Atoms {
         texts
     }
 }
-
-#[cfg(test)]
-mod tests;

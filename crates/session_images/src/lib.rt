@@ -20,8 +20,6 @@
 #![tactic(auto)]
 
 mod listing;
-#[cfg(test)]
-mod tests;
 mod verdicts;
 
 pub use listing::append_listing;

@@ -8,7 +8,5 @@
 #![tactic(auto)]
 
 mod order;
-#[cfg(test)]
-mod tests;
 
 pub use order::{Sizes, put_in_order};

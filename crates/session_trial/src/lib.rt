@@ -8,8 +8,6 @@
 #![tactic(auto)]
 
 mod lines;
-#[cfg(test)]
-mod tests;
 mod text;
 
 pub use text::generated_text;

@@ -8,8 +8,6 @@
 mod choices;
 mod numbers;
 mod options;
-#[cfg(test)]
-mod tests;
 mod words;
 
 pub use options::{Command, FileJob, Options, Order, Want, WordsFault};

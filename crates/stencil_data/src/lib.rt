@@ -19,8 +19,6 @@ mod indexed_link;
 pub mod records;
 pub mod scopes;
 pub mod stencils;
-#[cfg(test)]
-mod tests;
 pub mod texts;
 
 pub use chains::{Chain, Link, LinkName};

@@ -151,6 +151,3 @@ pub fn units_of_value(code: u32) -> ([u16; 2], u8)
     let low = offset % 0x400 + 0xDC00;
     ([high as u16, low as u16], 2)
 }
-
-#[cfg(test)]
-mod tests;

@@ -1,6 +1,6 @@
 //! Images of small scripts, and bytes that are none.
 
-use crate::{ImageFault, append_listing, append_verdicts};
+use session_images::{ImageFault, append_listing, append_verdicts};
 use std::test::Fail;
 
 // The script of the empty file.

@@ -1,7 +1,10 @@
+//! Code points with their places, and the units of a code point.
+
 ghost use Rattle.std.specs.Prelude.{◌≤◌, length};
 
-use super::*;
+use std::alloc::Global;
 use std::test::Fail;
+use unit_text::{DecodeFault, Point, decode, units_of};
 
 // Where the bytes stop being UTF-8.
 fn fault_at(alloc: Global, bytes: &[u8]) -> Option<u32>

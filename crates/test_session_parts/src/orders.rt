@@ -1,6 +1,6 @@
 //! Four numbers in each order.
 
-use crate::{Sizes, put_in_order};
+use session_orders::{Sizes, put_in_order};
 use session_words::Order;
 
 /// The sizes of four things, by their numbers.

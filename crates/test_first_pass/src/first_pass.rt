@@ -2,7 +2,9 @@
 
 ghost use Rattle.std.specs.Prelude.{◌≤◌, length};
 
-use crate::pass::{FirstPass, SourceFault, SyntaxScript, first_pass};
+use compile_first_pass::{
+    FileVerdict, FirstPass, SourceFault, SyntaxScript, check_file, first_pass,
+};
 use parse_skim_handler::Skimming;
 use std::alloc::{AllocError, Global};
 use std::test::Fail;
@@ -32,6 +34,14 @@ fn fault_of(alloc: Global, bytes: &[u8]) -> Result<SourceFault, Fail>
         FirstPass::Script(_) => Err(Fail::from("a script")),
         FirstPass::Refused(fault) => Ok(fault),
     }
+}
+
+// What checking a file comes to.
+fn verdict_of(alloc: Global, bytes: &[u8]) -> Result<FileVerdict, AllocError>
+    requires { length bytes.now ≤ 16777215 }
+{
+    let verdict = check_file(alloc, Skimming::new(alloc), bytes)?;
+    Ok(verdict)
 }
 
 // One function stands in an initializer of the first one, and one in its body.
@@ -100,5 +110,45 @@ fn too_deep_a_text_is_told(rt: HostRuntime) -> Result<(), Fail> {
 fn bytes_that_are_no_text_are_told(rt: HostRuntime) -> Result<(), Fail> {
     let fault = fault_of(rt.alloc(), b"ab\xED\xA0\x80")?;
     assert!(rt; matches!(fault, SourceFault::BadUtf8 { offset: 2 }));
+    Ok(())
+}
+
+#[test]
+fn a_checked_file_has_so_many_functions(rt: HostRuntime) -> Result<(), Fail> {
+    let text = b"function f(a = function () {}) { function g() {} }";
+    let verdict = verdict_of(rt.alloc(), text)?;
+    assert!(rt; matches!(verdict, FileVerdict::Script { functions: 3 }));
+    Ok(())
+}
+
+#[test]
+fn a_checked_file_is_refused_for_the_same(rt: HostRuntime) -> Result<(), Fail> {
+    let early = verdict_of(
+        rt.alloc(),
+        b"function f(a = 1) { \"use strict\"; } let b; let b;",
+    )?;
+    assert!(rt;
+        matches!(
+            early,
+            FileVerdict::Refused(SourceFault::Early {
+                offset: 20,
+                rule: 14
+            })
+        )
+    );
+    let deep = verdict_of(rt.alloc(), &[b'('; 500])?;
+    assert!(rt;
+        matches!(
+            deep,
+            FileVerdict::Refused(SourceFault::TooDeep { offset: 399 })
+        )
+    );
+    let bytes = verdict_of(rt.alloc(), b"ab\xED\xA0\x80")?;
+    assert!(rt;
+        matches!(
+            bytes,
+            FileVerdict::Refused(SourceFault::BadUtf8 { offset: 2 })
+        )
+    );
     Ok(())
 }

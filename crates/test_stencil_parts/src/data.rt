@@ -1,7 +1,8 @@
 //! Texts and chains, once each on their way, a chain of very many links, and links of few and of many names.
-use crate::{BindKind, Chain, Link, LinkName, ScopeKind, Slot, Text};
+
 use std::alloc::{AllocError, Global};
 use std::test::Fail;
+use stencil_data::{BindKind, Chain, Link, LinkName, ScopeKind, Slot, Text};
 
 #[test]
 fn texts_compare_as_their_units(rt: HostRuntime) -> Result<(), Fail> {

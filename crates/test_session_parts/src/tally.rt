@@ -1,7 +1,9 @@
+//! A tally that is lent and taken back.
+
 ghost use Rattle.std.specs.Prelude.{◌<◌};
 ghost use Rattle.compile_tally.specs.Tally.{Rises};
 
-use crate::{Sheet, Tally, Ticks};
+use compile_tally::{Sheet, Tally, Ticks};
 
 /// Counts one on whatever counts.
 fn counted<T: Ticks>(ticks: &mut T)

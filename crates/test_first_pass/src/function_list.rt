@@ -1,6 +1,6 @@
 //! The functions of a small script.
 
-use crate::list::{FoundBody, functions_of};
+use parse_function_list::list::{FoundBody, functions_of};
 use parse_handlers::{FoundFunction, SyntaxBody};
 use std::test::Fail;
 use stencil_data::{Extent, FuncKind};

@@ -1,7 +1,7 @@
-//! The handler, called as a parser calls it. The atoms 0, 1, 3 and 6 are `eval`, `arguments`, `__proto__` and `use strict`.
+//! The handler of early errors, called as a parser calls it. The atoms 0, 1, 3 and 6 are `eval`, `arguments`, `__proto__` and `use strict`.
 
-use crate::handler::EarlyErrorHandler;
-use crate::nodes::{BodyErrors, ExprErrors};
+use parse_early_handler::handler::EarlyErrorHandler;
+use parse_early_handler::nodes::{BodyErrors, ExprErrors};
 use parse_track::region::Early;
 use script_grammar::handler::Handler;
 use script_grammar::node::{NodeFunc, NodeFuncBody, NodeKey, NodeParam, NodeTail};

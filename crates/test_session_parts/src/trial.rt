@@ -1,6 +1,6 @@
 //! Small texts.
 
-use crate::generated_text;
+use session_trial::generated_text;
 use std::test::Fail;
 
 #[test]

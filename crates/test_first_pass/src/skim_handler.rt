@@ -1,9 +1,9 @@
-//! The handler, called as a parser calls it. The atoms 0, 1, 3 and 6 are `eval`, `arguments`, `__proto__` and `use strict`.
+//! The handler of a first pass, called as a parser calls it. The atoms 0, 1, 3 and 6 are `eval`, `arguments`, `__proto__` and `use strict`.
 
-use crate::handler::Skimming;
-use crate::nodes::{SkimBody, SkimExpr};
-use crate::packed::Packed;
-use crate::told::Told;
+use parse_skim_handler::handler::Skimming;
+use parse_skim_handler::nodes::{SkimBody, SkimExpr};
+use parse_skim_handler::packed::Packed;
+use parse_skim_handler::told::Told;
 use parse_track::region::Early;
 use parse_track_pieces::Piece;
 use script_grammar::handler::Handler;

@@ -1,4 +1,7 @@
-use super::*;
+//! Texts that are interned.
+
+use parser_atoms::{Atoms, EMPTY_DIGEST, digest_with};
+use std::alloc::{AllocError, Global};
 use std::test::Fail;
 
 #[test]
@@ -61,6 +64,15 @@ const ONE: [u16; 13] = [
 const TWO: [u16; 13] = [
     0x45, 0x6C, 0x74, 0x6B, 0x71, 0x64, 0x65, 0x72, 0x67, 0x62, 0x6D, 0x45, 0x68E0,
 ];
+
+// The digest of a text.
+fn digest(units: &[u16]) -> u64 {
+    let mut digest = EMPTY_DIGEST;
+    for unit in units {
+        digest = digest_with(digest, u32::from(*unit));
+    }
+    digest
+}
 
 #[test]
 fn texts_with_equal_digests_are_told_apart(rt: HostRuntime) -> Result<(), Fail> {

@@ -1,4 +1,6 @@
-use super::*;
+//! Words of commands, and words that are none.
+
+use session_words::{Command, Options, Order, Want, WordsFault, read_words};
 use std::alloc::{AllocError, Global};
 use std::test::Fail;
 

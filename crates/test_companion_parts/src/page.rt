@@ -1,7 +1,7 @@
 //! The page of a script of hostile names.
-use crate::{Refusal, Shown, append_end, append_refused, append_script, append_start};
 use holzikra_finding::Shown as Part;
 use holzikra_names::NoSource;
+use holzikra_page::{Refusal, Shown, append_end, append_refused, append_script, append_start};
 use std::alloc::{AllocError, Global};
 use std::test::Fail;
 use stencil_data::{Extent, FuncKind, FunctionStencil, LazyRecord, MergedStencil, Text};

@@ -5,3 +5,5 @@
 
 #[cfg(test)]
 mod page;
+#[cfg(test)]
+mod pairs;

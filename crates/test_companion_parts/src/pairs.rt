@@ -1,7 +1,7 @@
 //! The lines of a code with a jump and a try note, and pairs of functions of one name.
-use crate::{CodeLines, Numbers, pairs_of, script_lines};
 use bytecode_buf::Op;
 use holzikra_edits::LineTable;
+use holzikra_pairs::{CodeLines, Numbers, pairs_of, script_lines};
 use std::alloc::{AllocError, Global};
 use std::test::Fail;
 use stencil_data::{Entry, Extent, FuncKind, FunctionStencil, LazyRecord, MergedStencil, TryNote};

@@ -4,6 +4,8 @@
 #![tactic(auto)]
 
 #[cfg(test)]
+mod diff;
+#[cfg(test)]
 mod page;
 #[cfg(test)]
 mod pairs;

@@ -1,6 +1,6 @@
 //! The text of two differences of scripts made by hand.
-use crate::{Side, append_difference, difference_of};
 use bytecode_buf::Op;
+use holzikra_diff::{Side, append_difference, difference_of};
 use holzikra_names::NoSource;
 use std::alloc::{AllocError, Global};
 use std::test::Fail;

@@ -6,6 +6,8 @@
 #[cfg(test)]
 mod diff;
 #[cfg(test)]
+mod edits;
+#[cfg(test)]
 mod page;
 #[cfg(test)]
 mod pairs;

@@ -11,3 +11,5 @@ mod edits;
 mod page;
 #[cfg(test)]
 mod pairs;
+#[cfg(test)]
+mod places;

@@ -1,4 +1,5 @@
-use crate::{Lines, Place, excerpt_at, push_shown_text};
+//! Places of offsets, characters that are not shown as themselves, and excerpts.
+use holzikra_places::{Lines, Place, excerpt_at, push_shown_text};
 use std::test::Fail;
 
 #[test]

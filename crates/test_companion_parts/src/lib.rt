@@ -4,6 +4,8 @@
 #![tactic(auto)]
 
 #[cfg(test)]
+mod colours;
+#[cfg(test)]
 mod diff;
 #[cfg(test)]
 mod edits;

@@ -1,6 +1,6 @@
 //! Which parts of answers have a colour: put down by hand.
 
-use crate::{Answer, coloured};
+use holzikra_colours::{Answer, coloured};
 use std::alloc::{AllocError, Global};
 
 /// An answer in colours, each escape of it shown as `!`.

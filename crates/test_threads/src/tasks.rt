@@ -2,7 +2,7 @@
 ghost use Rattle.std.specs.Prelude.{◌≡◌, ◌*◌, ◌<◌, ◌≤◌, ◌^◌, IfOk, length};
 ghost use Rattle.helper_tasks.specs.Jobs.{IsOrderOf};
 
-use super::*;
+use helper_tasks::{Gate, Job, MeetGate, OpenGate, run_tasks};
 use std::alloc::{AllocError, Global};
 use std::sync::Wait;
 use std::test::*;

@@ -1,6 +1,6 @@
 use Rattle.std.proofs.Common.{◌≡◌, ℕ, ◌+◌, length}
 use Rattle.helper_tasks.specs.Count.{times, once_below}
-use Rattle.helper_tasks.proofs.tests.last_first.Given as goal
+use Rattle.test_threads.proofs.tasks.last_first.Given as goal
 
 abbrev pub invariant-loop-left : goal.invariant-loop-left
 invariant-loop-left l =

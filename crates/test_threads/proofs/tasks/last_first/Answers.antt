@@ -1,6 +1,6 @@
 use Rattle.std.proofs.Common.{◌≡◌, ◌+◌, ◌-◌, [], ◌∷◌, length, ap, arith, length-append}
 use Rattle.helper_tasks.proofs.Orders.{order_down}
-use Rattle.helper_tasks.proofs.tests.last_first.Goals as goal
+use Rattle.test_threads.proofs.tasks.last_first.Goals as goal
 
 pub loop-left-preserved : goal.loop-left-preserved
 loop-left-preserved c =

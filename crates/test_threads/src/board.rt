@@ -6,7 +6,6 @@ ghost use Rattle.compile_initial.specs.Initial.{IsInitialOf};
 ghost use Rattle.stencil_board.specs.Files.{IsFilled, file_at};
 ghost use Rattle.stencil_board.specs.Passes.{BelongsTo, IsBoard, IsNumberOf};
 
-use crate::{Board, Filled, Pass, Sources};
 use compile_first_pass::{FirstPass, first_pass};
 use compile_initial::{InitialStencil, initial};
 use compile_tally::Sheet;
@@ -16,6 +15,7 @@ use std::alloc::{AllocError, Global};
 use std::marker::Brand;
 use std::sync::Arc;
 use std::test::Fail;
+use stencil_board::{Board, Filled, Pass, Sources};
 use stencil_data::InitialParts;
 
 /// A function that was requested, and how many compiles were counted for it.

@@ -4,7 +4,7 @@ use Rattle.std.proofs.Common.{◌≡◌, ◌∙◌, ℕ, List, length, sym, ap, 
 use Rattle.stencil_board.specs.Files.{File, file_at}
 use Rattle.stencil_board.specs.Passes.{IsBoard, IsMadeOf}
 use Rattle.stencil_board.specs.Views.{BoardView}
-use Rattle.stencil_board.proofs.tests.small_board.Goals as goal
+use Rattle.test_threads.proofs.board.small_board.Goals as goal
 
 made_board : (files : List File) (file : ℕ) (bytes : List ℕ) (initial : InitialStencil) (board : BoardView) → IsMadeOf file bytes initial board → file_at files file ≡ record { bytes = bytes; texts = initial.parts.texts } → IsInitialOf bytes initial → IsBoard files board
 made_board files file bytes initial board m picked is = record {

@@ -1,6 +1,6 @@
 use Rattle.std.proofs.Common.{◌∷◌}
 use Rattle.std.specs.Prelude.{[]}
-use Rattle.stencil_board.proofs.tests.ask_picked.Given as goal
+use Rattle.test_threads.proofs.board.ask_picked.Given as goal
 
 -- the one file is this
 abbrev pub ghosts-ask_on : goal.ghosts-ask_on

@@ -6,4 +6,6 @@
 #[cfg(test)]
 mod board;
 #[cfg(test)]
+mod relazy;
+#[cfg(test)]
 mod tasks;

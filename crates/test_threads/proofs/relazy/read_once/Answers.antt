@@ -1,6 +1,6 @@
 use Rattle.std.proofs.Common.{arith}
 use Rattle.relazy_board.proofs.Depths.{depth_bound}
-use Rattle.relazy_board.proofs.tests.discard_under_reading.Goals as goal
+use Rattle.test_threads.proofs.relazy.read_once.Goals as goal
 
 pub request-requires-clause-room : goal.request-requires-clause-room
 request-requires-clause-room c =

@@ -1,6 +1,6 @@
 use Rattle.std.proofs.Common.{arith}
 use Rattle.relazy_board.proofs.Depths.{depth_bound}
-use Rattle.relazy_board.proofs.tests.read_once.Goals as goal
+use Rattle.test_threads.proofs.relazy.discard_under_reading.Goals as goal
 
 pub request-requires-clause-room : goal.request-requires-clause-room
 request-requires-clause-room c =

@@ -4,11 +4,11 @@ ghost use Rattle.std.specs.Prelude.{◌≡◌, ◌≤◌, length, IfOk};
 ghost use Rattle.compile_initial.specs.Initial.{IsInitialOf};
 ghost use Rattle.lazy_function.specs.Numbered.{IsNumberIn};
 
-use crate::RelazyBoard;
 use compile_first_pass::{FirstPass, first_pass};
 use compile_initial::{InitialStencil, initial};
 use compile_tally::Sheet;
 use parse_skim_handler::Skimming;
+use relazy_board::RelazyBoard;
 use std::alloc::{AllocError, Global};
 use std::test::Fail;
 

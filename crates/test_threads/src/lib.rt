@@ -8,4 +8,6 @@ mod board;
 #[cfg(test)]
 mod relazy;
 #[cfg(test)]
+mod rounds;
+#[cfg(test)]
 mod tasks;

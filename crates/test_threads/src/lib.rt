@@ -4,6 +4,8 @@
 #![tactic(auto)]
 
 #[cfg(test)]
+mod atoms;
+#[cfg(test)]
 mod board;
 #[cfg(test)]
 mod relazy;

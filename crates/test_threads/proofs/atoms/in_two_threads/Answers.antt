@@ -1,6 +1,6 @@
 use Rattle.std.proofs.Common.{[], slice_index_or, sym, ◌∙◌}
 use Rattle.atom_table.proofs.Probes.{sees_still}
-use Rattle.atom_table.proofs.tests.in_two_threads.Goals as goal
+use Rattle.test_threads.proofs.atoms.in_two_threads.Goals as goal
 
 pub returns-clause-same : goal.returns-clause-same
 returns-clause-same g c e =

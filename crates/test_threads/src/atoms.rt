@@ -2,7 +2,7 @@
 ghost use Rattle.std.specs.Prelude.{◌≡◌, ◌<◌, [], length, slice_index_or, IfOk};
 ghost use Rattle.atom_table.specs.Views.{SeesText, SeesAtom};
 
-use crate::{Atom, AtomTable, Desk, TextList};
+use atom_table::{Atom, AtomTable, Desk, TextList};
 use std::alloc::{AllocError, Global};
 use std::hash::RandomState;
 use std::test::Fail;

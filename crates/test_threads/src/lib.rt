@@ -8,6 +8,8 @@ mod atoms;
 #[cfg(test)]
 mod board;
 #[cfg(test)]
+mod instances;
+#[cfg(test)]
 mod relazy;
 #[cfg(test)]
 mod rounds;

@@ -3,13 +3,13 @@ ghost use Rattle.std.specs.Prelude.{◌≡◌, IfOk};
 ghost use Rattle.stencil_data.specs.MergedView.{MergedView};
 ghost use Rattle.stencil_instance.specs.Instances.{IsInstanceBy, StandFrom};
 
-use crate::{Gathered, Instance, instantiate};
 use atom_table::{AtomTable, Desk};
 use std::alloc::{AllocError, Global};
 use std::hash::RandomState;
 use std::test::Fail;
 use std::thread::{Threads, join};
 use stencil_data::{Extent, FuncKind, FunctionStencil, MergedStencil, Text};
+use stencil_instance::{Gathered, Instance, instantiate};
 
 /// A stencil with no code that has these texts.
 fn stencil_of(alloc: Global, texts: &[&[u16]]) -> Result<MergedStencil, AllocError> {

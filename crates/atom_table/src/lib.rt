@@ -15,8 +15,6 @@
 
 pub mod atoms;
 mod rule;
-#[cfg(test)]
-mod tests;
 pub mod text_list;
 
 pub use atoms::{Atom, AtomTable, Desk};

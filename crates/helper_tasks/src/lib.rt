@@ -20,8 +20,6 @@ mod place;
 mod rule;
 mod run;
 mod settle;
-#[cfg(test)]
-mod tests;
 mod threads;
 mod workplace;
 

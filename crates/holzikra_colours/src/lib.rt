@@ -12,6 +12,3 @@ mod paint;
 mod part;
 
 pub use answer::{Answer, coloured};
-
-#[cfg(test)]
-mod tests;

@@ -17,6 +17,3 @@ mod text;
 pub use changes::{Change, Counts, Difference, difference_of};
 pub use hunks::append_edits;
 pub use text::{Side, append_difference};
-
-#[cfg(test)]
-mod tests;

@@ -22,6 +22,3 @@ mod parts;
 pub use escape::append_text;
 pub use file::{Refusal, Shown, append_refused, append_script};
 pub use frame::{append_end, append_start};
-
-#[cfg(test)]
-mod tests;

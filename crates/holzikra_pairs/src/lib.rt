@@ -19,6 +19,3 @@ mod plain;
 
 pub use code_lines::{CodeLines, Numbers, script_lines};
 pub use pairs::{Pairs, pairs_of};
-
-#[cfg(test)]
-mod tests;

@@ -9,8 +9,6 @@
 mod excerpt;
 mod lines;
 mod shown;
-#[cfg(test)]
-mod tests;
 mod text_places;
 
 pub use excerpt::{Excerpt, excerpt_at};

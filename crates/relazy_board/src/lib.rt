@@ -17,8 +17,6 @@ mod board;
 mod place;
 mod reading;
 mod slot;
-#[cfg(test)]
-mod tests;
 
 pub use board::RelazyBoard;
 pub use reading::Reading;

@@ -1,13 +1,12 @@
-//! A small script whose functions are compiled again and again.
+//! Small scripts whose functions are compiled again and again, in many rounds.
 
 ghost use Rattle.std.specs.Prelude.{◌≤◌, length, IfOk};
 ghost use Rattle.compile_initial.specs.Initial.{IsInitialOf};
 
-use crate::churn;
 use crate::rounds::visit_in_rounds;
 use compile_first_pass::{FirstPass, first_pass};
 use compile_initial::{InitialStencil, initial};
-use helper_tasks::{MeetGate, OpenGate};
+use helper_tasks::OpenGate;
 use parse_skim_handler::Skimming;
 use std::alloc::Global;
 use std::test::Fail;
@@ -34,30 +33,6 @@ fn initial_of(alloc: Global, bytes: &[u8]) -> Result<InitialStencil, Fail>
 }
 
 #[test]
-fn counts_a_script_whole(rt: HostRuntime) -> Result<(), Fail> {
-    let alloc = rt.alloc();
-    let before = initial_of(alloc, PAIR)?;
-    assert_eq!(rt; before.parts.records.len(), 2);
-    let churned = churn(&rt, alloc, PAIR, &before, 1, &OpenGate)?;
-    assert_eq!(rt; churned.instructions, 16);
-    // Both in the first round; in each later one the first again, which was discarded.
-    assert_eq!(rt; churned.compiled, 4);
-    Ok(())
-}
-
-#[test]
-fn counts_the_same_by_several_workers(rt: HostRuntime) -> Result<(), Fail> {
-    let alloc = rt.alloc();
-    let before = initial_of(alloc, PAIR)?;
-    assert_eq!(rt; before.parts.records.len(), 2);
-    let gate = MeetGate::new(0, 2, 100_000_000);
-    let churned = churn(&rt, alloc, PAIR, &before, 2, &gate)?;
-    assert!(rt; gate.met());
-    assert_eq!(rt; churned.instructions, 16);
-    Ok(())
-}
-
-#[test]
 fn counts_after_many_rounds(rt: HostRuntime) -> Result<(), Fail> {
     let alloc = rt.alloc();
     let before = initial_of(alloc, PAIR)?;
@@ -77,16 +52,5 @@ fn counts_the_same_by_four_workers_in_many_rounds(rt: HostRuntime) -> Result<(),
     let one = visit_in_rounds(&rt, alloc, NESTED, &before, 1, &OpenGate, 1)?;
     let many = visit_in_rounds(&rt, alloc, NESTED, &before, 4, &OpenGate, 2000)?;
     assert!(rt; many.instructions == one.instructions);
-    Ok(())
-}
-
-#[test]
-fn counts_a_script_without_functions(rt: HostRuntime) -> Result<(), Fail> {
-    let alloc = rt.alloc();
-    let before = initial_of(alloc, b"1 + 2;")?;
-    assert_eq!(rt; before.parts.records.len(), 0);
-    let churned = churn(&rt, alloc, b"1 + 2;", &before, 16, &OpenGate)?;
-    assert_eq!(rt; churned.instructions, 6);
-    assert_eq!(rt; churned.compiled, 0);
     Ok(())
 }

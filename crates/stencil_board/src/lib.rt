@@ -22,8 +22,6 @@ mod known;
 mod pass;
 mod requests;
 mod sources;
-#[cfg(test)]
-mod tests;
 
 pub use board::Board;
 pub use filled::Filled;

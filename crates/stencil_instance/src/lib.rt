@@ -12,8 +12,6 @@
 
 mod gathered;
 mod instance;
-#[cfg(test)]
-mod tests;
 
 pub use gathered::{GatherRefusal, Gathered};
 pub use instance::{Instance, instantiate};

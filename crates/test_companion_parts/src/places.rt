@@ -1,0 +1,58 @@
+//! Places of offsets, characters that are not shown as themselves, and excerpts.
+use holzikra_places::{Lines, Place, excerpt_at, push_shown_text};
+use std::test::Fail;
+
+#[test]
+fn places(rt: HostRuntime) -> Result<(), Fail> {
+    // a CR LF b CR c U+2028 é U+1F600 d LF
+    let text = b"a\r\nb\rc\xe2\x80\xa8\xc3\xa9\xf0\x9f\x98\x80d\n";
+    let lines = Lines::of(rt.alloc(), text)?;
+    assert!(rt; lines.starts.as_slice() == [0, 3, 5, 9, 17].as_slice());
+    let expected = [
+        (0, 1, 1),
+        (1, 1, 2),
+        (3, 2, 1),
+        (4, 2, 2),
+        (5, 3, 1),
+        (9, 4, 1),
+        (11, 4, 2),
+        (15, 4, 4),
+        (17, 5, 1),
+    ];
+    for (offset, line, column) in expected {
+        let place = lines.place_of(text, offset);
+        assert!(rt; place == Place { line, column }, "{offset}");
+    }
+    Ok(())
+}
+
+#[test]
+fn what_is_shown(rt: HostRuntime) -> Result<(), Fail> {
+    let mut shown = String::new(rt.alloc());
+    push_shown_text(
+        &mut shown,
+        "\ta\u{200e}\u{2028}\u{2029}\u{2069}\u{7f}\u{5d0}",
+    )?;
+    assert!(rt; shown.as_str() == " a\\u{200e}\\u{2028}\\u{2029}\\u{2069}\\u{7f}\u{5d0}");
+    Ok(())
+}
+
+#[test]
+fn excerpts(rt: HostRuntime) -> Result<(), Fail> {
+    let alloc = rt.alloc();
+    let short = excerpt_at(alloc, b"one\n\ta \xe2\x80\xae b\r\ntwo", 11)?;
+    assert!(rt; short.shown.as_str() == " a \\u{202e} b");
+    assert!(rt; short.caret == 12);
+    let marks = excerpt_at(alloc, b"a\xd8\x9c\xe2\x80\x8e\xe2\x80\x8fb", 6)?;
+    assert!(rt; marks.shown.as_str() == "a\\u{61c}\\u{200e}\\u{200f}b");
+    assert!(rt; marks.caret == 16);
+    let mut long = Vec::new(alloc);
+    for _ in 0..1000 {
+        long.push(b'x')?;
+    }
+    let cut = excerpt_at(alloc, &long, 500)?;
+    assert!(rt; cut.caret == 41 && cut.shown.as_str().chars().count() == 82);
+    let end = excerpt_at(alloc, &long, 1000)?;
+    assert!(rt; end.caret == 81 && end.shown.as_str().chars().count() == 81);
+    Ok(())
+}

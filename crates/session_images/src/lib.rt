@@ -12,11 +12,6 @@
 //! of a stencil in an order of its own, so two stencils of one image may number their texts differently, and nothing else may
 //! differ (stencil_xdr_read). Their codes do the same steps (`proofs/SameSteps.antt`), and so have one verdict
 //! (`proofs/SameVerdict.antt`).
-//!
-//! Bytes have one listing (`proofs/OneListing.antt`) and one list of verdicts (`proofs/OneVerdict.antt`): an image names the texts
-//! of a stencil in an order of its own, so two stencils of one image may number their texts differently, and nothing else may
-//! differ (stencil_xdr_read). Their codes do the same steps (`proofs/SameSteps.antt`), and so have one verdict
-//! (`proofs/SameVerdict.antt`).
 #![tactic(auto)]
 
 mod listing;

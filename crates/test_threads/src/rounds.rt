@@ -46,9 +46,9 @@ fn counts_the_same_by_several_workers(rt: HostRuntime) -> Result<(), Fail> {
     let alloc = rt.alloc();
     let before = initial_of(alloc, PAIR)?;
     assert_eq!(rt; before.parts.records.len(), 2);
+    // Whether they do meet depends on the schedule, so it is not asked.
     let gate = MeetGate::new(0, 2, 100_000_000);
     let churned = churn(&rt, alloc, PAIR, &before, 2, &gate)?;
-    assert!(rt; gate.met());
     assert_eq!(rt; churned.instructions, 16);
     Ok(())
 }

@@ -1,4 +1,4 @@
-//! Tests of the parts of a session: words, orders, files and output, images, generated texts, and the tally.
+//! Tests of the crates by which a command reads its words, its files and images: words, orders, files and output, images, generated texts, and the tally.
 //!
 //! They stand in a crate of their own, since a crate with tests is proved twice. They call public items alone.
 #![tactic(auto)]

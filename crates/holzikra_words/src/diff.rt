@@ -31,13 +31,16 @@ const SIDE: &str = "a script or an image; one of both may be - for standard inpu
 
 static FORMATS: [&str; 2] = ["human", "json"];
 
+/// One of both files, by what help calls it.
+fn side<'a>(alloc: Global, name: &'a str) -> Arg<'a> {
+    Arg::new(alloc, name).required(true).help(SIDE)
+}
+
 /// The command `diff`.
 pub(crate) fn command<'a>(alloc: Global) -> Result<Command<'a>, AllocError> {
     let command = named(alloc, "diff", "compare the code of two scripts");
-    let old = Arg::new(alloc, "OLD").required(true);
-    let command = with(command, old.help(SIDE))?;
-    let new = Arg::new(alloc, "NEW").required(true);
-    let command = with(command, new.help(SIDE))?;
+    let command = with(command, side(alloc, "OLD"))?;
+    let command = with(command, side(alloc, "NEW"))?;
     let formats = FORMATS.as_slice();
     let format = choice(
         alloc,

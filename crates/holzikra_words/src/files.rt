@@ -1,7 +1,7 @@
 //! The words that name files, for the commands that walk through folders.
 
-use crate::parts::{switch, texts, value, valued, with, words};
-use clap::{Arg, ArgAction, ArgMatches, Command};
+use crate::parts::{again, repeated, switch, texts, value, valued, with, words};
+use clap::{Arg, ArgMatches, Command};
 use std::alloc::{AllocError, Global};
 
 /// Which files a command is about.
@@ -25,8 +25,7 @@ fn with_files_named<'a>(
     command: Command<'a>,
     taken: &'a str,
 ) -> Result<Command<'a>, AllocError> {
-    let paths = words(alloc, "PATH", "a file, a folder, or - for standard input").required(true);
-    let command = with(command, paths)?;
+    let command = with(command, paths(alloc))?;
     let command = with(command, extensions(alloc, taken))?;
     let stdin_name = valued(alloc, "stdin-name", "NAME", "<stdin>", "what - is called");
     let command = with(command, stdin_name)?;
@@ -55,6 +54,10 @@ pub(crate) fn with_images<'a>(
     with_files_named(alloc, command, "stn")
 }
 
+fn paths<'a>(alloc: Global) -> Arg<'a> {
+    words(alloc, "PATH", "a file, a folder, or - for standard input").required(true)
+}
+
 fn extensions<'a>(alloc: Global, taken: &'a str) -> Arg<'a> {
     let extensions = valued(
         alloc,
@@ -63,15 +66,12 @@ fn extensions<'a>(alloc: Global, taken: &'a str) -> Arg<'a> {
         taken,
         "which files of a folder are taken",
     );
-    extensions.value_delimiter(',').action(ArgAction::Append)
+    again(extensions.value_delimiter(','))
 }
 
 fn excluded<'a>(alloc: Global) -> Arg<'a> {
-    Arg::new(alloc, "exclude")
-        .long("exclude")
-        .value_name("GLOB")
-        .action(ArgAction::Append)
-        .help("what of a folder is passed over; may be given again")
+    let help = "what of a folder is passed over; may be given again";
+    repeated(alloc, "exclude", "GLOB", help)
 }
 
 /// Which files the words name.

@@ -1,7 +1,7 @@
 //! The words that name functions.
 
-use crate::parts::{switch, with};
-use clap::{Arg, ArgAction, ArgMatches, Command};
+use crate::parts::{repeated, switch, with};
+use clap::{ArgMatches, Command};
 use std::alloc::{AllocError, Global};
 
 /// How functions of a script are named.
@@ -31,17 +31,19 @@ pub(crate) fn with_functions<'a>(
     alloc: Global,
     command: Command<'a>,
 ) -> Result<Command<'a>, AllocError> {
-    let functions = Arg::new(alloc, "function")
-        .long("function")
-        .value_name("FUNCTION")
-        .action(ArgAction::Append)
-        .help("a number or a name; may be given again");
+    let functions = repeated(
+        alloc,
+        "function",
+        "FUNCTION",
+        "a number or a name; may be given again",
+    );
     let command = with(command, functions)?;
-    let places = Arg::new(alloc, "at")
-        .long("at")
-        .value_name(PLACE)
-        .action(ArgAction::Append)
-        .help("the innermost function there; may be given again");
+    let places = repeated(
+        alloc,
+        "at",
+        PLACE,
+        "the innermost function there; may be given again",
+    );
     let command = with(command, places)?;
     let only = switch(
         alloc,

@@ -1,7 +1,7 @@
 //! The words that say how what is printed looks.
 
 use crate::parts::{choice, switch, value, with};
-use clap::{ArgMatches, Command};
+use clap::{Arg, ArgMatches, Command};
 use std::alloc::{AllocError, Global};
 
 /// When what is printed for a person has colours.
@@ -41,13 +41,17 @@ pub(crate) fn with_colors<'a>(
     with(command, choice(alloc, "color", colors, "auto", help))
 }
 
+fn quiet<'a>(alloc: Global, help: &'a str) -> Arg<'a> {
+    switch(alloc, "quiet", help).short('q')
+}
+
 /// The command with the option that leaves out what is no answer.
 pub(crate) fn with_quiet<'a>(
     alloc: Global,
     command: Command<'a>,
     help: &'a str,
 ) -> Result<Command<'a>, AllocError> {
-    with(command, switch(alloc, "quiet", help).short('q'))
+    with(command, quiet(alloc, help))
 }
 
 /// The command with both options.

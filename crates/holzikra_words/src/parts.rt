@@ -39,12 +39,19 @@ pub(crate) fn switch<'a>(alloc: Global, id: &'a str, help: &'a str) -> Arg<'a> {
         .help(help)
 }
 
+/// What may be given again.
+pub(crate) fn again<'a>(arg: Arg<'a>) -> Arg<'a> {
+    arg.action(ArgAction::Append)
+}
+
+/// An option with a value that may be given again.
+pub(crate) fn repeated<'a>(alloc: Global, id: &'a str, value: &'a str, help: &'a str) -> Arg<'a> {
+    again(Arg::new(alloc, id).long(id).value_name(value)).help(help)
+}
+
 /// Words that belong to no option, as many as there are.
 pub(crate) fn words<'a>(alloc: Global, id: &'a str, help: &'a str) -> Arg<'a> {
-    Arg::new(alloc, id)
-        .action(ArgAction::Append)
-        .num_args(1..)
-        .help(help)
+    again(Arg::new(alloc, id).help(help)).num_args(1..)
 }
 
 /// The command with one more argument.

@@ -53,6 +53,14 @@ static COLUMNS: [&str; 8] = [
     "source-bytes",
 ];
 
+/// The option that names a column.
+fn sort<'a>(alloc: Global) -> Arg<'a> {
+    let columns = COLUMNS.as_slice();
+    let sort = Arg::new(alloc, "sort").long("sort").value_name("COLUMN");
+    let sort = sort.value_parser(ValueParser::Names(columns));
+    sort.help("what the lines of the table are sorted by")
+}
+
 /// The command `stats`.
 pub(crate) fn command<'a>(alloc: Global) -> Result<Command<'a>, AllocError> {
     let command = named(
@@ -64,11 +72,7 @@ pub(crate) fn command<'a>(alloc: Global) -> Result<Command<'a>, AllocError> {
     let formats = FORMATS.as_slice();
     let format = choice(alloc, "format", formats, "human", "how counts are written");
     let command = with(command, format)?;
-    let columns = COLUMNS.as_slice();
-    let sort = Arg::new(alloc, "sort").long("sort").value_name("COLUMN");
-    let sort = sort.value_parser(ValueParser::Names(columns));
-    let sort = sort.help("what the lines of the table are sorted by");
-    let command = with(command, sort)?;
+    let command = with(command, sort(alloc))?;
     with_look(alloc, command, NO_SUMMARY)
 }
 

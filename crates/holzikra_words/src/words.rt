@@ -7,6 +7,7 @@ use crate::explain::{self, ExplainOptions};
 use crate::functions;
 use crate::load::{self, LoadOptions};
 use crate::look::Colors;
+use crate::parts::named;
 use crate::report::{self, ReportOptions};
 use crate::save::{self, SaveOptions};
 use crate::scopes::{self, ScopesOptions};
@@ -41,15 +42,23 @@ pub enum Request {
     Explain(ExplainOptions),
 }
 
-/// The program without its commands.
-fn program<'a>(alloc: Global) -> Result<Command<'a>, AllocError> {
-    Command::new(alloc, "holzikra")
-        .version("0.1.0")
-        .about("looks into strict scripts: errors, scopes, bytecode")
-        .no_binary_name(true)
+/// What the program is called, and what it is for.
+fn titled<'a>(alloc: Global) -> Command<'a> {
+    let about = "looks into strict scripts: errors, scopes, bytecode";
+    named(alloc, "holzikra", about).version("0.1.0")
+}
+
+/// The program wants a command, and shows help where it gets no words.
+fn with_rules<'a>(program: Command<'a>) -> Command<'a> {
+    let program = program.no_binary_name(true);
+    program
         .subcommand_required(true)
         .arg_required_else_help(true)
-        .bin_name("holzikra")
+}
+
+/// The program without its commands.
+fn program<'a>(alloc: Global) -> Result<Command<'a>, AllocError> {
+    with_rules(titled(alloc)).bin_name("holzikra")
 }
 
 /// The program with one more command.

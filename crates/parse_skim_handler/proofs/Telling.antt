@@ -1,12 +1,21 @@
 -- Pieces and functions that are put after others.
 use Rattle.std.proofs.Common.{List, [], ap, refl, subst, sym, ℕ, ◌++◌, ◌∙◌, ◌∷◌, ◌≡◌}
+use Rattle.std.specs.declared.alloc.Global.{Global}
+use Rattle.std.specs.declared.boxed.Box.{Box}
+use Rattle.std.specs.declared.vec.Vec.{Vec}
 use Rattle.script_grammar.specs.Interpretation.{Interpretation}
 use Rattle.parse_handlers.specs.FoundOf.{before, found_of, founds_before}
 use Rattle.parse_handlers.specs.Inner.{Inner}
 use Rattle.parse_handlers.specs.declared.found.FoundFunction.{FoundFunction}
-use Rattle.parse_track_pieces.specs.Pieces.{Rest, piece_says, pieces_say}
+use Rattle.parse_track_pieces.specs.Pieces.{Rest, piece_says, pieces_say, says_region}
 use Rattle.parse_track_pieces.specs.declared.piece.Piece.{Piece}
-use Rattle.parse_skim_handler.specs.Telling.{ArePartsOf, Joins, Tells, UsesBefore, use_says}
+use Rattle.parse_track_pieces.specs.declared.piece.Piece.TheVariants as piece
+use Rattle.parse_track_pieces.specs.declared.piece.RegionHead.{RegionHead}
+use Rattle.parse_track_pieces.proofs.Appending.{region-same}
+use Rattle.parse_track_pieces.proofs.PieceEquations.{says-Inside}
+use Rattle.parse_track.specs.Log.{region_of}
+use Rattle.track_log_laws.specs.Spelled.{region_text}
+use Rattle.parse_skim_handler.specs.Telling.{ArePartsOf, Joins, Tells, UsesBefore, told_found, told_says, use_says}
 use Rattle.parse_skim_handler.specs.declared.told.Parts.{Parts}
 use Rattle.parse_skim_handler.specs.declared.told.Told.TheVariants as told
 use Rattle.parse_skim_handler.specs.declared.told.Told.{Told}
@@ -53,4 +62,21 @@ pub joined-tell : (old new : Told) (some others made : Parts) → ArePartsOf old
 joined-tell old new some others made o n j = record {
   says = λ i rest. sym (n.says i rest) ∙ j.says i rest ∙ o.says i (pieces_say i others.pieces.items rest);
   found = sym n.found ∙ j.found ∙ ap (λ (l : List FoundFunction). l ++ others.found.items) o.found;
+}
+
+-- a region, by what stands in it
+pub inside-says : (i : Interpretation) (region : Box (RegionHead × Vec Piece Global) Global) (head : RegionHead) (pieces : Vec Piece Global) (inside : Rest → Rest)
+    → region.value ≡ (head, pieces) → ((rest : Rest) → pieces_say i pieces.items rest ≡ inside rest)
+    → (rest : Rest) → piece_says i (piece.Inside region) rest ≡ says_region (region_text i (region_of head.kind)) head.at inside rest
+inside-says i region head pieces inside is h rest =
+    says-Inside i region rest
+    ∙ (ap (λ (v : RegionHead × Vec Piece Global). says_region (region_text i (region_of v.0.kind)) v.0.at (pieces_say i v.1.items) rest) is
+    ∙ region-same (region_text i (region_of head.kind)) head.at (pieces_say i pieces.items) inside h rest)
+
+-- the same, where what is said and found has another form
+pub tells-as : (old new : Told) (says more : Interpretation → Rest → Rest) (found others : List FoundFunction) → Tells old new says found
+    → ((i : Interpretation) (rest : Rest) → says i rest ≡ more i rest) → found ≡ others → Tells old new more others
+tells-as old new says more found others t h f = record {
+  says = λ i rest. t.says i rest ∙ ap (told_says i old) (h i rest);
+  found = t.found ∙ ap (λ (l : List FoundFunction). told_found old ++ l) f;
 }

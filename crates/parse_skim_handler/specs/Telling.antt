@@ -5,7 +5,8 @@ use Rattle.parse_track.specs.Tells.{tells_use}
 use Rattle.parse_handlers.specs.declared.found.FoundFunction.{FoundFunction}
 use Rattle.parse_handlers.specs.FoundOf.{founds_before}
 use Rattle.parse_handlers.specs.Inner.{Inner}
-use Rattle.parse_track_pieces.specs.Pieces.{Rest, telling, pieces_say}
+use Rattle.parse_track_pieces.specs.Pieces.{Rest, telling, piece_says, pieces_say}
+use Rattle.parse_track_pieces.specs.declared.piece.Piece.TheVariants as piece
 use Rattle.parse_skim_handler.specs.declared.told.Parts.{Parts}
 use Rattle.parse_skim_handler.specs.declared.told.Told.{Told}
 use Rattle.parse_skim_handler.specs.declared.told.Told.TheVariants as told
@@ -18,12 +19,16 @@ abbrev pub told_says : Interpretation → Told → Rest → Rest
 told_says i told.Nothing rest = rest
 told_says i (told.Used atom) rest = use_says i atom rest
 told_says i (told.Two first second) rest = use_says i first (use_says i second rest)
+told_says i (told.Three first second third) rest = use_says i first (use_says i second (use_says i third rest))
+told_says i (told.Inside region) rest = piece_says i (piece.Inside region) rest
 told_says i (told.Parts parts) rest = pieces_say i parts.value.pieces.items rest
 
 abbrev pub told_found : Told → List FoundFunction
 told_found told.Nothing = []
 told_found (told.Used atom) = []
 told_found (told.Two first second) = []
+told_found (told.Three first second third) = []
+told_found (told.Inside region) = []
 told_found (told.Parts parts) = parts.value.found.items
 
 -- the functions that were found, and then these

@@ -1,11 +1,15 @@
 //! What is kept of a part, in 16 bytes of memory.
 
-ghost use Rattle.std.specs.Prelude.{◌≡◌, IfOk};
-ghost use Rattle.parse_skim_handler.specs.Packed.{plain, stmt_errors, unpacked, whole_expr, whole_prop, whole_stmt};
+ghost use Rattle.std.specs.Prelude.{◌≡◌, IfOk, None};
+ghost use Rattle.parse_skim_handler.specs.Packed.{kept_of, looping, noted, plain, stmt_errors, unpacked, whole_expr, whole_prop, whole_stmt};
 
+use crate::kept::Kept;
 use crate::nodes::{SkimExpr, SkimProp, SkimStmt, WholeExpr, WholeProp};
 use crate::told::{Parts, Told};
 use parse_early_handler::{Directive, ExprErrors, PropErrors, StmtErrors};
+use parse_track::region::Early;
+use parse_track_pieces::Piece;
+use parse_track_pieces::piece::RegionHead;
 use script_grammar::tree::Ident;
 use std::alloc::{AllocError, Global};
 
@@ -29,6 +33,12 @@ pub enum Packed {
     Used { atom: u32 },
     /// Two names are used, one after the other.
     Two { first: u32, second: u32 },
+    /// Three names are used, one after the other.
+    Three { first: u32, second: u32, third: u32 },
+    /// A region with what stands in it, and no function.
+    Inside(Box<(RegionHead, Vec<Piece>)>),
+    /// The same, of a statement that is a loop or has a label.
+    Looping(Box<(RegionHead, Vec<Piece>)>),
     Parts(Box<Parts>),
     /// More is kept than what is told.
     More(Box<Whole>),
@@ -44,7 +54,32 @@ fn pack_told(told: Told) -> Packed
         Told::Nothing => Packed::Nothing,
         Told::Used { atom } => Packed::Used { atom },
         Told::Two { first, second } => Packed::Two { first, second },
+        Told::Three {
+            first,
+            second,
+            third,
+        } => Packed::Three {
+            first,
+            second,
+            third,
+        },
+        Told::Inside(region) => Packed::Inside(region),
         Told::Parts(parts) => Packed::Parts(parts),
+    }
+}
+
+/// Of a part nothing is kept but what it tells and the first early error in it.
+fn noted(told: Told, first: Option<Early>) -> Whole
+    ensures { result ≡ noted told first }
+{
+    Whole {
+        declares: None,
+        labels_on: false,
+        told,
+        errors: StmtErrors {
+            first,
+            directive: Directive::No,
+        },
     }
 }
 
@@ -52,14 +87,17 @@ fn pack_told(told: Told) -> Packed
 fn plain(told: Told) -> Whole
     ensures { result ≡ plain told }
 {
+    noted(told, None)
+}
+
+/// Of a loop or of a statement that has a label nothing is kept but its region.
+fn looping(region: Box<(RegionHead, Vec<Piece>)>) -> Whole
+    ensures { result ≡ looping region }
+{
+    let told = Told::Inside(region);
     Whole {
-        declares: None,
-        labels_on: false,
-        told,
-        errors: StmtErrors {
-            first: None,
-            directive: Directive::No,
-        },
+        labels_on: true,
+        ..plain(told)
     }
 }
 
@@ -77,6 +115,15 @@ pub(crate) fn pack(alloc: Global, whole: Whole) -> Result<Packed, AllocError>
                 directive: Directive::No,
             },
         } => Ok(pack_told(told)),
+        Whole {
+            declares: None,
+            labels_on: true,
+            told: Told::Inside(region),
+            errors: StmtErrors {
+                first: None,
+                directive: Directive::No,
+            },
+        } => Ok(Packed::Looping(region)),
         more => Ok(Packed::More(Box::new(alloc, more)?)),
     }
 }
@@ -90,8 +137,77 @@ impl Packed {
             Packed::Nothing => plain(Told::Nothing),
             Packed::Used { atom } => plain(Told::Used { atom }),
             Packed::Two { first, second } => plain(Told::Two { first, second }),
+            Packed::Three {
+                first,
+                second,
+                third,
+            } => plain(Told::Three {
+                first,
+                second,
+                third,
+            }),
+            Packed::Inside(region) => plain(Told::Inside(region)),
+            Packed::Looping(region) => looping(region),
             Packed::Parts(parts) => plain(Told::Parts(parts)),
             Packed::More(whole) => Box::into_inner(whole),
+        }
+    }
+
+    /// What is told, and the first early error.
+    fn kept(self) -> Kept
+        ensures { result ≡ kept_of (unpacked self) }
+    {
+        match self {
+            Packed::Nothing => quiet(Told::Nothing),
+            Packed::Used { atom } => quiet(Told::Used { atom }),
+            Packed::Two { first, second } => quiet(Told::Two { first, second }),
+            Packed::Three {
+                first,
+                second,
+                third,
+            } => quiet(Told::Three {
+                first,
+                second,
+                third,
+            }),
+            Packed::Inside(region) => quiet(Told::Inside(region)),
+            Packed::Looping(region) => quiet(Told::Inside(region)),
+            Packed::Parts(parts) => quiet(Told::Parts(parts)),
+            Packed::More(whole) => kept_of(Box::into_inner(whole)),
+        }
+    }
+}
+
+/// What is told without an early error.
+fn quiet(told: Told) -> Kept
+    ensures { result ≡ record { told = told; first = None } }
+{
+    Kept { told, first: None }
+}
+
+/// What is told, and the first early error.
+fn kept_of(whole: Whole) -> Kept
+    ensures { result ≡ kept_of whole }
+{
+    let Whole {
+        declares: _,
+        labels_on: _,
+        told,
+        errors,
+    } = whole;
+    let first = errors.first;
+    Kept { told, first }
+}
+
+/// What a part tells and the first early error in it, packed.
+fn pack_noted(alloc: Global, told: Told, first: Option<Early>) -> Result<Packed, AllocError>
+    ensures { IfOk result (λ made. unpacked made ≡ noted told first) }
+{
+    match first {
+        None => Ok(pack_told(told)),
+        Some(early) => {
+            let whole = noted(told, Some(early));
+            Ok(Packed::More(Box::new(alloc, whole)?))
         }
     }
 }
@@ -106,17 +222,7 @@ pub(crate) fn pack_expr(alloc: Global, expr: WholeExpr) -> Result<SkimExpr, Allo
         start,
         shape,
     } = errors;
-    let errors = StmtErrors {
-        first,
-        directive: Directive::No,
-    };
-    let whole = Whole {
-        declares: None,
-        labels_on: false,
-        told,
-        errors,
-    };
-    let kept = pack(alloc, whole)?;
+    let kept = pack_noted(alloc, told, first)?;
     Ok(SkimExpr { kept, start, shape })
 }
 
@@ -126,17 +232,7 @@ pub(crate) fn pack_prop(alloc: Global, prop: WholeProp) -> Result<SkimProp, Allo
 {
     let WholeProp { told, errors } = prop;
     let PropErrors { first, proto } = errors;
-    let errors = StmtErrors {
-        first,
-        directive: Directive::No,
-    };
-    let whole = Whole {
-        declares: None,
-        labels_on: false,
-        told,
-        errors,
-    };
-    let kept = pack(alloc, whole)?;
+    let kept = pack_noted(alloc, told, first)?;
     Ok(SkimProp { kept, proto })
 }
 
@@ -154,13 +250,7 @@ impl SkimExpr {
         ensures { result ≡ whole_expr self }
     {
         let SkimExpr { kept, start, shape } = self;
-        let Whole {
-            declares: _,
-            labels_on: _,
-            told,
-            errors,
-        } = kept.whole();
-        let first = errors.first;
+        let Kept { told, first } = kept.kept();
         WholeExpr {
             told,
             errors: ExprErrors {
@@ -178,13 +268,7 @@ impl SkimProp {
         ensures { result ≡ whole_prop self }
     {
         let SkimProp { kept, proto } = self;
-        let Whole {
-            declares: _,
-            labels_on: _,
-            told,
-            errors,
-        } = kept.whole();
-        let first = errors.first;
+        let Kept { told, first } = kept.kept();
         WholeProp {
             told,
             errors: PropErrors { first, proto },
@@ -211,6 +295,13 @@ impl SkimStmt {
                 first: _,
                 second: _,
             } => false,
+            Packed::Three {
+                first: _,
+                second: _,
+                third: _,
+            } => false,
+            Packed::Inside(_) => false,
+            Packed::Looping(_) => true,
             Packed::Parts(_) => false,
             Packed::More(whole) => whole.labels_on,
         }
@@ -227,6 +318,13 @@ impl SkimStmt {
                 first: _,
                 second: _,
             } => Directive::No,
+            Packed::Three {
+                first: _,
+                second: _,
+                third: _,
+            } => Directive::No,
+            Packed::Inside(_) => Directive::No,
+            Packed::Looping(_) => Directive::No,
             Packed::Parts(_) => Directive::No,
             Packed::More(whole) => whole.errors.directive,
         }

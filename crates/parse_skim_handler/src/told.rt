@@ -12,6 +12,7 @@ ghost use Rattle.parse_skim_handler.specs.Telling.{ArePartsOf, Joins, Tells, Use
 use parse_handlers::FoundFunction;
 use parse_track::region::Region;
 use parse_track_pieces::Piece;
+use parse_track_pieces::piece::RegionHead;
 use std::alloc::{AllocError, Global};
 
 /// What is told, one piece after another, and the functions that were found.
@@ -21,7 +22,7 @@ pub struct Parts {
     pub found: Vec<FoundFunction>,
 }
 
-/// What a part of a script tells, and the functions in it. Most parts tell nothing or use a name or two, and take no memory.
+/// What a part of a script tells, and the functions in it. Most parts tell nothing or use up to three names, and take no memory.
 #[derive(Drop)]
 pub enum Told {
     Nothing,
@@ -29,11 +30,34 @@ pub enum Told {
     Used { atom: u32 },
     /// Two names are used, one after the other.
     Two { first: u32, second: u32 },
+    /// Three names are used, one after the other.
+    Three { first: u32, second: u32, third: u32 },
+    /// A region with what stands in it, and no function.
+    Inside(Box<(RegionHead, Vec<Piece>)>),
     Parts(Box<Parts>),
 }
 
 /// As many pieces are moved one by one after others; more stay together, so that a piece that stands deep is moved seldom.
 const FEW: usize = 8;
+
+/// A list of this piece, with room for more.
+fn one_piece(alloc: Global, piece: Piece, more: usize) -> Result<Vec<Piece>, AllocError>
+    requires { more ≤ 4 }
+    ensures { IfOk result (λ pieces. pieces.items ≡ piece ∷ []) }
+{
+    let mut pieces = Vec::with_capacity(alloc, 1 + more)?;
+    pieces.push(piece)?;
+    Ok(pieces)
+}
+
+/// Parts in which no function is.
+fn alone(alloc: Global, pieces: Vec<Piece>) -> Parts
+    ensures pieces { result.pieces.items ≡ pieces.items }
+    ensures found { result.found.items ≡ [] }
+{
+    let found = Vec::new(alloc);
+    Parts { pieces, found }
+}
 
 /// The parts that tell what is told, with room for more pieces.
 fn roomy_parts(alloc: Global, told: Told, more: usize) -> Result<Parts, AllocError>
@@ -41,26 +65,32 @@ fn roomy_parts(alloc: Global, told: Told, more: usize) -> Result<Parts, AllocErr
     ensures { IfOk result (ArePartsOf told) }
 {
     match told {
-        Told::Nothing => Ok(Parts {
-            pieces: Vec::with_capacity(alloc, more)?,
-            found: Vec::new(alloc),
-        }),
+        Told::Nothing => {
+            let pieces = Vec::with_capacity(alloc, more)?;
+            Ok(alone(alloc, pieces))
+        }
         Told::Used { atom } => {
-            let mut pieces = Vec::with_capacity(alloc, 1 + more)?;
-            pieces.push(Piece::Used { atom })?;
-            Ok(Parts {
-                pieces,
-                found: Vec::new(alloc),
-            })
+            let pieces = one_piece(alloc, Piece::Used { atom }, more)?;
+            Ok(alone(alloc, pieces))
         }
         Told::Two { first, second } => {
-            let mut pieces = Vec::with_capacity(alloc, 2 + more)?;
-            pieces.push(Piece::Used { atom: first })?;
+            let mut pieces = one_piece(alloc, Piece::Used { atom: first }, 1 + more)?;
             pieces.push(Piece::Used { atom: second })?;
-            Ok(Parts {
-                pieces,
-                found: Vec::new(alloc),
-            })
+            Ok(alone(alloc, pieces))
+        }
+        Told::Three {
+            first,
+            second,
+            third,
+        } => {
+            let mut pieces = one_piece(alloc, Piece::Used { atom: first }, 2 + more)?;
+            pieces.push(Piece::Used { atom: second })?;
+            pieces.push(Piece::Used { atom: third })?;
+            Ok(alone(alloc, pieces))
+        }
+        Told::Inside(region) => {
+            let pieces = one_piece(alloc, Piece::Inside(region), more)?;
+            Ok(alone(alloc, pieces))
         }
         Told::Parts(parts) => Ok(Box::into_inner(parts)),
     }
@@ -97,21 +127,28 @@ fn push(parts: &mut Parts, piece: Piece) -> Result<(), AllocError>
     Ok(())
 }
 
-/// A function after the functions that are there.
-fn find(parts: &mut Parts, found: FoundFunction) -> Result<(), AllocError>
-    ensures pieces { OnOk result (parts.new.pieces.items ≡ parts.old.pieces.items) }
-    ensures found { OnOk result (parts.new.found.items ≡ parts.old.found.items ++ (found ∷ [])) }
-{
-    parts.found.push(found)?;
-    Ok(())
-}
-
-/// Functions after the functions that are there.
+/// Functions after the functions that are there. Where none is, the list is taken as it is.
 fn find_all(parts: &mut Parts, mut found: Vec<FoundFunction>) -> Result<(), AllocError>
     ensures pieces { OnOk result (parts.new.pieces.items ≡ parts.old.pieces.items) }
     ensures found { OnOk result (parts.new.found.items ≡ parts.old.found.items ++ found.items) }
 {
-    parts.found.append(&mut found)?;
+    let there: &[FoundFunction] = &parts.found;
+    if there.is_empty() {
+        parts.found = found;
+    } else {
+        parts.found.append(&mut found)?;
+    }
+    Ok(())
+}
+
+/// A function after the functions that are there. Most parts have no other, so a list for it takes no room for more.
+fn find(alloc: Global, parts: &mut Parts, found: FoundFunction) -> Result<(), AllocError>
+    ensures pieces { OnOk result (parts.new.pieces.items ≡ parts.old.pieces.items) }
+    ensures found { OnOk result (parts.new.found.items ≡ parts.old.found.items ++ (found ∷ [])) }
+{
+    let mut one = Vec::with_capacity(alloc, 1)?;
+    one.push(found)?;
+    find_all(parts, one)?;
     Ok(())
 }
 
@@ -148,6 +185,11 @@ fn with_use(alloc: Global, told: Told, atom: u32) -> Result<Told, AllocError>
         Told::Used { atom: first } => Ok(Told::Two {
             first,
             second: atom,
+        }),
+        Told::Two { first, second } => Ok(Told::Three {
+            first,
+            second,
+            third: atom,
         }),
         other => with_piece(alloc, other, Piece::Used { atom }),
     }
@@ -214,10 +256,25 @@ fn with_parts(alloc: Global, told: Told, others: Box<Parts>) -> Result<Told, All
             let parts = use_before(alloc, first, rest)?;
             Ok(Told::Parts(parts))
         }
-        Told::Parts(parts) => {
-            let parts = join(alloc, parts, others)?;
+        other => {
+            let begun = opened(alloc, other, 2)?;
+            let parts = join(alloc, begun, others)?;
             Ok(Told::Parts(parts))
         }
+    }
+}
+
+/// A region in which no function is, after what is told.
+fn with_inside(
+    alloc: Global,
+    told: Told,
+    region: Box<(RegionHead, Vec<Piece>)>,
+) -> Result<Told, AllocError>
+    ensures { IfOk result (λ new. Tells told new (λ i. piece_says i (piece.Inside region)) []) }
+{
+    match told {
+        Told::Nothing => Ok(Told::Inside(region)),
+        other => with_piece(alloc, other, Piece::Inside(region)),
     }
 }
 
@@ -232,6 +289,16 @@ pub(crate) fn then(alloc: Global, told: Told, other: Told) -> Result<Told, Alloc
             let one = with_use(alloc, told, first)?;
             with_use(alloc, one, second)
         }
+        Told::Three {
+            first,
+            second,
+            third,
+        } => {
+            let one = with_use(alloc, told, first)?;
+            let two = with_use(alloc, one, second)?;
+            with_use(alloc, two, third)
+        }
+        Told::Inside(region) => with_inside(alloc, told, region),
         Told::Parts(others) => with_parts(alloc, told, others),
     }
 }
@@ -248,9 +315,14 @@ pub(crate) fn with_region(
     ensures { IfOk result (λ new. Tells told new (λ i. says_region (region_text i (region_of kind)) at (told_says i inside)) (told_found inside)) }
 {
     let Parts { pieces, found } = parts_of(alloc, inside)?;
+    let region = Box::new(alloc, (RegionHead { kind, at }, pieces))?;
+    let functions: &[FoundFunction] = &found;
+    if functions.is_empty() {
+        let made = with_inside(alloc, told, region)?;
+        return Ok(made);
+    }
     let mut parts = opened(alloc, told, 1)?;
-    let piece = Piece::region(alloc, kind, at, pieces)?;
-    push(&mut *parts, piece)?;
+    push(&mut *parts, Piece::Inside(region))?;
     find_all(&mut *parts, found)?;
     Ok(Told::Parts(parts))
 }
@@ -270,6 +342,6 @@ pub(crate) fn with_function(
     let mut parts = opened(alloc, told, 1)?;
     let piece = Piece::region(alloc, kind, at, pieces)?;
     push(&mut *parts, piece)?;
-    find(&mut *parts, found)?;
+    find(alloc, &mut *parts, found)?;
     Ok(Told::Parts(parts))
 }

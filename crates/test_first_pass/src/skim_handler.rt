@@ -92,12 +92,14 @@ fn names_are_told_in_their_order(rt: HostRuntime) -> Result<(), Fail> {
     assert!(rt; whole.errors.first.is_none());
     assert_eq!(rt; whole.errors.start, 0);
     match &whole.told {
-        Told::Parts(parts) => {
-            assert_eq!(rt; parts.pieces.len(), 3);
-            assert_eq!(rt; used_at(&parts.pieces, 0), 10);
-            assert_eq!(rt; used_at(&parts.pieces, 1), 11);
-            assert_eq!(rt; used_at(&parts.pieces, 2), 12);
-            assert_eq!(rt; parts.found.len(), 0);
+        Told::Three {
+            first,
+            second,
+            third,
+        } => {
+            assert_eq!(rt; *first, 10);
+            assert_eq!(rt; *second, 11);
+            assert_eq!(rt; *third, 12);
         }
         _ => assert!(rt; false),
     }

@@ -1,5 +1,4 @@
-use Rattle.std.proofs.Common.{refl, subst, sym}
-use Rattle.parse_skim_handler.specs.Telling.{ArePartsOf}
+use Rattle.std.proofs.Common.{refl}
 use Rattle.parse_skim_handler.proofs.Telling.{joined-tell, two-tell, used-tells}
 use Rattle.parse_skim_handler.proofs.told.with_parts.Goals as goal
 
@@ -11,7 +10,7 @@ returns-in_ok-parts-in-Two c =
     two-tell c.args.told _ c.in-Two.first c.in-Two.second c.args.others.value c.in_ok-rest-in-Two.rest.value c.in_ok-parts-in-Two.parts.value c.in-Two.is (record { says = λ i rest. refl; found = refl }) c.in_ok-rest-in-Two.ensures
     c.in_ok-parts-in-Two.ensures
 
-pub returns-in_ok-parts-in-Parts : goal.returns-in_ok-parts-in-Parts
-returns-in_ok-parts-in-Parts c =
-    joined-tell c.args.told _ c.in-Parts.parts.value c.args.others.value c.in_ok-parts-in-Parts.parts.value (subst (λ t. ArePartsOf t c.in-Parts.parts.value) (sym c.in-Parts.is) (record { says = λ i rest. refl; found = refl }))
-    (record { says = λ i rest. refl; found = refl }) c.in_ok-parts-in-Parts.ensures
+pub returns-in_ok-parts-in_default : goal.returns-in_ok-parts-in_default
+returns-in_ok-parts-in_default c =
+    joined-tell c.args.told _ c.in_ok-begun-in_default.begun.value c.args.others.value c.in_ok-parts-in_default.parts.value c.in_ok-begun-in_default.ensures
+    (record { says = λ i rest. refl; found = refl }) c.in_ok-parts-in_default.ensures

@@ -19,26 +19,34 @@ pub(crate) fn flush(out: &mut Vec<u8>, chunk: &mut Chunk) -> Result<(), AllocErr
     Ok(())
 }
 
+/// Appends the chunk to the list, and bytes after it.
+#[cold]
+fn put_behind(out: &mut Vec<u8>, chunk: &mut Chunk, bytes: &[u8]) -> Result<(), AllocError>
+    ensures { OnOk result (out.new.items ++ chunk.new.items ≡ (out.old.items ++ chunk.old.items) ++ bytes.now) }
+{
+    flush(out, chunk)?;
+    out.extend_from_slice(bytes)?;
+    Ok(())
+}
+
 /// Puts bytes after the chunk.
+#[inline]
 pub(crate) fn put(out: &mut Vec<u8>, chunk: &mut Chunk, bytes: &[u8]) -> Result<(), AllocError>
     ensures { OnOk result (out.new.items ++ chunk.new.items ≡ (out.old.items ++ chunk.old.items) ++ bytes.now) }
 {
     if chunk.try_extend_from_slice(bytes).is_ok() {
         return Ok(());
     }
-    flush(out, chunk)?;
-    out.extend_from_slice(bytes)?;
-    Ok(())
+    put_behind(out, chunk, bytes)
 }
 
 /// Puts a byte after the chunk.
+#[inline]
 pub(crate) fn put_byte(out: &mut Vec<u8>, chunk: &mut Chunk, byte: u8) -> Result<(), AllocError>
     ensures { OnOk result (out.new.items ++ chunk.new.items ≡ (out.old.items ++ chunk.old.items) ++ byte ∷ []) }
 {
     if chunk.try_push(byte).is_ok() {
         return Ok(());
     }
-    flush(out, chunk)?;
-    out.push(byte)?;
-    Ok(())
+    put_behind(out, chunk, &[byte])
 }

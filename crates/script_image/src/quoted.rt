@@ -19,7 +19,8 @@ pub fn append_decimal(out: &mut Vec<u8>, number: u64) -> Result<(), AllocError>
     Ok(())
 }
 
-/// Puts the decimal digits of a number after a chunk.
+/// Puts the decimal digits of a number after a chunk. Most numbers have one.
+#[tactic(auto, using(std::proofs::lemmas::Fmt::decimal_digit))]
 pub(crate) fn put_decimal(
     out: &mut Vec<u8>,
     chunk: &mut Chunk,
@@ -27,6 +28,9 @@ pub(crate) fn put_decimal(
 ) -> Result<(), AllocError>
     ensures { OnOk result (out.new.items ++ chunk.new.items ≡ (out.old.items ++ chunk.old.items) ++ decimal number) }
 {
+    if number < 10 {
+        return put_byte(out, chunk, b'0' + number as u8);
+    }
     let mut buffer = Buffer::new();
     put(out, chunk, buffer.format(number).as_bytes())
 }
@@ -39,6 +43,21 @@ fn zeros(count: usize) -> &'static [u8]
     &b"00000"[..count]
 }
 
+/// The five digits of a number that has no more.
+#[tactic(auto, using(crate::proofs::Padded::padded_five))]
+fn five_digits(number: u64) -> [u8; 5]
+    requires { number < 100000 }
+    ensures { result ≡ printed.padded number }
+{
+    [
+        b'0' + (number / 10000) as u8,
+        b'0' + (number / 1000 % 10) as u8,
+        b'0' + (number / 100 % 10) as u8,
+        b'0' + (number / 10 % 10) as u8,
+        b'0' + (number % 10) as u8,
+    ]
+}
+
 /// Puts the decimal digits of a number after a chunk, at least five.
 pub(crate) fn put_padded(
     out: &mut Vec<u8>,
@@ -47,6 +66,9 @@ pub(crate) fn put_padded(
 ) -> Result<(), AllocError>
     ensures { OnOk result (out.new.items ++ chunk.new.items ≡ (out.old.items ++ chunk.old.items) ++ printed.padded number) }
 {
+    if number < 100000 {
+        return put(out, chunk, &five_digits(number));
+    }
     let mut buffer = Buffer::new();
     let digits = buffer.format(number).as_bytes();
     put(out, chunk, zeros(5usize.saturating_sub(digits.len())))?;

@@ -60,8 +60,9 @@ impl CodeBuf {
         ensures ok { OnOk result (self.new ≡ self.old ++ laid (record { op = op; a = a; b = b })) }
         ensures err { OnErr result (self.new ≡ self.old) }
     {
-        let first = op.row().shape.first_width();
-        let second = op.row().shape.second_width();
+        let shape = op.row().shape;
+        let first = shape.first_width();
+        let second = shape.second_width();
         let mut piece = [0u8; 9];
         piece[0] = op.byte();
         write_number(&mut piece, 1, first, a);

@@ -2,7 +2,6 @@
 ghost use Rattle.std.specs.Prelude.{◌≡◌, ◌^◌, ◌+◌, ◌<◌, length, option_map, Some, drop};
 ghost use Rattle.bytecode_buf.specs.Bytes.{le_bytes, written};
 ghost use Rattle.bytecode_buf.specs.Layout.{decoded, decoded_as, instr_at, instr_by, BeginsNumbered, LayoutIsReadBack, ReadsLaid, renumbered};
-ghost use Rattle.bytecode_buf.specs.Width.{is_jump};
 
 use crate::little_endian::{read_number, write_number};
 use crate::opcode::Op;
@@ -21,8 +20,8 @@ pub struct Instr {
     pub next: usize,
 }
 
-fn make_instr(op: Op, a: u64, b: u64, next: usize) -> Instr
-    ensures { result ≡ instr_by (is_jump op) op a b next }
+fn make_instr(op: Op, is_jump: bool, a: u64, b: u64, next: usize) -> Instr
+    ensures { result ≡ instr_by is_jump op a b next }
 {
     let plain = Instr {
         op,
@@ -31,7 +30,7 @@ fn make_instr(op: Op, a: u64, b: u64, next: usize) -> Instr
         to: 0,
         next,
     };
-    if op.is_jump() {
+    if is_jump {
         Instr {
             a: 0,
             b: 0,
@@ -48,14 +47,15 @@ fn read_instr(op: Op, at: usize, behind: &[u8]) -> Option<Instr>
     requires { at + 1 + length behind.now < 2 ^ 64 }
     ensures { result ≡ option_map (instr_at at) (decoded_as (Some op) behind.now) }
 {
-    let first = op.row().shape.first_width();
-    let second = op.row().shape.second_width();
+    let shape = op.row().shape;
+    let first = shape.first_width();
+    let second = shape.second_width();
     if behind.len() < first + second {
         return None;
     }
     let a = read_number(&behind[..first]);
     let b = read_number(&behind[first..first + second]);
-    Some(make_instr(op, a, b, at + (1 + first + second)))
+    Some(make_instr(op, shape.is_jump(), a, b, at + (1 + first + second)))
 }
 
 fn read_at(code: &[u8], at: usize) -> Option<Instr>

@@ -405,6 +405,7 @@ impl Op {
     }
 
     /// The opcode's row: its operand, and what it takes from the stack and gives.
+    #[inline]
     pub fn row(self) -> OpRow
         ensures { result ≡ row_of self }
     {

@@ -1,5 +1,5 @@
 -- What the first code points tell.
-use Rattle.std.proofs.Common.{◌≡◌, ◌≢◌, ℕ, ◌+◌, ◌<◌, ◌≤◌, List, [], ◌∷◌, Bool, true, false, refl, sym, ◌∙◌, ap, subst, arith, inl, inr, map, length}
+use Rattle.std.proofs.Common.{◌≡◌, ◌≢◌, ℕ, ◌<◌, ◌≤◌, List, [], ◌∷◌, Bool, true, false, refl, sym, ◌∙◌, ap, subst, arith, inl, inr, map}
 use Rattle.std.specs.Prelude.{Option, Some, None, ◌==◌, ◌||◌, ◌&&◌}
 use Rattle.std.proofs.Math.Dec.{eqb, leb}
 use Rattle.std.proofs.lemmas.Bool.{cases_Bool, leb-true}
@@ -9,20 +9,19 @@ use Rattle.script_grammar.specs.declared.token.Token.{Token}
 use Rattle.unit_text.specs.declared.Point.{Point}
 use Rattle.unit_text.specs.Points.{code_of}
 use Rattle.script_scanner.specs.declared.braces.Brace.{Brace}
-use Rattle.script_scanner.specs.declared.fronts.Front.{Front}
-use Rattle.script_scanner.specs.declared.fronts.Front.TheVariants.{Name, Mark, Close}
+use Rattle.script_scanner.specs.declared.fronts.Front.TheVariants.{Name, Quote, Mark, Close}
 use Rattle.script_scanner.specs.declared.scanning.Scanner.{Scanner}
 use Rattle.script_scanner.specs.Advances.{TakesToken, Moves}
 use Rattle.script_scanner.specs.Blanks.{blank_at}
 use Rattle.script_scanner.specs.Braces.{in_substitution}
-use Rattle.script_scanner.specs.Fronts.{StandsAt, EndsMark, BeginsEnded, lone_mark, found_mark}
+use Rattle.script_scanner.specs.Fronts.{StandsAt, BeginsEnded, lone_mark, found_mark}
 use Rattle.script_scanner.specs.Marks.{mark_at}
 use Rattle.script_scanner.specs.Reads.{FindsPiece}
 use Rattle.script_scanner.specs.Tokens.{Piece, token_at, mark_piece}
 use Rattle.script_scanner.proofs.BlankLemmas.{plain_is_no_blank}
 use Rattle.script_scanner.proofs.Lists.{not_equal, and_left, and_right}
 use Rattle.script_scanner.proofs.NameLemmas.{start_ascii}
-use Rattle.script_scanner.proofs.PieceLemmas.{token_is_mark}
+use Rattle.script_scanner.proofs.PieceLemmas.{token_is_mark, token_is_string}
 use Rattle.script_scanner.proofs.ScanLemmas.{moves_blank, moves_token}
 
 -- a code point that begins neither a name nor a number, a string or a template is the first of a mark
@@ -72,6 +71,13 @@ stands_36 codes = (refl, start_ascii 36 (omega arith))
 
 pub stands_95 : (codes : List ℕ) → StandsAt (95 ∷ codes) Name
 stands_95 codes = (refl, start_ascii 95 (omega arith))
+
+-- a quote begins a string
+pub stands_34 : (codes : List ℕ) → StandsAt (34 ∷ codes) (Quote 34)
+stands_34 codes = (refl, λ b. token_is_string b 34 codes (start_ascii 34 (omega arith)) refl refl)
+
+pub stands_39 : (codes : List ℕ) → StandsAt (39 ∷ codes) (Quote 39)
+stands_39 codes = (refl, λ b. token_is_string b 39 codes (start_ascii 39 (omega arith)) refl refl)
 
 letter_range : (c : ℕ) → is_ascii_alphabetic c ≡ true → (65 ≤ c) × (c ≤ 122)
 letter_range c e = elim (cases_Bool (is_in_range 65 90 c)) as (λ _. (65 ≤ c) × (c ≤ 122)) [

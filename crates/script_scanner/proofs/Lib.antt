@@ -13,4 +13,5 @@ pub mod PieceLemmas
 pub mod OrderLemmas
 pub mod Rows
 pub mod ScanLemmas
+pub mod SpaceLemmas
 pub mod WordLemmas

@@ -307,14 +307,14 @@ stepped to text at taken tokens tokens_now braces braces_now after after_now tex
       ∙ ap (λ (ps : List Point). (s.made ++ m.made) ++ rest_after taken (tokens_within (s.fuel - 1) to braces_now after_now ps)) (sym (drop_drop at taken text));
 }
 
-stepped_behind : (to : ℕ) (text rest : List Point) (at taken : ℕ) (tokens tokens_now : List Token) (braces braces_now : List Brace) (after after_now : Bool) (texts between now : List (List ℕ))
+pub stepped_behind : (to : ℕ) (text rest : List Point) (at taken : ℕ) (tokens tokens_now : List Token) (braces braces_now : List Brace) (after after_now : Bool) (texts between now : List (List ℕ))
     → rest ≡ drop at text → IsScanning to text at tokens braces after texts between → Moves to rest tokens tokens_now braces braces_now after after_now between now taken → taken ≤ length rest
     → IsStepped to text at taken tokens_now braces_now after_now texts now
 stepped_behind to text rest at taken tokens tokens_now braces braces_now after after_now texts between now is s m le =
     stepped to text at taken tokens tokens_now braces braces_now after after_now texts between now s
     (subst (λ (ps : List Point). Moves to ps tokens tokens_now braces braces_now after after_now between now taken) is m) (subst (λ (ps : List Point). taken ≤ length ps) is le)
 
-resumed : (to : ℕ) (text : List Point) (at taken : ℕ) (tokens : List Token) (braces : List Brace) (after : Bool) (texts now : List (List ℕ))
+pub resumed : (to : ℕ) (text : List Point) (at taken : ℕ) (tokens : List Token) (braces : List Brace) (after : Bool) (texts now : List (List ℕ))
     → IsStepped to text at taken tokens braces after texts now → 0 < taken → IsScanning to text (at + taken) tokens braces after texts now
 resumed to text at taken tokens braces after texts now s some = record {
   within = s.within;

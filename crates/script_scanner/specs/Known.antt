@@ -1,23 +1,26 @@
--- A name at the front of a text, whose own text has an atom already.
-use Rattle.std.specs.Prelude.{◌≡◌, ℕ, ◌<◌, Bool, false, List, [], ◌∷◌, ◌++◌, drop, take, slice_get, Some}
+-- A name or a string at the front of a text, whose own text has an atom already.
+use Rattle.std.specs.Prelude.{◌≡◌, ℕ, ◌<◌, Bool, false, List, [], ◌∷◌, ◌++◌, drop, slice_get, Some}
 use Rattle.script_grammar.specs.declared.token.Token.{Token}
 use Rattle.unit_text.specs.declared.Point.{Point}
-use Rattle.unit_text.specs.Units.{text_units}
-use Rattle.script_scanner.specs.declared.known_names.KnownName.{KnownName}
+use Rattle.script_scanner.specs.declared.braces.Brace.{Brace}
+use Rattle.script_scanner.specs.declared.known.KnownToken.{KnownToken}
 use Rattle.script_scanner.specs.declared.scanning.Scanner.{Scanner}
-use Rattle.script_scanner.specs.Names.{name_length}
-use Rattle.script_scanner.specs.Tokens.{name_piece, token_at, place}
+use Rattle.script_scanner.specs.Tokens.{Piece, Text, token_at, place, braces_after}
 
--- The longest token at the front is a name or word, and its text stands among the texts at this atom.
-pub record IsKnownName (texts : List (List ℕ)) (codes : List ℕ) (known : KnownName) : Type 0 where
-  pub token : (in_template : Bool) → token_at in_template codes ≡ Some (name_piece codes)
-  pub kind : known.kind ≡ (name_piece codes).kind
-  pub length : known.length ≡ name_length codes
+-- The token of this text.
+abbrev pub known_piece : KnownToken → List ℕ → Piece
+known_piece known text = record { kind = known.kind; value = Text text; length = known.length }
+
+-- It is the longest token at the front, it opens and closes no brace, and its text stands among the texts at this atom.
+pub record IsKnown (texts : List (List ℕ)) (codes : List ℕ) (known : KnownToken) : Type 0 where
+  pub text : List ℕ
+  pub token : (in_template : Bool) → token_at in_template codes ≡ Some (known_piece known text)
+  pub bare : (braces : List Brace) → braces_after braces known.kind ≡ braces
   pub positive : 0 < known.length
-  pub text : slice_get texts known.atom ≡ Some (text_units (take (name_length codes) codes))
+  pub stands : slice_get texts known.atom ≡ Some text
 
--- The name is the last token now, with its atom and its places, and the braces are as before.
-pub record TakesName (to : ℕ) (rest : List Point) (known : KnownName) (before now : Scanner) : Type 0 where
+-- It is the last token now, with its atom and its places, and the braces are as before.
+pub record TakesKnown (to : ℕ) (rest : List Point) (known : KnownToken) (before now : Scanner) : Type 0 where
   pub token : Token
   pub appended : now.tokens.items ≡ before.tokens.items ++ token ∷ []
   pub kind : token.kind ≡ known.kind

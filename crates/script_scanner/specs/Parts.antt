@@ -1,5 +1,5 @@
 -- Strings and template parts. ECMA-262, 12th edition, clauses 12.8.4 and 12.8.6.
-use Rattle.std.specs.Prelude.{ℕ, zero, suc, ◌+◌, ◌||◌, ◌&&◌, ◌==◌, List, [], ◌∷◌, ◌++◌, Option, Some, None, option_map, length, drop, if◌then◌else◌}
+use Rattle.std.specs.Prelude.{ℕ, zero, suc, ◌+◌, Bool, false, not, ◌||◌, ◌&&◌, ◌==◌, List, [], ◌∷◌, ◌++◌, Option, Some, None, option_map, length, drop, if◌then◌else◌}
 use Rattle.unit_text.specs.Units.{code_units}
 use Rattle.script_scanner.specs.declared.escapes.Step.{Step}
 use Rattle.script_scanner.specs.declared.escapes.Step.TheVariants.{Add, Skip, Close, Break}
@@ -15,6 +15,10 @@ string_step quote [] = Break
 string_step quote (c ∷ codes) = if c == quote then Close 1
     else (if c == 0x5C then escape_step codes
     else (if (c == 0xA) || (c == 0xD) then Break else Add c 1))
+
+-- A code point of a string that stands for itself, where the string ends at this quote.
+abbrev pub is_plain : ℕ → ℕ → Bool
+is_plain quote c = if c == quote then false else (if c == 0x5C then false else not ((c == 0xA) || (c == 0xD)))
 
 -- What the code points at the front of a template part's rest do. CR and CR LF stand for LF (clause 12.8.6.1).
 abbrev pub template_step : List ℕ → Step

@@ -1,5 +1,5 @@
 //! What stands between tokens: white space, line ends and comments.
-ghost use Rattle.std.specs.Prelude.{◌≡◌, ◌≢◌, ◌≤◌, ◌<◌, ◌+◌, ℕ, true, length, map, not, IfSome};
+ghost use Rattle.std.specs.Prelude.{◌≡◌, ◌≢◌, ◌≤◌, ◌<◌, ◌+◌, ◌==◌, ℕ, true, length, map, not, IfSome};
 ghost use Rattle.std.specs.List.{prefix_len, list_any};
 ghost use Rattle.unit_text.specs.Points.{code_of};
 ghost use Rattle.script_scanner.specs.Blanks.{begins, blank_at, comment_at, block_comment, is_line_end, is_white_space, line_length};
@@ -14,6 +14,28 @@ pub struct Blank {
     pub length: usize,
     /// Whether it counts as a line end.
     pub breaks: bool,
+}
+
+/// Whether a code point is a space.
+#[inline]
+fn is_space(code: char) -> bool
+    ensures { result ≡ (code == 0x20) }
+{
+    code == ' '
+}
+
+/// How many spaces stand at the front.
+#[inline]
+#[tactic(auto, using(crate::proofs::Lists::prefix_more, crate::proofs::Lists::prefix_stops, crate::proofs::Lists::prefix_ends))]
+pub fn spaces_length<T: Source>(rest: T) -> usize
+    ensures value { result ≡ prefix_len (λ c. c == 0x20) (map code_of (T.points rest)) }
+    ensures within { result ≤ length (T.points rest) }
+{
+    let mut at = 0;
+    while at < rest.count() && is_space(rest.point_at(at).code) {
+        at += 1;
+    }
+    at
 }
 
 /// Whether a code point is white space (ECMA-262, 12th edition, clause 12.2).

@@ -10,12 +10,12 @@ use script_grammar::token::mark;
 /// What stands at the front of a text.
 #[derive(Clone, Copy, Debug, PartialEq, Eq)]
 pub enum Front {
-    /// White space of one code point.
-    Space,
     /// A line end of one code point.
     LineFeed,
     /// A name or a word.
     Name,
+    /// A string, which this quote begins.
+    Quote(char),
     /// The mark of this index, which takes one code point.
     Mark(u8),
     /// A `}`: a mark, unless a template goes on with it.
@@ -84,7 +84,6 @@ fn front_with<T: Source>(first: char, others: T) -> Front
     ensures { StandsAt (first ∷ map code_of (T.points others)) result }
 {
     match first {
-        ' ' => Front::Space,
         '\n' => Front::LineFeed,
         '(' => Front::Mark(mark::OPEN_PAREN),
         ')' => Front::Mark(mark::CLOSE_PAREN),
@@ -96,6 +95,8 @@ fn front_with<T: Source>(first: char, others: T) -> Front
         '{' => Front::Mark(mark::OPEN_BRACE),
         '}' => Front::Close,
         '.' => dot_before(others),
+        '"' => Front::Quote('"'),
+        '\'' => Front::Quote('\''),
         '$' => Front::Name,
         '_' => Front::Name,
         _ => operator_with(first, others),

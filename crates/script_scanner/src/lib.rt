@@ -11,7 +11,7 @@ mod blanks;
 mod braces;
 mod escapes;
 mod fronts;
-mod known_names;
+mod known;
 mod marks;
 mod names;
 mod numbers;

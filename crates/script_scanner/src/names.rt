@@ -42,18 +42,18 @@ pub fn is_name_part(code: char) -> bool
     }
 }
 
-/// A name at the front of points: how many code points it takes, and the digest of its text.
+/// Code points at the front of others, and the digest of their text.
 #[derive(Clone, Copy, Debug, PartialEq, Eq)]
-pub struct SpelledName {
-    /// How many code points it takes.
+pub struct Spelled {
+    /// How many code points they are.
     pub length: usize,
-    /// The digest of its text, where each of its code points is one unit.
+    /// The digest of their text, where each of them is one unit.
     pub digest: u64,
 }
 
 /// The name that begins with the first code point.
 #[tactic(auto, using(crate::proofs::NameLemmas::name_begins, crate::proofs::Lists::prefix_more, crate::proofs::Lists::prefix_stops, crate::proofs::Lists::prefix_ends))]
-pub fn spelled_name<T: Source>(rest: T) -> SpelledName
+pub fn spelled_name<T: Source>(rest: T) -> Spelled
     requires { 0 < length (T.points rest) }
     ensures value { result.length ≡ name_length (map code_of (T.points rest)) }
     ensures positive { 0 < result.length }
@@ -69,5 +69,5 @@ pub fn spelled_name<T: Source>(rest: T) -> SpelledName
         digest = digest_with(digest, code as u32);
         length += 1;
     }
-    SpelledName { length, digest }
+    Spelled { length, digest }
 }

@@ -1,14 +1,17 @@
 //! Strings and template parts.
 ghost use Rattle.std.specs.Prelude.{◌≡◌, ◌≤◌, ◌<◌, ◌+◌, ◌++◌, length, map, IfOk, IfSome, OnOk, take};
+ghost use Rattle.std.specs.List.{prefix_len};
 ghost use Rattle.unit_text.specs.Points.{code_of};
 ghost use Rattle.unit_text.specs.Units.{code_units};
-ghost use Rattle.script_scanner.specs.Parts.{string_step, template_step, step_at, body_of};
+ghost use Rattle.script_scanner.specs.Parts.{is_plain, string_step, template_step, step_at, body_of};
 ghost use Rattle.script_scanner.specs.Fits.{StepFits};
 ghost use Rattle.script_scanner.specs.Reads.{ReadsBody};
 
 use crate::blanks::{begins, line_end_length};
 use crate::escapes::{Step, escape_step};
+use crate::names::Spelled;
 use crate::sources::Source;
+use parser_atoms::{EMPTY_DIGEST, digest_with};
 use std::alloc::AllocError;
 use unit_text::units_of_value;
 
@@ -54,6 +57,40 @@ fn string_step<T: Source>(quote: char, rest: T) -> Step
             }
         }
     }
+}
+
+/// Whether a code point of a string with this quote stands for itself.
+#[inline]
+fn is_plain(quote: char, code: char) -> bool
+    ensures { result ≡ is_plain quote code }
+{
+    if code == quote {
+        false
+    } else if code == '\\' {
+        false
+    } else {
+        !((code == '\n') | (code == '\r'))
+    }
+}
+
+/// The code points at the front of a string's rest that stand for themselves, up to the first other one.
+#[tactic(auto, using(crate::proofs::Lists::prefix_more, crate::proofs::Lists::prefix_stops, crate::proofs::Lists::prefix_ends))]
+pub fn plain_front<T: Source>(quote: char, rest: T) -> Spelled
+    ensures value { result.length ≡ prefix_len (λ c. is_plain quote c) (map code_of (T.points rest)) }
+    ensures within { result.length ≤ length (T.points rest) }
+    ensures few { result.length ≤ 9223372036854775807 }
+{
+    let mut length = 0;
+    let mut digest = EMPTY_DIGEST;
+    while length < rest.count() {
+        let code = rest.point_at(length).code;
+        if !is_plain(quote, code) {
+            break;
+        }
+        digest = digest_with(digest, code as u32);
+        length += 1;
+    }
+    Spelled { length, digest }
 }
 
 /// What the code points at the front of a template part's rest do.

@@ -10,14 +10,14 @@ ghost use Rattle.script_scanner.specs.Tokens.{braces_after, last_token, place, t
 ghost use Rattle.script_scanner.specs.Stands.{StandFor, StandsFor, GainsOnly, HasOneLast, Keeps};
 ghost use Rattle.script_scanner.specs.Advances.{Advances, TakesValue, TakesToken, EndsWith};
 ghost use Rattle.script_scanner.specs.Blanks.{blank_at};
-ghost use Rattle.script_scanner.specs.Fronts.{BeginsName, StandsAt, found_mark};
+ghost use Rattle.script_scanner.specs.Fronts.{BeginsName, IsQuoted, StandsAt, found_mark};
 ghost use Rattle.script_scanner.specs.declared.fronts.Front.TheVariants.{Close};
-ghost use Rattle.script_scanner.specs.Known.{TakesName};
+ghost use Rattle.script_scanner.specs.Known.{TakesKnown};
 
-use crate::blanks::{blank_at, first_line_length};
+use crate::blanks::{blank_at, first_line_length, spaces_length};
 use crate::braces::Brace;
 use crate::fronts::{Front, front_at};
-use crate::known_names::{KnownName, known_name};
+use crate::known::{KnownToken, known_name, known_string};
 use crate::pieces::{Content, FoundToken, token_at};
 use crate::sources::{ByteSource, Source};
 use parser_atoms::Atoms;
@@ -188,17 +188,17 @@ impl Scanner {
         Ok(0)
     }
 
-    /// Takes the name that was found with its atom; answers how many code points it takes.
+    /// Takes the name or string that was found with its atom; answers how many code points it takes.
     #[inline]
-    fn take_name<T: Source>(
+    fn take_known<T: Source>(
         &mut self,
-        known: KnownName,
+        known: KnownToken,
         rest: T,
         to: u32,
     ) -> Result<usize, AllocError>
         requires { known.length ≤ length (T.points rest) }
         ensures taken { IfOk result (λ taken. taken ≡ known.length) }
-        ensures value { OnOk result (TakesName to (T.points rest) known self.old self.new) }
+        ensures value { OnOk result (TakesKnown to (T.points rest) known self.old self.new) }
     {
         self.tokens.push(Token {
             kind: known.kind,
@@ -262,7 +262,37 @@ impl Scanner {
     {
         match known_name(rest, atoms) {
             Some(known) => {
-                let taken = self.take_name(known, rest, to)?;
+                let taken = self.take_known(known, rest, to)?;
+                Ok(taken)
+            }
+            None => {
+                let taken = self.take_any(alloc, rest, to, atoms)?;
+                Ok(taken)
+            }
+        }
+    }
+
+    /// Takes the string at the front, which this quote begins; answers how many code points that is. The same holds of its text.
+    #[inline]
+    fn take_string<T: Source>(
+        &mut self,
+        alloc: Global,
+        quote: char,
+        rest: T,
+        to: u32,
+        atoms: &mut Atoms,
+    ) -> Result<usize, AllocError>
+        requires few { length atoms.old < 2 ^ 32 - 1 }
+        requires bare { blank_at (map code_of (T.points rest)) ≡ None }
+        requires quoted { IsQuoted quote (map code_of (T.points rest)) }
+        requires some { 0 < length (T.points rest) }
+        ensures value { IfOk result (Advances to (T.points rest) self.old self.new atoms.old atoms.new) }
+        ensures within { IfOk result (λ taken. taken ≤ length (T.points rest)) }
+        ensures keeps { Keeps atoms.old atoms.new }
+    {
+        match known_string(quote, rest, atoms) {
+            Some(known) => {
+                let taken = self.take_known(known, rest, to)?;
                 Ok(taken)
             }
             None => {
@@ -273,7 +303,7 @@ impl Scanner {
     }
 
     /// Takes the mark at the front, which takes one code point: so many it answers.
-    #[inline]
+    #[inline(always)]
     fn take_mark<T: Source>(&mut self, index: u8, rest: T, to: u32) -> Result<usize, AllocError>
         requires { 0 < length (T.points rest) }
         ensures taken { IfOk result (λ taken. taken ≡ 1) }
@@ -358,13 +388,16 @@ impl Scanner {
         ensures keeps { Keeps atoms.old atoms.new }
     {
         match front_at(rest) {
-            Front::Space => Ok(1),
             Front::LineFeed => {
                 self.after_line = true;
                 Ok(1)
             }
             Front::Name => {
                 let taken = self.take_word(alloc, rest, to, atoms)?;
+                Ok(taken)
+            }
+            Front::Quote(quote) => {
+                let taken = self.take_string(alloc, quote, rest, to, atoms)?;
                 Ok(taken)
             }
             Front::Mark(index) => {
@@ -403,6 +436,7 @@ impl Scanner {
         let mut at = 0;
         let mut goes_on = true;
         while goes_on {
+            at += spaces_length(text.behind(at));
             let taken = self.step(alloc, text.behind(at), to, atoms)?;
             at += taken;
             goes_on = taken != 0;

@@ -1,8 +1,8 @@
 use Rattle.std.proofs.Common.{ℕ, ◌∷◌, subst, sym, map}
 use Rattle.unit_text.specs.Points.{code_of}
-use Rattle.script_scanner.specs.declared.fronts.Front.TheVariants.{Name, Mark, Close}
+use Rattle.script_scanner.specs.declared.fronts.Front.TheVariants.{Name, Quote, Mark, Close}
 use Rattle.script_scanner.specs.Fronts.{StandsAt}
-use Rattle.script_scanner.proofs.FrontLemmas.{stands_40, stands_41, stands_44, stands_59, stands_58, stands_91, stands_93, stands_123, stands_125, stands_36, stands_95}
+use Rattle.script_scanner.proofs.FrontLemmas.{stands_40, stands_41, stands_44, stands_59, stands_58, stands_91, stands_93, stands_123, stands_125, stands_36, stands_95, stands_34, stands_39}
 use Rattle.script_scanner.proofs.fronts.front_with.Goals as goal
 
 pub returns-in-40 : goal.returns-in-40
@@ -31,6 +31,12 @@ returns-in-123 g c = subst (λ (k : ℕ). StandsAt (k ∷ map code_of (g.T.Sourc
 
 pub returns-in-125 : goal.returns-in-125
 returns-in-125 g c = subst (λ (k : ℕ). StandsAt (k ∷ map code_of (g.T.Source.points c.args.others)) Close) (sym c.in-125.is) (stands_125 (map code_of (g.T.Source.points c.args.others)))
+
+pub returns-in-34 : goal.returns-in-34
+returns-in-34 g c = subst (λ (k : ℕ). StandsAt (k ∷ map code_of (g.T.Source.points c.args.others)) (Quote 34)) (sym c.in-34.is) (stands_34 (map code_of (g.T.Source.points c.args.others)))
+
+pub returns-in-39 : goal.returns-in-39
+returns-in-39 g c = subst (λ (k : ℕ). StandsAt (k ∷ map code_of (g.T.Source.points c.args.others)) (Quote 39)) (sym c.in-39.is) (stands_39 (map code_of (g.T.Source.points c.args.others)))
 
 pub returns-in-36 : goal.returns-in-36
 returns-in-36 g c = subst (λ (k : ℕ). StandsAt (k ∷ map code_of (g.T.Source.points c.args.others)) Name) (sym c.in-36.is) (stands_36 (map code_of (g.T.Source.points c.args.others)))

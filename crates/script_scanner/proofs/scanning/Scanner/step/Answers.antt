@@ -1,9 +1,6 @@
-use Rattle.script_scanner.proofs.FrontLemmas.{moves_space, moves_line, moves_mark}
+use Rattle.script_scanner.proofs.FrontLemmas.{moves_line, moves_mark}
 use Rattle.script_scanner.specs.Braces.{in_substitution}
 use Rattle.script_scanner.proofs.scanning.Scanner.step.Goals as goal
-
-pub returns-in-Space-clause-value : goal.returns-in-Space-clause-value
-returns-in-Space-clause-value g c = moves_space c.args.to (g.T.Source.points c.args.rest) c.args.self.now.tokens.items c.args.self.now.braces.items c.args.self.now.after_line c.args.atoms.now c.in-Space.ensures.value
 
 pub returns-in-LineFeed-clause-value : goal.returns-in-LineFeed-clause-value
 returns-in-LineFeed-clause-value g c = moves_line c.args.to (g.T.Source.points c.args.rest) c.args.self.now.tokens.items c.args.self.now.braces.items c.args.self.now.after_line c.args.atoms.now c.in-LineFeed.ensures.value

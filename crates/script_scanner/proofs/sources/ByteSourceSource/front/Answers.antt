@@ -1,4 +1,4 @@
-use Rattle.std.proofs.Common.{refl, sym, ap, ◌∙◌, arith}
+use Rattle.std.proofs.Common.{sym, ap, ◌∙◌, arith}
 use Rattle.script_scanner.specs.Bytes.{byte_points}
 use Rattle.script_scanner.proofs.ByteLemmas.{count_is, bytes_front}
 use Rattle.script_scanner.proofs.sources.ByteSourceSource.front.Goals as goal

@@ -1,7 +1,7 @@
 use Rattle.std.proofs.Common.{◌≡◌, drop, map}
 use Rattle.unit_text.specs.Points.{code_of}
 use Rattle.unit_text.specs.Units.{text_units}
-use Rattle.script_scanner.proofs.known_names.are_units.Given as goal
+use Rattle.script_scanner.proofs.known.are_units.Given as goal
 
 -- where the rest is the same, all is
 abbrev pub invariant-loop-at : goal.invariant-loop-at

@@ -1,12 +1,12 @@
 use Rattle.std.proofs.Common.{◌∙◌, sym, ap}
 use Rattle.std.specs.Prelude.{Some}
 use Rattle.script_scanner.specs.Tokens.{name_kind}
-use Rattle.script_scanner.proofs.KnownLemmas.{known_is}
-use Rattle.script_scanner.proofs.known_names.known_name.Goals as goal
+use Rattle.script_scanner.proofs.KnownLemmas.{known_name_is}
+use Rattle.script_scanner.proofs.known.known_name.Goals as goal
 
 pub returns-clause-value : goal.returns-clause-value
 returns-clause-value g c =
-    known_is c.args.atoms.now (g.T.Source.points c.args.rest) (g.T.Source.points c.front.result) c.units-units.result.now c.in_ok-atom.atom
+    known_name_is c.args.atoms.now (g.T.Source.points c.args.rest) (g.T.Source.points c.front.result) c.units-units.result.now c.in_ok-atom.atom
     c.spelled_name-name.result.length c.kind_of_name.result
     c.requires.begins
     c.spelled_name-name.ensures.value

@@ -5,6 +5,7 @@ ghost use Rattle.script_grammar.specs.Interpretation.{Interpretation, text_of, m
 ghost use Rattle.parse_track.specs.Log.{region_of};
 ghost use Rattle.parse_track.specs.Tells as tell;
 ghost use Rattle.track_log_laws.specs.Spelled.{region_text};
+ghost use Rattle.parse_track_pieces.specs.Pieces.{Rest, piece_says, says_read};
 ghost use Rattle.parse_handlers.specs.FoundOf.{found_of};
 ghost use Rattle.parse_handlers.specs.Inner.{kind_of};
 ghost use Rattle.parse_early_handler.specs.Firsts.{strict_error};
@@ -47,6 +48,21 @@ fn strict_error(more: bool, at: Option<u32>) -> Option<Early>
     if more { error_of(14, at) } else { None }
 }
 
+/// What a body tells that was read where it stands. A list of pieces, as each body is, is taken as it is.
+fn kept_body(alloc: Global, told: Piece) -> Result<Piece, AllocError>
+    ensures { IfOk result (λ piece. (i : Interpretation) (rest : Rest) → piece_says i piece rest ≡ says_read (piece_says i told) rest) }
+{
+    match told {
+        Piece::Many(pieces) => Ok(Piece::Kept(pieces)),
+        other => {
+            let mut pieces = Vec::with_capacity(alloc, 1)?;
+            pieces.push(other)?;
+            let kept = Piece::kept(alloc, pieces)?;
+            Ok(kept)
+        }
+    }
+}
+
 /// A body that was read where it stands.
 fn skim_read(alloc: Global, kept: Kept, more: bool, body: SkimBody) -> Result<Kept, AllocError>
     ensures { IfOk result (λ made. (i : Interpretation) → Adds i kept made (read_means i more body)) }
@@ -59,9 +75,7 @@ fn skim_read(alloc: Global, kept: Kept, more: bool, body: SkimBody) -> Result<Ke
     let strict = strict_error(more, errors.strict);
     let error = sooner(strict, errors.first);
     let noted = with_error(kept, error);
-    let mut pieces = Vec::new(alloc);
-    pieces.push(told)?;
-    let piece = Piece::kept(alloc, pieces)?;
+    let piece = kept_body(alloc, told)?;
     with_said(alloc, noted, piece)
 }
 

@@ -1,7 +1,7 @@
 use Rattle.std.proofs.Common.{[], ap, refl, ◌++◌, ◌∙◌, ◌∷◌}
 use Rattle.parse_track.specs.Log.{region_of}
 use Rattle.track_log_laws.specs.Spelled.{region_text}
-use Rattle.parse_track_pieces.specs.Pieces.{pieces_say, says_region}
+use Rattle.parse_track_pieces.specs.Pieces.{says_region}
 use Rattle.parse_track_pieces.specs.declared.piece.Piece.TheVariants as piece
 use Rattle.parse_track_pieces.proofs.Appending.{appended_as}
 use Rattle.parse_skim_handler.specs.Telling.{told_found, told_says}

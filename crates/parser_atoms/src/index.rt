@@ -127,7 +127,7 @@ impl Index {
         Ok(index)
     }
 
-    // Doubles the cells where they are not more than twice the texts. After an error they are as before.
+    // Makes four times as many cells where they are not more than twice the texts. After an error they are as before.
     pub(crate) fn make_room(&mut self, alloc: Global, texts: &Vec<Text>) -> Result<(), AllocError>
         requires { IsWhole texts.now.items self.old.cells.entries.items self.old.others }
         ensures whole { IsWhole texts.now.items self.new.cells.entries.items self.new.others }
@@ -136,7 +136,7 @@ impl Index {
         if texts.len().saturating_mul(2) < self.cells.count() {
             return Ok(());
         }
-        let cells = self.cells.count().saturating_mul(2).max(FEWEST);
+        let cells = self.cells.count().saturating_mul(4).max(FEWEST);
         *self = Index::of(alloc, texts, cells)?;
         Ok(())
     }

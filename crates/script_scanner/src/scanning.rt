@@ -303,7 +303,7 @@ impl Scanner {
     }
 
     /// Takes the mark at the front, which takes one code point: so many it answers.
-    #[inline(always)]
+    #[inline]
     fn take_mark<T: Source>(&mut self, index: u8, rest: T, to: u32) -> Result<usize, AllocError>
         requires { 0 < length (T.points rest) }
         ensures taken { IfOk result (λ taken. taken ≡ 1) }

@@ -66,6 +66,22 @@ impl<H: Handler> State<H> {
         }
     }
 
+    /// The node of a token that is an operand.
+    pub(crate) fn alone(&mut self, token: Token) -> Result<Ranked<H::E>, ParseFault>
+        requires is { pure.is_atom token.kind ≡ true }
+        requires small { HasAtom token }
+        ensures place { self.new.place ≡ self.old.place }
+        ensures makes { (i : Interpretation) (get set : ℕ)
+            → Makes result (λ e. ShowRanked (H.shows_expr i) e (pure.atom_case token.kind (lexeme_of get set i.texts token))) }
+    {
+        let node = self.atom(token)?;
+        Ok(Ranked {
+            node,
+            rank: Rank::Head,
+            ending: Ending::Operand,
+        })
+    }
+
     /// A PrimaryExpression; the flag says whether an arrow's parameters may stand here.
     #[cycle(exprs)]
     #[tactic(auto, unfolding(grammar_parser_specs::specs::Exprs::prim_of))]

@@ -166,6 +166,7 @@ impl<H: Handler> State<H> {
         self.make_comma(first, more)
     }
 
+    /// Many are one token, which is seen by the token behind it.
     #[cycle(exprs)]
     #[tactic(auto, unfolding(grammar_parser_specs::specs::Exprs::assign_of, grammar_parser_specs::specs::Exprs::plain_of, grammar_parser_specs::specs::Exprs::assign_tail))]
     fn assign_in(
@@ -178,6 +179,11 @@ impl<H: Handler> State<H> {
         ensures { (i : Interpretation) → Reads (RankedOf (H.shows_expr i))
             (pure.assign_of (env_at i depth) with_in) source.now i self.old.place self.new.place result }
     {
+        let token = self.place.token(source);
+        if self.place.is_single(source, token) {
+            self.place.step(source);
+            return self.alone(token);
+        }
         if self.place.is_arrow_head(source) {
             return self.arrow(source, with_in, depth);
         }

@@ -24,7 +24,7 @@ fn kind_at(source: &Source, at: u32) -> Kind
 }
 
 /// The kind of the token after this one.
-fn kind_behind(source: &Source, at: u32) -> Kind
+pub(crate) fn kind_behind(source: &Source, at: u32) -> Kind
     requires { IsSource source.now }
     ensures { (i : Interpretation) → result ≡ (head_of (rest_of (front source.now i at))).kind }
 {

@@ -3,6 +3,7 @@
 ghost use Rattle.std.specs.Prelude.{◌≡◌};
 ghost use Rattle.script_grammar.specs.Kinds as test;
 ghost use Rattle.grammar_parser_specs.specs.Exprs as pure;
+ghost use Rattle.parse_exprs.specs.Alone.{ends_assign, extends_operand};
 
 use crate::precedence;
 use script_grammar::token::{Kind, mark, word};
@@ -124,6 +125,39 @@ pub fn is_update(kind: Kind) -> bool
 {
     match kind {
         Kind::Mark(index) => mark::INCREMENT <= index && index <= mark::DECREMENT,
+        _ => false,
+    }
+}
+
+/// Whether a token of this kind, behind an operand of one token, may stand in one UnaryExpression with it: a member, a call,
+/// `++` or `--`.
+pub fn extends_operand(kind: Kind) -> bool
+    ensures { result ≡ extends_operand kind }
+{
+    match kind {
+        Kind::Mark(index) => {
+            index == mark::DOT
+                || index == mark::OPEN_BRACKET
+                || index == mark::OPEN_PAREN
+                || (mark::INCREMENT <= index && index <= mark::DECREMENT)
+        }
+        _ => false,
+    }
+}
+
+/// Whether a token of this kind, behind an operand, ends the AssignmentExpression that ends with it.
+pub fn ends_assign(kind: Kind) -> bool
+    ensures { result ≡ ends_assign kind }
+{
+    match kind {
+        Kind::Mark(index) => {
+            index == mark::COMMA
+                || index == mark::CLOSE_PAREN
+                || index == mark::SEMICOLON
+                || index == mark::CLOSE_BRACKET
+                || index == mark::CLOSE_BRACE
+                || index == mark::COLON
+        }
         _ => false,
     }
 }

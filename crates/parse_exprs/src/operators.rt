@@ -53,7 +53,7 @@ impl<H: Handler> State<H> {
         })
     }
 
-    /// A UnaryExpression.
+    /// A UnaryExpression. Most are one token, which is seen by the token behind it.
     #[cycle(exprs)]
     #[tactic(auto, unfolding(grammar_parser_specs::specs::Exprs::unary_of, grammar_parser_specs::specs::Exprs::update_of))]
     fn unary(
@@ -66,6 +66,11 @@ impl<H: Handler> State<H> {
         ensures { (i : Interpretation) → Reads (RankedOf (H.shows_expr i))
             (pure.unary_of (env_at i depth) heads) source.now i self.old.place self.new.place result }
     {
+        let token = self.place.token(source);
+        if self.place.is_alone(source, token) {
+            self.place.step(source);
+            return self.alone(token);
+        }
         let kind = self.place.kind(source);
         if kinds::is_prefix(kind) || kinds::is_update(kind) {
             return self.prefix(source, depth);

@@ -1,6 +1,6 @@
 //! Where a parser stands.
 
-ghost use Rattle.std.specs.Prelude.{ℕ, List, if◌then◌else◌, ◌≡◌, ◌<◌, ◌≤◌, ◌^◌, length, true, Some};
+ghost use Rattle.std.specs.Prelude.{ℕ, List, if◌then◌else◌, ◌≡◌, ◌<◌, ◌≤◌, ◌^◌, length, true, false, Some};
 ghost use Rattle.script_grammar.specs.Matching.{partner_of};
 ghost use Rattle.script_grammar.specs.Interpretation.{Interpretation, named};
 ghost use Rattle.script_grammar.specs.Lexeme.{lexeme_of};
@@ -10,6 +10,7 @@ ghost use Rattle.grammar_parser_specs.specs.Parser.{head_of, rest_of, Turn};
 ghost use Rattle.grammar_parser_specs.specs.Exprs as pure;
 ghost use Rattle.parse_exprs.specs.declared.place.ParseFault.TheVariants.{NoMemory as OutOfMemory, TooDeep as TooDeepAt, Unexpected as UnexpectedAt};
 ghost use Rattle.parse_exprs.specs.Source.{IsSource, HasAtom, front};
+ghost use Rattle.parse_exprs.specs.Alone.{ends_assign, extends_operand};
 ghost use Rattle.parse_exprs.specs.Answers.{Reads, Refuses, records};
 ghost use Rattle.parse_exprs.specs.Ends.{end_before, end_of};
 ghost use Rattle.parse_exprs.specs.Env.{env_at};
@@ -203,6 +204,32 @@ impl Cursor {
             (head_of (rest_of (front source.now i self.now.at))) }
     {
         heads::is_param_form(source, self.at)
+    }
+
+    /// Whether this token, which stands here, is an operand, and the token behind it does not extend it.
+    pub fn is_alone(&self, source: &Source, token: Token) -> bool
+        requires { IsSource source.now }
+        ensures atom { result ≡ true → pure.is_atom token.kind ≡ true }
+        ensures end { (i : Interpretation) → result ≡ true → extends_operand (head_of (rest_of (front source.now i self.now.at))).kind ≡ false }
+    {
+        if !kinds::is_atom(token.kind) {
+            return false;
+        }
+        let behind = heads::kind_behind(source, self.at);
+        !kinds::extends_operand(behind)
+    }
+
+    /// Whether this token, which stands here, is an AssignmentExpression, since the token behind it ends one.
+    pub fn is_single(&self, source: &Source, token: Token) -> bool
+        requires { IsSource source.now }
+        ensures atom { result ≡ true → pure.is_atom token.kind ≡ true }
+        ensures end { (i : Interpretation) → result ≡ true → ends_assign (head_of (rest_of (front source.now i self.now.at))).kind ≡ true }
+    {
+        if !kinds::is_atom(token.kind) {
+            return false;
+        }
+        let behind = heads::kind_behind(source, self.at);
+        kinds::ends_assign(behind)
     }
 
     /// The fault at what is not a closing parenthesis and an arrow's mark, where only these can stand but no arrow is.

@@ -673,3 +673,9 @@ template_parts-returns-in_err-item g t c = λ i. looping_failed c.args.source.no
 
 pub unary-returns : goal.unary-returns
 unary-returns = operators.unary-returns
+
+pub unary-returns-then-is_alone : goal.unary-returns-then-is_alone
+unary-returns-then-is_alone = operators.unary-returns-then-is_alone
+
+pub assign_in-returns-then-is_single : goal.assign_in-returns-then-is_single
+assign_in-returns-then-is_single = operators.assign_in-returns-then-is_single

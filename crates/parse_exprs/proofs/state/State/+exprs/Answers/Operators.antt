@@ -1,4 +1,5 @@
 -- Operators, with assignments, conditions and `new`.
+use Rattle.parse_exprs.proofs.Alone.{alone_read, single_read}
 use Rattle.parse_exprs.proofs.Calls.{refuses_none}
 use Rattle.parse_exprs.proofs.ChainExits.{maybe_args_shown}
 use Rattle.parse_exprs.proofs.Climbing.{climb_next, climb_refused, climb_start, climb_stop, no_powers, start_refused}
@@ -10,7 +11,7 @@ use Rattle.parse_exprs.proofs.Made.{made_answers}
 use Rattle.parse_exprs.proofs.Onward.{onward, onward_false, onward_true, ranked_maps}
 use Rattle.parse_exprs.proofs.OperatorLevels.{reads_so}
 use Rattle.parse_exprs.proofs.RankFacts.{assigns_rank, begins_rank, raises_rank}
-use Rattle.parse_exprs.proofs.Steps.{handed, just, made, made_twice, read_is, refused, then, when_false, when_true}
+use Rattle.parse_exprs.proofs.Steps.{handed, just, made, made_twice, read_at, read_is, refused, then, when_false, when_true}
 use Rattle.parse_exprs.proofs.state.State.+exprs.Goals.{assign_in-then-not-is_assign_mark-via-else-not-is_assign_mark+then-not-may_be_assigned, assign_in-then-not-is_assign_mark-via-then-not-is_assign_mark, prefix-else-is_prefix, prefix-then-is_prefix}
 use Rattle.parse_exprs.specs.Answers.{Answers, records}
 use Rattle.parse_exprs.specs.Env.{env_at}
@@ -18,11 +19,11 @@ use Rattle.parse_exprs.specs.Levels.{level_with}
 use Rattle.parse_exprs.specs.Means.{Itself, RankedOf, ShowRanked}
 use Rattle.parse_exprs.specs.Ranks.{assigns, begins, raises}
 use Rattle.parse_exprs.specs.Source.{front}
-use Rattle.grammar_parser_specs.specs.Exprs.{APrefix, and_level, assign_of, assign_tail, binary_case, branches_of, chain_case, coalesce_level, cond_of, cond_tail, is_op, is_word_kind, left_of, level_of, mark_of, new_from, new_of, operands_from, or_from, or_level, plain_of, postfix_of, power_of, power_turn, prefix_of, short_circuit, unary_of, update_of, with_last}
+use Rattle.grammar_parser_specs.specs.Exprs.{APrefix, and_level, assign_of, assign_tail, atom_case, binary_case, branches_of, chain_case, coalesce_level, cond_of, cond_tail, is_atom, is_op, is_word_kind, left_of, level_of, mark_of, new_from, new_of, operands_from, or_from, or_level, plain_of, postfix_of, power_of, power_turn, prefix_of, short_circuit, unary_of, update_of, with_last}
 use Rattle.grammar_parser_specs.specs.Parser.{bind, head_of, loop}
 use Rattle.script_grammar.specs.Endings.{operands_ending}
 use Rattle.script_grammar.specs.Kinds.{is_assign_mark, is_prefix, is_update, is_word}
-use Rattle.script_grammar.specs.Lexeme.{Lexeme}
+use Rattle.script_grammar.specs.Lexeme.{Lexeme, lexeme_of}
 use Rattle.script_grammar.specs.Proper.{left_rank, rank}
 use Rattle.script_grammar.specs.Shows.{ShowOperand}
 use Rattle.script_grammar.specs.Tree.{Expr}
@@ -35,7 +36,7 @@ pub assign_in-returns : goal.assign_in-returns
 unfolding assign_of plain_of assign_tail
 assign_in-returns g t c = λ i.
     let t = c.in_ok-target.ensures i in
-    let a = rw (c.step.ensures.at i, c.step.ensures.records i) at (c.in_ok-value.ensures i) in
+    let a = rw (c.step-2.ensures.at i, c.step-2.ensures.records i) at (c.in_ok-value.ensures i) in
     let same = c.kind-kind.ensures i in
     let no_arrow = sym (c.is_arrow_head.ensures i) ∙ c.if-is_arrow_head.false in
     let is = ap is_assign_mark (sym same) ∙ sym c.is_assign_mark.ensures ∙ c.if-not-is_assign_mark.false in
@@ -62,7 +63,7 @@ assign_in-returns-in_err-value g t c = λ i.
     handed s i p e c.from_residual-in_err-value.result (RankedOf (g.H.Handler.shows_expr i)) rs _ c.from_residual-in_err-value.ensures.1
     (onward_false (Itself {A = Expr}) s i p (Err e) rs (front s i c.args.self.now.place.at) _ _ no_arrow
     (refused_behind s i p e rs _ _ t.4
-    (onward_true (Itself {A = Expr}) s i p (Err e) _ _ _ _ yes (refused s i p e _ _ _ (rw (c.step.ensures.at i, c.step.ensures.records i) at (c.in_err-value.ensures i))))))
+    (onward_true (Itself {A = Expr}) s i p (Err e) _ _ _ _ yes (refused s i p e _ _ _ (rw (c.step-2.ensures.at i, c.step-2.ensures.records i) at (c.in_err-value.ensures i))))))
 
 pub assign_in-returns-then-is_arrow_head : goal.assign_in-returns-then-is_arrow_head
 unfolding assign_of
@@ -319,3 +320,31 @@ unary-returns g t c = λ i.
     onward_false (RankedOf shows) s i p o rs ts _ _ (ap (λ b. b || is_update (head_of ts).kind) no_prefix ∙ no_update)
     (subst (λ (x : Lexeme). Answers (RankedOf shows) s i p o rs (bind (left_of (env_at i c.args.depth) c.args.heads) (postfix_of x.start) ts)) (c.token-at.ensures.lexeme i)
     (onward (RankedOf shows) s i p o rs _ (postfix_of c.token-at.result.start) (ranked_maps shows) a.4 (c.postfix.ensures i a.0 a.1 a.2 a.3)))
+
+pub unary-returns-then-is_alone : goal.unary-returns-then-is_alone
+unary-returns-then-is_alone g t c = λ i.
+    let shows = g.H.Handler.shows_expr i in
+    let s = c.args.source.now in
+    let token = c.token-token.result in
+    let same = c.token-token.ensures.lexeme i in
+    let l = head_of (front s i c.args.self.now.place.at) in
+    let is = ap (λ (x : Lexeme). is_atom x.kind) (sym same) ∙ c.is_alone.ensures.atom c.if-is_alone.true in
+    let ends = c.is_alone.ensures.end i c.if-is_alone.true in
+    made_answers (RankedOf shows) (λ e. ShowRanked shows e (atom_case token.kind (lexeme_of s.get s.set i.texts token))) s i c.alone.new.self.place c.alone.result (records s i c.args.self.now.place) _ (c.alone.ensures.makes i s.get s.set)
+    (λ e p.
+    let shown = subst (λ (x : Lexeme). ShowRanked shows e (atom_case x.kind x)) same p in
+    (atom_case l.kind l, shown.0, shown.1, shown.2, rw c.alone.ensures.place (read_at (alone_read _ _ _ _ is ends) (c.step.ensures.records i) (c.step.ensures.at i))))
+
+pub assign_in-returns-then-is_single : goal.assign_in-returns-then-is_single
+assign_in-returns-then-is_single g t c = λ i.
+    let shows = g.H.Handler.shows_expr i in
+    let s = c.args.source.now in
+    let token = c.token-token.result in
+    let same = c.token-token.ensures.lexeme i in
+    let l = head_of (front s i c.args.self.now.place.at) in
+    let is = ap (λ (x : Lexeme). is_atom x.kind) (sym same) ∙ c.is_single.ensures.atom c.if-is_single.true in
+    let ends = c.is_single.ensures.end i c.if-is_single.true in
+    made_answers (RankedOf shows) (λ e. ShowRanked shows e (atom_case token.kind (lexeme_of s.get s.set i.texts token))) s i c.alone.new.self.place c.alone.result (records s i c.args.self.now.place) _ (c.alone.ensures.makes i s.get s.set)
+    (λ e p.
+    let shown = subst (λ (x : Lexeme). ShowRanked shows e (atom_case x.kind x)) same p in
+    (atom_case l.kind l, shown.0, shown.1, shown.2, rw c.alone.ensures.place (read_at (single_read _ _ _ _ is ends) (c.step.ensures.records i) (c.step.ensures.at i))))

@@ -14,7 +14,7 @@ use holzikra_words::{CheckOptions, Format, Unsupported};
 use std::alloc::{AllocError, Global};
 
 /// How refusals are shown, and which count.
-#[derive(Debug, Clone, Copy)]
+#[derive(Clone, Copy)]
 pub(crate) struct Showing {
     pub(crate) format: Format,
     pub(crate) unsupported: Unsupported,
@@ -23,7 +23,7 @@ pub(crate) struct Showing {
 }
 
 /// What was said so far.
-#[derive(Debug, Drop)]
+#[derive(Drop)]
 pub(crate) struct Said {
     /// How many refusals were shown.
     pub(crate) shown: u64,

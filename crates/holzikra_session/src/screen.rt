@@ -26,7 +26,7 @@ pub struct Terminals {
 }
 
 /// Where the program runs.
-#[derive(Debug, Clone, Copy, PartialEq, Eq)]
+#[derive(Clone, Copy, PartialEq, Eq)]
 pub(crate) struct Surroundings {
     pub(crate) terminals: Terminals,
     /// The user wants no colours (`NO_COLOR`).

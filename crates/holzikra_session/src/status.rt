@@ -35,7 +35,7 @@ impl Status {
 }
 
 /// What was seen so far.
-#[derive(Debug, Clone, Copy)]
+#[derive(Clone, Copy)]
 pub(crate) struct Tally {
     /// Files that are scripts without errors.
     pub(crate) scripts: u64,

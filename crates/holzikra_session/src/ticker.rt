@@ -8,7 +8,7 @@ use std::time::{Duration, Instant};
 const PAUSE_MILLIS: u64 = 200;
 
 /// How far a command is.
-#[derive(Debug, Clone, Copy)]
+#[derive(Clone, Copy)]
 pub(crate) struct Ticker {
     /// Whether it is shown at all.
     active: bool,

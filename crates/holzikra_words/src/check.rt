@@ -8,7 +8,7 @@ use clap::{Arg, ArgMatches, Command};
 use std::alloc::{AllocError, Global};
 
 /// How the answers are written.
-#[derive(Clone, Copy, Debug, PartialEq, Eq)]
+#[derive(Clone, Copy, PartialEq, Eq)]
 pub enum Format {
     /// For a person, with the line of each place.
     Human,
@@ -21,7 +21,7 @@ pub enum Format {
 }
 
 /// What becomes of a file that is refused for a form that no script of the profile has.
-#[derive(Clone, Copy, Debug, PartialEq, Eq)]
+#[derive(Clone, Copy, PartialEq, Eq)]
 pub enum Unsupported {
     /// It is shown, and counts as a refusal.
     Error,
@@ -32,7 +32,7 @@ pub enum Unsupported {
 }
 
 /// What `check` is asked for.
-#[derive(Debug, Drop)]
+#[derive(Drop)]
 pub struct CheckOptions {
     pub files: FileOptions,
     pub format: Format,

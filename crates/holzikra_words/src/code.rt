@@ -8,7 +8,7 @@ use clap::{ArgMatches, Command};
 use std::alloc::{AllocError, Global};
 
 /// How code is listed.
-#[derive(Clone, Copy, Debug, PartialEq, Eq)]
+#[derive(Clone, Copy, PartialEq, Eq)]
 pub enum CodeFormat {
     /// With notes, for a person.
     Human,
@@ -19,7 +19,7 @@ pub enum CodeFormat {
 }
 
 /// What `code` is asked for.
-#[derive(Debug, Drop)]
+#[derive(Drop)]
 pub struct CodeOptions {
     pub files: FileOptions,
     pub format: CodeFormat,

@@ -6,7 +6,7 @@ use clap::{Arg, ArgMatches, Command};
 use std::alloc::{AllocError, Global};
 
 /// How differences are written.
-#[derive(Clone, Copy, Debug, PartialEq, Eq)]
+#[derive(Clone, Copy, PartialEq, Eq)]
 pub enum DiffFormat {
     /// The lines around each change, for a person.
     Human,
@@ -15,7 +15,7 @@ pub enum DiffFormat {
 }
 
 /// What `diff` is asked for.
-#[derive(Debug, Drop)]
+#[derive(Drop)]
 pub struct DiffOptions {
     /// The files of both scripts or images, or `-` for standard input, as they were written. At most one of them is `-`.
     pub old: String,

@@ -6,7 +6,7 @@ use clap::{ArgMatches, Command};
 use std::alloc::{AllocError, Global};
 
 /// What `explain` is to say.
-#[derive(Debug, Drop)]
+#[derive(Drop)]
 pub struct ExplainOptions {
     /// The codes that are meant, as they were written; all where there is none.
     pub codes: Vec<String>,

@@ -5,7 +5,7 @@ use clap::{Arg, ArgMatches, Command};
 use std::alloc::{AllocError, Global};
 
 /// Which files a command is about.
-#[derive(Debug, Drop)]
+#[derive(Drop)]
 pub struct FileOptions {
     /// Files, folders, and `-` for standard input, as they were written.
     pub paths: Vec<String>,

@@ -5,7 +5,7 @@ use clap::{ArgMatches, Command};
 use std::alloc::{AllocError, Global};
 
 /// How functions of a script are named.
-#[derive(Debug, Drop)]
+#[derive(Drop)]
 pub enum FunctionName {
     /// That of this number; 0 is the script itself.
     Number(u32),
@@ -16,7 +16,7 @@ pub enum FunctionName {
 }
 
 /// Functions of a script as they are asked for.
-#[derive(Debug, Drop)]
+#[derive(Drop)]
 pub struct FunctionWord {
     pub name: FunctionName,
     /// With the functions inside them.

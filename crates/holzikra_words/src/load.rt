@@ -7,7 +7,7 @@ use clap::{ArgMatches, Command};
 use std::alloc::{AllocError, Global};
 
 /// How the code of an image is listed.
-#[derive(Clone, Copy, Debug, PartialEq, Eq)]
+#[derive(Clone, Copy, PartialEq, Eq)]
 pub enum LoadFormat {
     /// With notes.
     Human,
@@ -18,7 +18,7 @@ pub enum LoadFormat {
 }
 
 /// What `load` is asked for.
-#[derive(Debug, Drop)]
+#[derive(Drop)]
 pub struct LoadOptions {
     pub files: FileOptions,
     pub format: LoadFormat,

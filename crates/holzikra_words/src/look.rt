@@ -5,7 +5,7 @@ use clap::{Arg, ArgMatches, Command};
 use std::alloc::{AllocError, Global};
 
 /// When what is printed for a person has colours.
-#[derive(Clone, Copy, Debug, PartialEq, Eq)]
+#[derive(Clone, Copy, PartialEq, Eq)]
 pub enum Colors {
     /// On a terminal that shows them, where no one asked for none.
     Auto,
@@ -18,7 +18,7 @@ pub enum Colors {
 static COLORS: [&str; 3] = ["auto", "always", "never"];
 
 /// How what is printed looks.
-#[derive(Clone, Copy, Debug, PartialEq, Eq)]
+#[derive(Clone, Copy, PartialEq, Eq)]
 pub struct Look {
     pub colors: Colors,
     /// No summary, and not how far the command is.

@@ -8,7 +8,7 @@ use clap::{Arg, ArgMatches, Command};
 use std::alloc::{AllocError, Global};
 
 /// What `report` is asked for.
-#[derive(Debug, Drop)]
+#[derive(Drop)]
 pub struct ReportOptions {
     pub files: FileOptions,
     /// The functions that are meant; all where there is none.

@@ -5,7 +5,7 @@ use clap::{Arg, ArgMatches, Command};
 use std::alloc::{AllocError, Global};
 
 /// What `save` is asked for.
-#[derive(Debug, Drop)]
+#[derive(Drop)]
 pub struct SaveOptions {
     /// The file of the script, or `-` for standard input, as it was written.
     pub file: String,

@@ -8,7 +8,7 @@ use clap::{ArgMatches, Command};
 use std::alloc::{AllocError, Global};
 
 /// How scopes are drawn.
-#[derive(Clone, Copy, Debug, PartialEq, Eq)]
+#[derive(Clone, Copy, PartialEq, Eq)]
 pub enum ScopesFormat {
     /// As a tree, for a person.
     Human,
@@ -21,7 +21,7 @@ pub enum ScopesFormat {
 }
 
 /// What `scopes` is asked for.
-#[derive(Debug, Drop)]
+#[derive(Drop)]
 pub struct ScopesOptions {
     pub files: FileOptions,
     pub format: ScopesFormat,

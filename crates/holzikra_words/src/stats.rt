@@ -8,7 +8,7 @@ use clap::{Arg, ArgMatches, Command};
 use std::alloc::{AllocError, Global};
 
 /// How counts are written.
-#[derive(Clone, Copy, Debug, PartialEq, Eq)]
+#[derive(Clone, Copy, PartialEq, Eq)]
 pub enum StatsFormat {
     /// As a table, for a person.
     Human,
@@ -17,7 +17,7 @@ pub enum StatsFormat {
 }
 
 /// What the lines of the table are sorted by.
-#[derive(Clone, Copy, Debug, PartialEq, Eq)]
+#[derive(Clone, Copy, PartialEq, Eq)]
 pub enum Column {
     /// The names of the files.
     File,
@@ -31,7 +31,7 @@ pub enum Column {
 }
 
 /// What `stats` is asked for.
-#[derive(Debug, Drop)]
+#[derive(Drop)]
 pub struct StatsOptions {
     pub files: FileOptions,
     pub format: StatsFormat,

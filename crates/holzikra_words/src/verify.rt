@@ -7,7 +7,7 @@ use clap::{ArgMatches, Command};
 use std::alloc::{AllocError, Global};
 
 /// How verdicts on images are written.
-#[derive(Clone, Copy, Debug, PartialEq, Eq)]
+#[derive(Clone, Copy, PartialEq, Eq)]
 pub enum VerifyFormat {
     /// A line for a person.
     Human,
@@ -16,7 +16,7 @@ pub enum VerifyFormat {
 }
 
 /// What `verify` is asked for.
-#[derive(Debug, Drop)]
+#[derive(Drop)]
 pub struct VerifyOptions {
     pub files: FileOptions,
     pub format: VerifyFormat,

@@ -18,7 +18,7 @@ use clap::{ArgMatches, Command, Error};
 use std::alloc::{AllocError, Global};
 
 /// What `holzikra` is asked to do.
-#[derive(Debug, Drop)]
+#[derive(Drop)]
 pub enum Request {
     /// Say of each file whether it is a script without errors.
     Check(CheckOptions),

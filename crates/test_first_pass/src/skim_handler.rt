@@ -140,8 +140,8 @@ fn a_name_stands_before_parts(rt: HostRuntime) -> Result<(), Fail> {
     let mut handler = Skimming::new(rt.alloc());
     let target = handler.make_name(Ident { atom: 9, at: 0 })?;
     let value = used(rt.alloc(), &mut handler)?;
-    let node = handler.make_assign(0, target, value)?;
-    match node.whole().told {
+    let whole = handler.make_assign(0, target, value)?.whole();
+    match &whole.told {
         Told::Parts(parts) => {
             assert_eq!(rt; parts.pieces.len(), 4);
             assert_eq!(rt; used_at(&parts.pieces, 0), 9);

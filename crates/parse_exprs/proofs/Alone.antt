@@ -78,7 +78,7 @@ no_tails v e rs us h = record {
       ∙ (just rs e us).is;
 }
 
--- An operand of one token, which the token behind it does not extend, is read as a UnaryExpression.
+-- An operand of one token, which the token after it does not extend, is read as a UnaryExpression.
 pub alone_read : (v : Env) (heads : Bool) (rs : List Recorded) (ts : List Lexeme) → is_atom (head_of ts).kind ≡ true → extends_operand (head_of (rest_of ts)).kind ≡ false
     → ReadAs rs (unary_of v heads ts) (atom_case (head_of ts).kind (head_of ts)) rs (rest_of ts)
 unfolding unary_of update_of left_of new_or_prim prim_of postfix_of
@@ -147,7 +147,7 @@ no_arrow kind.Bad a b c h e = refl
 no_arrow kind.End a b c h e = refl
 
 module _ (v : Env) (w : Bool) (rs : List Recorded) (ts : List Lexeme) (is : is_atom (head_of ts).kind ≡ true) where
-  -- behind a token of this kind
+  -- before a token of this kind
   single : (k : Kind) → (head_of (rest_of ts)).kind ≡ k → ends_assign k ≡ true → ReadAs rs (assign_of v w ts) (atom_case (head_of ts).kind (head_of ts)) rs (rest_of ts)
   unfolding assign_of plain_of cond_of cond_tail assign_tail is_arrow_head power_of
   single (kind.Mark m) same h =
@@ -171,6 +171,6 @@ module _ (v : Env) (w : Bool) (rs : List Recorded) (ts : List Lexeme) (is : is_a
   single kind.Bad same h = absurd (cc)
   single kind.End same h = absurd (cc)
 
-  -- An operand of one token is an AssignmentExpression where the token behind it ends one.
+  -- An operand of one token is an AssignmentExpression where the token after it ends one.
   pub single_read : ends_assign (head_of (rest_of ts)).kind ≡ true → ReadAs rs (assign_of v w ts) (atom_case (head_of ts).kind (head_of ts)) rs (rest_of ts)
   single_read h = single (head_of (rest_of ts)).kind refl h

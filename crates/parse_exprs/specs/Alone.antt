@@ -4,7 +4,7 @@ use Rattle.script_grammar.specs.declared.token.Kind.{Kind}
 use Rattle.script_grammar.specs.declared.token.mark.TheConstants as mark
 use Rattle.script_grammar.specs.Kinds.{is_mark, is_update, mark_with}
 
--- a token that may stand behind an operand of one token in one UnaryExpression with it
+-- a token that may stand after an operand of one token in one UnaryExpression with it
 abbrev pub extends_operand : Kind → Bool
 extends_operand k = is_mark mark.DOT k || (is_mark mark.OPEN_BRACKET k || (is_mark mark.OPEN_PAREN k || is_update k))
 

@@ -166,7 +166,7 @@ impl<H: Handler> State<H> {
         self.make_comma(first, more)
     }
 
-    /// Many are one token, which is seen by the token behind it.
+    /// Many are one token, which the token after it shows.
     #[cycle(exprs)]
     #[tactic(auto, unfolding(grammar_parser_specs::specs::Exprs::assign_of, grammar_parser_specs::specs::Exprs::plain_of, grammar_parser_specs::specs::Exprs::assign_tail))]
     fn assign_in(

@@ -129,7 +129,7 @@ pub fn is_update(kind: Kind) -> bool
     }
 }
 
-/// Whether a token of this kind, behind an operand of one token, may stand in one UnaryExpression with it: a member, a call,
+/// Whether a token of this kind, after an operand of one token, may stand in one UnaryExpression with it: a member, a call,
 /// `++` or `--`.
 pub fn extends_operand(kind: Kind) -> bool
     ensures { result ≡ extends_operand kind }
@@ -145,7 +145,7 @@ pub fn extends_operand(kind: Kind) -> bool
     }
 }
 
-/// Whether a token of this kind, behind an operand, ends the AssignmentExpression that ends with it.
+/// Whether a token of this kind, after an operand, ends the AssignmentExpression that ends with it.
 pub fn ends_assign(kind: Kind) -> bool
     ensures { result ≡ ends_assign kind }
 {

@@ -53,7 +53,7 @@ impl<H: Handler> State<H> {
         })
     }
 
-    /// A UnaryExpression. Most are one token, which is seen by the token behind it.
+    /// A UnaryExpression. Most are one token, which the token after it shows.
     #[cycle(exprs)]
     #[tactic(auto, unfolding(grammar_parser_specs::specs::Exprs::unary_of, grammar_parser_specs::specs::Exprs::update_of))]
     fn unary(

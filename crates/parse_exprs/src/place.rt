@@ -206,7 +206,7 @@ impl Cursor {
         heads::is_param_form(source, self.at)
     }
 
-    /// Whether this token, which stands here, is an operand, and the token behind it does not extend it.
+    /// Whether this token, which stands here, is an operand, and the token after it does not extend it.
     pub fn is_alone(&self, source: &Source, token: Token) -> bool
         requires { IsSource source.now }
         ensures atom { result ≡ true → pure.is_atom token.kind ≡ true }
@@ -219,7 +219,7 @@ impl Cursor {
         !kinds::extends_operand(behind)
     }
 
-    /// Whether this token, which stands here, is an AssignmentExpression, since the token behind it ends one.
+    /// Whether this token, which stands here, is an AssignmentExpression, since the token after it ends one.
     pub fn is_single(&self, source: &Source, token: Token) -> bool
         requires { IsSource source.now }
         ensures atom { result ≡ true → pure.is_atom token.kind ≡ true }

@@ -146,9 +146,11 @@ fn find(alloc: Global, parts: &mut Parts, found: FoundFunction) -> Result<(), Al
     ensures pieces { OnOk result (parts.new.pieces.items ≡ parts.old.pieces.items) }
     ensures found { OnOk result (parts.new.found.items ≡ parts.old.found.items ++ (found ∷ [])) }
 {
-    let mut one = Vec::with_capacity(alloc, 1)?;
-    one.push(found)?;
-    find_all(parts, one)?;
+    let others: &[FoundFunction] = &parts.found;
+    if others.is_empty() {
+        parts.found = Vec::with_capacity(alloc, 1)?;
+    }
+    parts.found.push(found)?;
     Ok(())
 }
 

@@ -21,7 +21,7 @@ pub(crate) fn flush(out: &mut Vec<u8>, chunk: &mut Chunk) -> Result<(), AllocErr
 
 /// Appends the chunk to the list, and bytes after it.
 #[cold]
-fn put_behind(out: &mut Vec<u8>, chunk: &mut Chunk, bytes: &[u8]) -> Result<(), AllocError>
+fn flush_and_append(out: &mut Vec<u8>, chunk: &mut Chunk, bytes: &[u8]) -> Result<(), AllocError>
     ensures { OnOk result (out.new.items ++ chunk.new.items ≡ (out.old.items ++ chunk.old.items) ++ bytes.now) }
 {
     flush(out, chunk)?;
@@ -37,7 +37,7 @@ pub(crate) fn put(out: &mut Vec<u8>, chunk: &mut Chunk, bytes: &[u8]) -> Result<
     if chunk.try_extend_from_slice(bytes).is_ok() {
         return Ok(());
     }
-    put_behind(out, chunk, bytes)
+    flush_and_append(out, chunk, bytes)
 }
 
 /// Puts a byte after the chunk.
@@ -48,5 +48,5 @@ pub(crate) fn put_byte(out: &mut Vec<u8>, chunk: &mut Chunk, byte: u8) -> Result
     if chunk.try_push(byte).is_ok() {
         return Ok(());
     }
-    put_behind(out, chunk, &[byte])
+    flush_and_append(out, chunk, &[byte])
 }

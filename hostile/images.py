@@ -2,7 +2,7 @@
 import random
 import struct
 
-DECLARATIONS, RETURN = 0x6F, 0x64
+DECLARATIONS, RETURN, ONE, POP = 0x6F, 0x64, 0x05, 0x70
 VAR, GLOBAL_SLOT = 1, 0
 
 
@@ -42,6 +42,17 @@ def image(names=(), code=None, notes=()):
         code = bytes([DECLARATIONS, 0, 0, 0, 0, RETURN])
     top = function_part(0, [global_scope(len(names))], code, notes)
     return b"STN1" + items([text(name) for name in names]) + top + items([])
+
+
+def note(start, end, depth):
+    return number(8, start) + number(8, end) + number(4, depth)
+
+
+def many_notes(count):
+    """The image of as many pairs of a One and a Pop as try notes, most of them around most of the code, and every second one too deep."""
+    size = 2 * count
+    notes = [note(n, size - n % 3 * 2, n % 2 * 2) for n in range(count)]
+    return image(code=bytes([ONE, POP]) * count + bytes([RETURN]), notes=notes)
 
 
 def damaged(whole, seed, count):

@@ -10,8 +10,6 @@
 ghost use Rattle.std.specs.Prelude.{◌≤◌};
 
 mod names;
-#[cfg(test)]
-mod tests;
 mod workers;
 
 use anyhow::{Context, Result, ensure};
@@ -22,9 +20,9 @@ use std::hash::RandomState;
 use std::random::RandomSource;
 use std::rt::{Clock, Env};
 use std::thread::Threads;
-use std::time::Instant;
+use std::time::{Duration, Instant};
 use std::{env, io};
-use workers::{counted, interned};
+use workers::{Tally, counted, interned};
 
 /// So that the list of names, each twice, stays below 2^28.
 const MOST_NAMES: u32 = 100_000_000;
@@ -61,6 +59,45 @@ fn read_options<R: Env + AllocGlobal>(rt: &R) -> Result<Options> {
     Ok(Options { names, rates })
 }
 
+// Interns the names by 2 to the power `halvings` threads, and times that.
+fn run<R: Threads + Sync + Clock>(
+    rt: &R,
+    alloc: Global,
+    list: TextList,
+    halvings: u32,
+) -> Result<(Tally, Duration)> {
+    let count = list.count();
+    let (table, desk) = AtomTable::new(alloc, list)?;
+    let start = Instant::now(rt)?;
+    let (_desk, atoms) = interned(rt, alloc, &table, desk, 0, count, halvings)?;
+    let time = start.elapsed(rt)?;
+    let tally = counted(alloc, &table, atoms.as_slice())?;
+    Ok((tally, time))
+}
+
+// Prints how many atoms and probes n names took.
+fn print_tally<R: Print>(
+    rt: &R,
+    spelling: Spelling,
+    threads: u32,
+    count: u32,
+    tally: Tally,
+) -> Result<()> {
+    println!(rt;
+        "{spelling:?}, threads {threads}: {count} names, {} atoms, {} probes",
+        tally.atoms, tally.probes
+    )?;
+    Ok(())
+}
+
+// Prints how many of n names were interned in a second.
+fn print_rate<R: Print>(rt: &R, count: u32, time: Duration) -> Result<()> {
+    let micros = time.as_micros().max(1);
+    let rate = u128::from(count) * 1_000_000 / micros;
+    println!(rt; "{rate} names a second")?;
+    Ok(())
+}
+
 // Interns the names by 2 to the power `halvings` threads, and prints what came of it.
 fn measure<R: Threads + Sync + Clock + Print>(
     rt: &R,
@@ -71,20 +108,11 @@ fn measure<R: Threads + Sync + Clock + Print>(
 ) -> Result<()> {
     let list = doubled_names(alloc, RandomState::new(&Zeros)?, spelling, options.names)?;
     let count = list.count();
-    let (table, desk) = AtomTable::new(alloc, list)?;
-    let start = Instant::now(rt)?;
-    let (_desk, atoms) = interned(rt, alloc, &table, desk, 0, count, halvings)?;
-    let time = start.elapsed(rt)?;
-    let tally = counted(alloc, &table, atoms.as_slice())?;
+    let (tally, time) = run(rt, alloc, list, halvings)?;
     let threads = 1u32 << (halvings % 32);
-    println!(rt;
-        "{spelling:?}, threads {threads}: {count} names, {} atoms, {} probes",
-        tally.atoms, tally.probes
-    )?;
+    print_tally(rt, spelling, threads, count, tally)?;
     if options.rates {
-        let micros = time.as_micros().max(1);
-        let rate = u128::from(count) * 1_000_000 / micros;
-        println!(rt; "{rate} names a second")?;
+        print_rate(rt, count, time)?;
     }
     Ok(())
 }

@@ -3,13 +3,13 @@ ghost use Rattle.std.specs.Prelude.{◌≤◌, length};
 
 use anyhow::{Result, bail};
 use parser_atoms::Atoms;
-use script_grammar::token::Token;
+use script_grammar::compact::CompactToken;
 use script_scanner::{scan, scan_ascii};
 use std::alloc::Global;
 use unit_text::decode;
 
 /// The tokens of a text, and the texts that their atoms index. A text of ASCII is scanned as bytes, any other is decoded first.
-pub fn tokens_of(alloc: Global, bytes: &[u8]) -> Result<(Vec<Token>, Atoms)>
+pub fn tokens_of(alloc: Global, bytes: &[u8]) -> Result<(Vec<CompactToken>, Atoms)>
     requires { length bytes.now ≤ 16777215 }
 {
     let mut atoms = Atoms::new(alloc);

@@ -38,14 +38,15 @@ pub fn shown(alloc: Global, text: &str) -> Result<String> {
     }
     let (tokens, atoms) = tokens_of(alloc, text.as_bytes())?;
     let mut line = String::new(alloc);
-    for token in &tokens {
+    for found in &tokens {
+        let token = found.get();
         if !line.is_empty() {
             line.push(' ')?;
         }
         if token.after_line {
             line.push('^')?;
         }
-        push_token(&mut line, token, &atoms)?;
+        push_token(&mut line, &token, &atoms)?;
     }
     Ok(line)
 }

@@ -1,11 +1,12 @@
 // Code that grows by instructions.
-ghost use Rattle.std.specs.Prelude.{◌≡◌, ℕ, ◌+◌, ◌^◌, ◌<◌, ◌≤◌, ◌++◌, [], List, length, true, false, OnOk, OnErr, IfOk, IsTrue, ◌↔◌};
+ghost use Rattle.std.specs.Prelude.{◌≡◌, ℕ, ◌+◌, ◌^◌, ◌<◌, ◌≤◌, ◌∷◌, ◌++◌, [], List, length, true, false, OnOk, OnErr, IfOk, IsTrue, ◌↔◌};
 ghost use Rattle.bytecode_buf.specs.Bytes.{le_bytes, written};
 ghost use Rattle.bytecode_buf.specs.Layout.{laid, distance_bits};
+ghost use Rattle.bytecode_buf.specs.Table.{number_of};
 ghost use Rattle.bytecode_buf.specs.Width.{first_of, second_of, is_jump};
 
 use crate::little_endian::write_number;
-use crate::opcode::Op;
+use crate::opcode::{Op, Shape};
 use std::alloc::{AllocError, Global};
 use std::marker::Model;
 
@@ -21,6 +22,38 @@ impl Model for CodeBuf {
     ghost Value = { List ℕ };
 
     ghost view = { λ c. c.bytes.items };
+}
+
+// The byte of an opcode, and after it all bytes of a number, of which an operand has as many as its width says.
+#[inline]
+fn piece(op: Op, a: u64) -> [u8; 9]
+    ensures { result ≡ number_of op ∷ le_bytes 8 a }
+{
+    [
+        op.byte(),
+        (a % 256) as u8,
+        (a / 256 % 256) as u8,
+        (a / 256 / 256 % 256) as u8,
+        (a / 256 / 256 / 256 % 256) as u8,
+        (a / 256 / 256 / 256 / 256 % 256) as u8,
+        (a / 256 / 256 / 256 / 256 / 256 % 256) as u8,
+        (a / 256 / 256 / 256 / 256 / 256 / 256 % 256) as u8,
+        (a / 256 / 256 / 256 / 256 / 256 / 256 / 256 % 256) as u8,
+    ]
+}
+
+// The byte of an opcode, and after it the hops and the slot of an aliased operand.
+fn aliased_piece(op: Op, hops: u64, slot: u64) -> [u8; 6]
+    ensures { result ≡ number_of op ∷ le_bytes 2 hops ++ le_bytes 3 slot }
+{
+    [
+        op.byte(),
+        (hops % 256) as u8,
+        (hops / 256 % 256) as u8,
+        (slot % 256) as u8,
+        (slot / 256 % 256) as u8,
+        (slot / 256 / 256 % 256) as u8,
+    ]
 }
 
 impl CodeBuf {
@@ -60,14 +93,12 @@ impl CodeBuf {
         ensures ok { OnOk result (self.new ≡ self.old ++ laid (record { op = op; a = a; b = b })) }
         ensures err { OnErr result (self.new ≡ self.old) }
     {
-        let shape = op.row().shape;
-        let first = shape.first_width();
-        let second = shape.second_width();
-        let mut piece = [0u8; 9];
-        piece[0] = op.byte();
-        write_number(&mut piece, 1, first, a);
-        write_number(&mut piece, 1 + first, second, b);
-        self.bytes.extend_from_slice(&piece[..1 + first + second])
+        let shape = op.shape();
+        if let Shape::Aliased = shape {
+            return self.bytes.extend_from_slice(&aliased_piece(op, a, b));
+        }
+        self.bytes
+            .extend_from_slice(&piece(op, a)[..1 + shape.first_width()])
     }
 
     /// Appends an instruction that is no jump, whose operands fit their widths. `b` is the slot of an

@@ -1,7 +1,7 @@
 // The table of the opcodes: the byte of each is its place in `Op`.
 ghost use Rattle.std.specs.Prelude.{◌≡◌, slice_get};
 ghost use Rattle.bytecode_buf.specs.Table.{number_of, op_at, row_of};
-ghost use Rattle.bytecode_buf.specs.Width.{first_width, second_width, is_jump_shape, is_jump};
+ghost use Rattle.bytecode_buf.specs.Width.{first_width, second_width, is_jump_shape, is_jump, shape_of};
 
 /// An opcode. Its byte is its place in this list, from 0.
 ///
@@ -323,6 +323,7 @@ fn make_row(shape: Shape, pops: Count, pushes: Count) -> OpRow
 
 impl Shape {
     /// The width of the operand in bytes.
+    #[inline]
     pub fn first_width(self) -> usize
         ensures { result ≡ first_width self }
     {
@@ -345,6 +346,7 @@ impl Shape {
     }
 
     /// The width of a second operand in bytes, which only an aliased one has.
+    #[inline]
     pub fn second_width(self) -> usize
         ensures { result ≡ second_width self }
     {
@@ -367,6 +369,7 @@ impl Shape {
     }
 
     /// Whether the operand is a jump's distance.
+    #[inline]
     pub fn is_jump(self) -> bool
         ensures { result ≡ is_jump_shape self }
     {
@@ -537,10 +540,132 @@ impl Op {
         }
     }
 
+    /// What stands after the opcode's byte: the first column of its row.
+    pub fn shape(self) -> Shape
+        ensures { result ≡ shape_of self }
+    {
+        match self {
+            Op::Undefined
+            | Op::Null
+            | Op::False
+            | Op::True
+            | Op::Zero
+            | Op::One
+            | Op::Hole
+            | Op::Uninitialized
+            | Op::Callee
+            | Op::FunctionThis
+            | Op::GlobalThis
+            | Op::Arguments
+            | Op::IsConstructing
+            | Op::NewInit
+            | Op::Exception
+            | Op::Pos
+            | Op::Neg
+            | Op::BitNot
+            | Op::Not
+            | Op::Typeof
+            | Op::TypeofExpr
+            | Op::Void
+            | Op::Inc
+            | Op::Dec
+            | Op::ToNumeric
+            | Op::ToPropertyKey
+            | Op::ToString
+            | Op::Add
+            | Op::Sub
+            | Op::Mul
+            | Op::Div
+            | Op::Mod
+            | Op::Pow
+            | Op::BitOr
+            | Op::BitXor
+            | Op::BitAnd
+            | Op::Lsh
+            | Op::Rsh
+            | Op::Ursh
+            | Op::Eq
+            | Op::Ne
+            | Op::StrictEq
+            | Op::StrictNe
+            | Op::Lt
+            | Op::Le
+            | Op::Gt
+            | Op::Ge
+            | Op::In
+            | Op::Instanceof
+            | Op::GetElem
+            | Op::StrictDelElem
+            | Op::InitElem
+            | Op::InitElemGetter
+            | Op::InitElemSetter
+            | Op::MutateProto
+            | Op::StrictSetElem
+            | Op::JumpTarget
+            | Op::LoopHead
+            | Op::Return
+            | Op::SetRval
+            | Op::RetRval
+            | Op::Throw
+            | Op::Try
+            | Op::Iter
+            | Op::MoreIter
+            | Op::IsNoIter
+            | Op::EndIter
+            | Op::Debugger
+            | Op::PopLexicalEnv
+            | Op::FreshenLexicalEnv
+            | Op::Pop
+            | Op::Dup
+            | Op::Dup2
+            | Op::Swap
+            | Op::Rest => Shape::Nothing,
+            Op::Int8 => Shape::Whole8,
+            Op::Uint16 => Shape::Whole16,
+            Op::Uint24 => Shape::Whole24,
+            Op::Int32 => Shape::Whole32,
+            Op::Double => Shape::Whole64,
+            Op::String
+            | Op::GetGName
+            | Op::BindGName
+            | Op::StrictSetGName
+            | Op::InitGLexical
+            | Op::ThrowSetConst
+            | Op::InitProp
+            | Op::InitPropGetter
+            | Op::InitPropSetter
+            | Op::GetProp
+            | Op::StrictSetProp
+            | Op::StrictDelProp => Shape::Atom,
+            Op::GetArg | Op::SetArg => Shape::Arg,
+            Op::GetLocal | Op::SetLocal | Op::InitLexical | Op::CheckLexical => Shape::Slot,
+            Op::GetAliasedVar
+            | Op::SetAliasedVar
+            | Op::InitAliasedLexical
+            | Op::CheckAliasedLexical => Shape::Aliased,
+            Op::NewArray
+            | Op::InitElemArray
+            | Op::Lambda
+            | Op::PushLexicalEnv
+            | Op::GlobalOrEvalDeclInstantiation
+            | Op::PushVarEnv => Shape::Num,
+            Op::Call | Op::New => Shape::Argc,
+            Op::Pick | Op::Unpick => Shape::Place,
+            Op::Goto
+            | Op::JumpIfFalse
+            | Op::JumpIfTrue
+            | Op::And
+            | Op::Or
+            | Op::Coalesce
+            | Op::Case
+            | Op::Default => Shape::Jump,
+        }
+    }
+
     /// Whether the instruction is a jump.
     pub fn is_jump(self) -> bool
         ensures { result ≡ is_jump self }
     {
-        self.row().shape.is_jump()
+        self.shape().is_jump()
     }
 }

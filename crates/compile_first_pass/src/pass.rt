@@ -16,7 +16,7 @@ use parse_exprs::place::ParseFault;
 use parse_function_list::{ListedFunction, functions_of};
 use parse_script::{FileTokens, read_script, tokens_of};
 use parse_track::region::{ClosedAt, WellKnownAtoms};
-use script_grammar::token::Token;
+use script_grammar::compact::CompactToken;
 use std::alloc::{AllocError, Global};
 use unit_text::DecodeFault;
 
@@ -75,12 +75,12 @@ pub enum FirstPass {
 }
 
 /// The offset where the token of this number starts; 0 after the last one.
-pub fn start_of(tokens: &[Token], token: u32) -> u32
+pub fn start_of(tokens: &[CompactToken], token: u32) -> u32
     ensures { (get : ℕ) (set : ℕ) (texts : List (List ℕ)) → result ≡ source.start_of (map (lexeme_of get set texts) tokens.now) token }
 {
     match tokens.get(token as usize) {
         None => 0,
-        Some(token) => token.start,
+        Some(token) => token.start(),
     }
 }
 

@@ -17,22 +17,22 @@ use Rattle.bytecode_buf.specs.Pieces.{Code}
 use Rattle.bytecode_buf.specs.Width.{shape_of}
 use Rattle.emit_exprs.specs.declared.names.Access.{Access}
 use Rattle.emit_exprs.specs.declared.names.Access.TheVariants as access
-use Rattle.emit_exprs.specs.declared.operators.Joining.{Joining}
-use Rattle.emit_exprs.specs.declared.operators.Joining.TheVariants.{FromLeft, FromRight, Shortcut}
-use Rattle.emit_exprs.specs.declared.operators.NumberForm.{NumberForm}
-use Rattle.emit_exprs.specs.declared.operators.NumberForm.TheVariants as form
-use Rattle.emit_exprs.specs.declared.operators.Short.{Short as Shortening}
-use Rattle.emit_exprs.specs.declared.operators.Short.TheVariants as short
-use Rattle.emit_exprs.specs.declared.operators.TheConstants.{WORD_OPS, BINARY_OPS, ASSIGN_OPS, PREFIX_OPS}
+use Rattle.emit_operators.specs.declared.operators.Joining.{Joining}
+use Rattle.emit_operators.specs.declared.operators.Joining.TheVariants.{FromLeft, FromRight, Shortcut}
+use Rattle.emit_operators.specs.declared.operators.NumberForm.{NumberForm}
+use Rattle.emit_operators.specs.declared.operators.NumberForm.TheVariants as form
+use Rattle.emit_operators.specs.declared.operators.Short.{Short as Shortening}
+use Rattle.emit_operators.specs.declared.operators.Short.TheVariants as short
+use Rattle.emit_operators.specs.declared.operators.TheConstants.{WORD_OPS, BINARY_OPS, ASSIGN_OPS, PREFIX_OPS}
 use Rattle.emit_exprs.specs.declared.properties.Defines.{Defines}
 use Rattle.emit_exprs.specs.declared.properties.Defines.TheVariants.{Value, Getter, Setter}
 use Rattle.emit_exprs.specs.declared.uses.Use.{Use}
 use Rattle.emit_exprs.specs.declared.uses.Use.TheVariants.{Plainly, Called, Reached, Deleted}
 use Rattle.emit_exprs.specs.Names.{access_of, checked, read, write, write_frame, write_env, base, init}
-use Rattle.emit_exprs.specs.Operators.{binary_op, assign_op, prefix_op, update_op, short_op, number_form}
+use Rattle.emit_operators.specs.Operators.{binary_op, assign_op, prefix_op, update_op, short_op, number_form}
 use Rattle.emit_exprs.specs.Exprs.{Scene, reading, writing, basing, number_by, this_at, lambda_code, text_behind, used_value, used_dot, before_index, behind_index, used_name, use_before, Target, ToName, ToProp, ToElem, NoTarget, target_of, loading, storing, reach_size, keeping, updating, before_value, behind_value, is_name, operand_use, word_code, prefix_code, args_size, maybe_args_size, items_size, list_joining, powers, joined, before_operand, behind_operand, dropping, define_named, define_computed, defining, is_proto, pairing, code_of, exprs_code, comma_code, maybe_args_code, parts_code, items_code, item_code, operands_code, tails_code, tail_code, key_code, prop_code, props_code}
 use Rattle.emit_exprs.specs.Whole.{just}
-use Rattle.emit_exprs.proofs.Plain.{plain_op, words_plain, prefixes_plain, assigns_plain, binaries_plain}
+use Rattle.emit_operators.proofs.Plain.{plain_op, words_plain, prefixes_plain, assigns_plain, binaries_plain}
 use Rattle.stencil_xdr_laws.specs.Sizes.{Makes}
 use Rattle.compile_range_laws.proofs.CodeParts.{CodeSmall, Bare, AllBare, nothing, behind, commands, command, wait, either, at_here}
 use Rattle.compile_range_laws.proofs.Places.{place_of, Placed, front, back}

@@ -6,14 +6,14 @@ use Rattle.bytecode_buf.specs.declared.opcode.Op.TheVariants as op
 use Rattle.bytecode_buf.specs.declared.waits.Aim.TheVariants as aim
 use Rattle.bytecode_buf.specs.Command.{plain, counted, named}
 use Rattle.bytecode_buf.specs.Pieces.{Waiting, Code, here}
-use Rattle.emit_exprs.specs.declared.operators.Joining.{Joining}
-use Rattle.emit_exprs.specs.declared.operators.Joining.TheVariants.{FromLeft, FromRight, Shortcut}
-use Rattle.emit_exprs.specs.declared.operators.Short as operators
-use Rattle.emit_exprs.specs.declared.operators.Short.TheVariants as short
+use Rattle.emit_operators.specs.declared.operators.Joining.{Joining}
+use Rattle.emit_operators.specs.declared.operators.Joining.TheVariants.{FromLeft, FromRight, Shortcut}
+use Rattle.emit_operators.specs.declared.operators.Short as operators
+use Rattle.emit_operators.specs.declared.operators.Short.TheVariants as short
 use Rattle.emit_exprs.specs.declared.uses.Use.{Use}
 use Rattle.emit_exprs.specs.declared.uses.Use.TheVariants.{Plainly, Called, Reached, Deleted}
 use Rattle.emit_exprs.specs.declared.properties.Defines.TheVariants.{Value, Getter, Setter}
-use Rattle.emit_exprs.specs.Operators.{binary_op, assign_op, short_op}
+use Rattle.emit_operators.specs.Operators.{binary_op, assign_op, short_op}
 use Rattle.emit_exprs.specs.Whole.{just}
 use Rattle.emit_exprs.specs.Exprs.{Scene, use_before, Target, target_of, last_target, reach_size, loading, storing, is_name, operand_use, args_size, maybe_args_size, items_size, list_joining, powers, joined, before_index, behind_index, code_of, exprs_code, comma_code, maybe_args_code, parts_code, items_code, item_code, operands_code, tails_code, key_code, prop_code, props_code}
 use Rattle.bytecode_flow_laws.specs.Depths.{Exits, with_exit, Runs, raised}

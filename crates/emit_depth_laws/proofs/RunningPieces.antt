@@ -13,16 +13,16 @@ use Rattle.bytecode_buf.specs.Command.{Command, plain, counted, named, aliased}
 use Rattle.bytecode_buf.specs.Pieces.{Code}
 use Rattle.emit_exprs.specs.declared.names.Access.{Access}
 use Rattle.emit_exprs.specs.declared.names.Access.TheVariants as access
-use Rattle.emit_exprs.specs.declared.operators.Meaning.{Meaning}
-use Rattle.emit_exprs.specs.declared.operators.NumberForm.{NumberForm}
-use Rattle.emit_exprs.specs.declared.operators.NumberForm.TheVariants as form
-use Rattle.emit_exprs.specs.declared.operators.TheConstants.{WORD_OPS, BINARY_OPS, ASSIGN_OPS, PREFIX_OPS}
+use Rattle.emit_operators.specs.declared.operators.Meaning.{Meaning}
+use Rattle.emit_operators.specs.declared.operators.NumberForm.{NumberForm}
+use Rattle.emit_operators.specs.declared.operators.NumberForm.TheVariants as form
+use Rattle.emit_operators.specs.declared.operators.TheConstants.{WORD_OPS, BINARY_OPS, ASSIGN_OPS, PREFIX_OPS}
 use Rattle.emit_exprs.specs.declared.uses.Use.{Use}
 use Rattle.emit_exprs.specs.declared.uses.Use.TheVariants.{Plainly, Called, Reached, Deleted}
 use Rattle.emit_exprs.specs.declared.properties.Defines.{Defines}
 use Rattle.emit_exprs.specs.declared.properties.Defines.TheVariants.{Value, Getter, Setter}
 use Rattle.emit_exprs.specs.Names.{checked, read, write_frame, write_env, write, base, init, access_of}
-use Rattle.emit_exprs.specs.Operators.{op_or, op_of, binary_op, assign_op, prefix_op, update_op, number_form}
+use Rattle.emit_operators.specs.Operators.{op_or, op_of, binary_op, assign_op, prefix_op, update_op, number_form}
 use Rattle.emit_exprs.specs.Whole.{whole, just}
 use Rattle.emit_exprs.specs.Exprs.{Scene, reading, writing, basing, number_by, number_code, this_at, this_code, lambda_code, text_behind, used_value, used_dot, used_name, Target, ToName, ToProp, ToElem, NoTarget, base_size, loading, storing, reach_size, keeping, updating, operand_use, prefix_code, define_named, define_computed, defining, is_proto, pairing}
 use Rattle.bytecode_flow_laws.specs.Depths.{Exits, Runs, raised, depth_after, all_after, depth_behind}

@@ -14,16 +14,16 @@ use Rattle.bytecode_buf.specs.Command.{Command, plain, counted, named}
 use Rattle.bytecode_buf.specs.Pieces.{Code}
 use Rattle.emit_exprs.specs.declared.names.Access.{Access}
 use Rattle.emit_exprs.specs.declared.names.Access.TheVariants as access
-use Rattle.emit_exprs.specs.declared.operators.Joining.{Joining}
-use Rattle.emit_exprs.specs.declared.operators.Joining.TheVariants.{FromLeft, FromRight, Shortcut}
-use Rattle.emit_exprs.specs.declared.operators.NumberForm.{NumberForm}
-use Rattle.emit_exprs.specs.declared.operators.NumberForm.TheVariants as form
+use Rattle.emit_operators.specs.declared.operators.Joining.{Joining}
+use Rattle.emit_operators.specs.declared.operators.Joining.TheVariants.{FromLeft, FromRight, Shortcut}
+use Rattle.emit_operators.specs.declared.operators.NumberForm.{NumberForm}
+use Rattle.emit_operators.specs.declared.operators.NumberForm.TheVariants as form
 use Rattle.emit_exprs.specs.declared.uses.Use.{Use}
 use Rattle.emit_exprs.specs.declared.uses.Use.TheVariants.{Plainly, Called, Reached, Deleted}
 use Rattle.emit_exprs.specs.declared.properties.Defines.{Defines}
 use Rattle.emit_exprs.specs.declared.properties.Defines.TheVariants.{Value, Getter, Setter}
 use Rattle.emit_exprs.specs.Names.{checked, read, write_frame, write_env, write, base, init, access_of}
-use Rattle.emit_exprs.specs.Operators.{binary_op, assign_op, prefix_op, update_op, short_op, number_form}
+use Rattle.emit_operators.specs.Operators.{binary_op, assign_op, prefix_op, update_op, short_op, number_form}
 use Rattle.emit_exprs.specs.Whole.{just}
 use Rattle.emit_exprs.specs.Exprs.{Scene, reading, writing, basing, number_by, number_code, this_at, lambda_code, text_behind, used_value, used_dot, before_index, behind_index, used_name, use_before, Target, ToName, ToProp, ToElem, NoTarget, target_of, loading, storing, reach_size, keeping, updating, before_value, behind_value, is_name, operand_use, prefix_code, args_size, maybe_args_size, items_size, list_joining, powers, joined, before_operand, behind_operand, dropping, define_named, define_computed, defining, is_proto, pairing, code_of, exprs_code, comma_code, maybe_args_code, parts_code, items_code, item_code, operands_code, tails_code, tail_code, key_code, prop_code, props_code}
 use Rattle.bytecode_flow_laws.proofs.Staying.{NoJump, NoJumps, stays_none, stays_both, stays_waiting, stays_command, stays_whole, stays_here}

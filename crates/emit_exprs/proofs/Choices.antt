@@ -18,15 +18,15 @@ use Rattle.bytecode_buf.specs.Pieces.{Code, Waiting, here}
 use Rattle.bytecode_buf.specs.Appends.{Appends, AllRoom, kept}
 use Rattle.bytecode_buf.specs.Emits.{Emits, Waits, LandsHere, emitted}
 use Rattle.bytecode_buf.proofs.AppendLemmas.{appends_none, appends_both, appends_room, emits_both, emits_closed, AllAim, kept-all}
-use Rattle.emit_exprs.specs.declared.operators.Short.{Short}
-use Rattle.emit_exprs.specs.declared.operators.Joining.{Joining}
-use Rattle.emit_exprs.specs.declared.operators.Joining.TheVariants.{FromLeft, FromRight, Shortcut}
+use Rattle.emit_operators.specs.declared.operators.Short.{Short}
+use Rattle.emit_operators.specs.declared.operators.Joining.{Joining}
+use Rattle.emit_operators.specs.declared.operators.Joining.TheVariants.{FromLeft, FromRight, Shortcut}
 use Rattle.emit_exprs.specs.declared.site.Site.{Site}
 use Rattle.emit_exprs.specs.declared.uses.Use.{Use}
 use Rattle.emit_exprs.specs.declared.uses.Use.TheVariants.{Plainly}
 use Rattle.emit_exprs.specs.Sites.{EmitsAt, scene_of}
 use Rattle.emit_exprs.specs.Whole.{just}
-use Rattle.emit_exprs.specs.Operators.{short_op}
+use Rattle.emit_operators.specs.Operators.{short_op}
 use Rattle.emit_exprs.specs.Exprs.{code_of, used_value, list_joining, powers, joined, before_operand, behind_operand, operands_code}
 use Rattle.emit_exprs.specs.Fitting.{OperandsFit}
 use Rattle.emit_exprs.specs.Shortcuts.{AllAfter, WaitsOf, Begins, Ends, Joins, OperandsEmit}

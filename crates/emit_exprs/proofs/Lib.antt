@@ -4,8 +4,6 @@ pub mod Counting
 pub mod Keys
 pub mod LastTail
 pub mod Lists
-mod OperatorRows
-pub mod Plain
 pub mod Rising
 pub mod Rows
 pub mod Singles

@@ -24,11 +24,11 @@ use Rattle.emit_exprs.specs.declared.properties.Defines.{Defines}
 use Rattle.emit_exprs.specs.declared.properties.Defines.TheVariants.{Value, Getter, Setter}
 use Rattle.emit_exprs.specs.Names.{read, write, base}
 use Rattle.emit_exprs.specs.Whole.{whole, just}
-use Rattle.emit_exprs.specs.Operators.{binary_op, assign_op, prefix_op, update_op, short_op, joining, number_form}
-use Rattle.emit_exprs.specs.declared.operators.Joining.{Joining}
-use Rattle.emit_exprs.specs.declared.operators.Joining.TheVariants.{FromLeft, FromRight, Shortcut}
-use Rattle.emit_exprs.specs.declared.operators.NumberForm.{NumberForm}
-use Rattle.emit_exprs.specs.declared.operators.NumberForm.TheVariants as form
+use Rattle.emit_operators.specs.Operators.{binary_op, assign_op, prefix_op, update_op, short_op, joining, number_form}
+use Rattle.emit_operators.specs.declared.operators.Joining.{Joining}
+use Rattle.emit_operators.specs.declared.operators.Joining.TheVariants.{FromLeft, FromRight, Shortcut}
+use Rattle.emit_operators.specs.declared.operators.NumberForm.{NumberForm}
+use Rattle.emit_operators.specs.declared.operators.NumberForm.TheVariants as form
 
 -- where an expression stands: the scopes around it, and where the functions directly in its function start, by rising start
 pub record Scene : Type 0 where

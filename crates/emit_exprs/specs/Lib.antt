@@ -2,7 +2,6 @@ pub mod Exprs
 pub mod Fitting
 pub mod Names
 pub mod OneProof
-pub mod Operators
 pub mod Properties
 pub mod Rising
 pub mod Shortcuts

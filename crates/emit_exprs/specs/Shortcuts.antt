@@ -11,8 +11,8 @@ use Rattle.bytecode_buf.specs.declared.waits.Wait.{Wait}
 use Rattle.bytecode_buf.specs.Pieces.{Code, same_aim, here}
 use Rattle.bytecode_buf.specs.Appends.{Appends}
 use Rattle.bytecode_buf.specs.Emits.{emitted}
-use Rattle.emit_exprs.specs.declared.operators.Joining.{Joining}
-use Rattle.emit_exprs.specs.declared.operators.Joining.TheVariants.{FromLeft, FromRight, Shortcut}
+use Rattle.emit_operators.specs.declared.operators.Joining.{Joining}
+use Rattle.emit_operators.specs.declared.operators.Joining.TheVariants.{FromLeft, FromRight, Shortcut}
 use Rattle.emit_exprs.specs.declared.site.Site.{Site}
 use Rattle.emit_exprs.specs.Sites.{EmitsAt, scene_of}
 use Rattle.emit_exprs.specs.Exprs.{before_operand, operands_code, joined}

@@ -10,7 +10,6 @@ ghost use Rattle.emit_exprs.specs.TreeCode.{MethodEmits, KeyEmits};
 
 use crate::counts::{array_item, call, construct, new_array};
 use crate::literals::{lambda, number};
-use crate::operators::Joining;
 use crate::places::{is_name, list_joining, target_of, use_before};
 use crate::properties::{Defines, closing, closing_pair};
 use crate::scenes::reading;
@@ -24,6 +23,7 @@ use crate::values::{
     short_prop, text_value, this_value,
 };
 use bytecode_buf::{Aim, CodeBuf, Op, Wait, jump_to, target};
+use emit_operators::Joining;
 use script_grammar::tree::{Args, Expr, Key, NewExpression, Operand, Prop, Tail, TemplatePart};
 use std::alloc::AllocError;
 

@@ -10,10 +10,10 @@ ghost use Rattle.emit_exprs.specs.Sites.{EmitsAt, scene_of};
 ghost use Rattle.emit_exprs.specs.Whole.{whole};
 
 use crate::names::{access_of_kind, read_env, read_frame};
-use crate::operators::{NumberForm, number_form};
 use crate::site::Site;
 use crate::steps::{counted, plain};
 use bytecode_buf::{CodeBuf, Op};
+use emit_operators::{NumberForm, number_form};
 use scope_analysis::resolve;
 use scope_analysis::special_names::THIS;
 use std::alloc::AllocError;

@@ -6,9 +6,9 @@ ghost use Rattle.script_grammar.specs.TreeOf.{tail_of, operand_of};
 ghost use Rattle.emit_exprs.specs.Exprs as code;
 ghost use Rattle.emit_exprs.specs.Targets.{IsTarget, names_target, target_in};
 
-use crate::operators::{Joining, joined_by};
 use crate::targets::Target;
 use crate::uses::Use;
+use emit_operators::{Joining, joined_by};
 use script_grammar::tree::{Expr, Operand, Tail};
 
 fn tail_target(tail: &Tail) -> Target

@@ -8,10 +8,10 @@ ghost use Rattle.bytecode_buf.specs.Emits.{Emits};
 ghost use Rattle.emit_exprs.specs.Exprs as code;
 ghost use Rattle.emit_exprs.specs.Shortcuts.{Begins, Ends, Joins};
 
-use crate::operators::{Joining, Short, binary_op};
 use crate::site::Site;
 use crate::steps::plain;
 use bytecode_buf::{Aim, CodeBuf, Op, Wait, jump_to, target};
+use emit_operators::{Joining, Short, binary_op};
 use script_grammar::tree::Operand;
 use std::alloc::AllocError;
 

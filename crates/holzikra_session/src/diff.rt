@@ -189,6 +189,39 @@ fn compared_of<'a>(file: &'a File<'_>, side: &'a Side) -> Option<Compared<'a>> {
     })
 }
 
+/// Writes how the code of two scripts differs.
+fn write_difference<R: Runtime + AllocGlobal>(
+    rt: &R,
+    format: DiffFormat,
+    colors: bool,
+    before: Compared<'_>,
+    after: Compared<'_>,
+) -> io::Result<Status> {
+    let comparison = compare_scripts(rt.alloc(), format, before, after)?;
+    print_answer(rt, colors, Answer::Difference, comparison.lines)?;
+    if comparison.differs {
+        Ok(Status::Refused)
+    } else {
+        Ok(Status::Fine)
+    }
+}
+
+/// Writes how the code of a file differs from that of an older one, which is found to be this.
+fn compare_with<R: Runtime + AllocGlobal, J: Judge>(
+    rt: &R,
+    judge: &J,
+    format: DiffFormat,
+    colors: bool,
+    old: Option<Compared<'_>>,
+    new: &File<'_>,
+) -> io::Result<Status> {
+    let side = side_of(rt, judge, format, colors, new)?;
+    match (old, compared_of(new, &side)) {
+        (Some(before), Some(after)) => write_difference(rt, format, colors, before, after),
+        _ => Ok(Status::Trouble),
+    }
+}
+
 /// Writes how the code of two files differs.
 fn compare<R: Runtime + AllocGlobal, J: Judge>(
     rt: &R,
@@ -200,19 +233,8 @@ fn compare<R: Runtime + AllocGlobal, J: Judge>(
 ) -> io::Result<Status> {
     let format = options.format;
     let colors = format == DiffFormat::Human && around.colors(options.colors);
-    let old_side = side_of(rt, judge, format, colors, old)?;
-    let new_side = side_of(rt, judge, format, colors, new)?;
-    let (Some(before), Some(after)) = (compared_of(old, &old_side), compared_of(new, &new_side))
-    else {
-        return Ok(Status::Trouble);
-    };
-    let comparison = compare_scripts(rt.alloc(), options.format, before, after)?;
-    print_answer(rt, colors, Answer::Difference, comparison.lines)?;
-    if comparison.differs {
-        Ok(Status::Refused)
-    } else {
-        Ok(Status::Fine)
-    }
+    let side = side_of(rt, judge, format, colors, old)?;
+    compare_with(rt, judge, format, colors, compared_of(old, &side), new)
 }
 
 /// Compares the code of two files. The error is want of memory, or that standard output or standard error takes no more.

@@ -49,6 +49,18 @@ fn status_of(done: io::Result<Status>) -> Status {
     }
 }
 
+/// Says what is wrong with the words, or the help or the version that they ask for.
+fn say<R: Runtime + AllocGlobal>(rt: &R, error: clap::Error) -> Status {
+    let shown = error.print(rt);
+    if error.kind() == clap::error::ErrorKind::OutOfMemory {
+        Status::NoMemory
+    } else if error.use_stderr() {
+        Status::Trouble
+    } else {
+        status_of(shown.map(|_| Status::Fine))
+    }
+}
+
 /// Does what the words behind the program's name ask for, with this judge. Help and the version go to standard output, what is wrong
 /// with the words to standard error.
 pub fn run<R: Runtime + AllocGlobal, J: Judge>(
@@ -62,15 +74,6 @@ pub fn run<R: Runtime + AllocGlobal, J: Judge>(
             let around = Surroundings::of(rt, terminals);
             status_of(perform(rt, judge, &request, around))
         }
-        Err(error) => {
-            let shown = error.print(rt);
-            if error.kind() == clap::error::ErrorKind::OutOfMemory {
-                Status::NoMemory
-            } else if error.use_stderr() {
-                Status::Trouble
-            } else {
-                status_of(shown.map(|_| Status::Fine))
-            }
-        }
+        Err(error) => say(rt, error),
     }
 }

@@ -16,7 +16,9 @@ use crate::{human, json, sarif};
 use holzikra_colours::Answer;
 use holzikra_scripts::{Row, Table, row_line};
 use holzikra_walk::{Found, Walk};
-use holzikra_words::{CheckOptions, Format, LoadOptions, StatsFormat, StatsOptions, VerifyOptions};
+use holzikra_words::{
+    CheckOptions, FileOptions, Format, LoadOptions, StatsFormat, StatsOptions, VerifyOptions,
+};
 use serde_json::Value;
 use std::io::{BufWriter, ErrorKind, Read, Write};
 use std::rt::{Files, Runtime};
@@ -67,18 +69,28 @@ impl<'a, W: Write + Drop> Progress<'a, W> {
         let why = format!(in rt.alloc(); "{error}")?;
         self.screen.wipe(rt)?;
         complain(rt, name, why.as_str())?;
+        self.unreadable(rt, name, why.as_str())
+    }
+
+    /// Answers for what cannot be read, where the form of the answers has something for that.
+    fn unreadable<R: Runtime + AllocGlobal>(
+        &mut self,
+        rt: &R,
+        name: &str,
+        why: &str,
+    ) -> io::Result<()> {
         match self.task.format() {
             Format::Json => {
-                let line = json::unreadable_line(rt.alloc(), name, why.as_str())?;
-                self.screen.write(rt, Answer::Refusals, line.into_bytes())?;
+                let line = json::unreadable_line(rt.alloc(), name, why)?;
+                self.screen.write(rt, Answer::Refusals, line.into_bytes())
             }
             Format::Sarif => {
-                let fault = sarif::fault_notification(rt.alloc(), name, why.as_str())?;
+                let fault = sarif::fault_notification(rt.alloc(), name, why)?;
                 self.faults.push(fault)?;
+                Ok(())
             }
-            Format::Human | Format::Github => (),
+            Format::Human | Format::Github => Ok(()),
         }
-        Ok(())
     }
 
     /// Says that a script has no function that a word means.
@@ -345,6 +357,25 @@ impl<'a, W: Write + Drop> Progress<'a, W> {
         self.screen.finish()?;
         Ok(self.tally.status())
     }
+
+    /// Answers for all that the walk finds among these files.
+    fn answer_all<R: Runtime + AllocGlobal, J: Judge>(
+        &mut self,
+        rt: &R,
+        judge: &J,
+        walk: &mut Walk,
+        files: &FileOptions,
+    ) -> io::Result<Status> {
+        self.start(rt)?;
+        for _ in 0..u64::MAX {
+            let Some(found) = walk.next(rt, files)? else {
+                break;
+            };
+            self.answer(rt, judge, found)?;
+            self.go_on(rt)?;
+        }
+        self.finish(rt)
+    }
 }
 
 /// Does the task for all files that it names, and writes the answers to standard output. The error is want of memory, or that standard
@@ -366,13 +397,5 @@ pub(crate) fn answer_files<R: Runtime + AllocGlobal, J: Judge>(
         table: Table::new(rt.alloc()),
         faults: Vec::new(rt.alloc()),
     };
-    progress.start(rt)?;
-    for _ in 0..u64::MAX {
-        let Some(found) = walk.next(rt, files)? else {
-            break;
-        };
-        progress.answer(rt, judge, found)?;
-        progress.go_on(rt)?;
-    }
-    progress.finish(rt)
+    progress.answer_all(rt, judge, &mut walk, files)
 }

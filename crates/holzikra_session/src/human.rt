@@ -5,7 +5,7 @@ use crate::refusal::{Refused, Said};
 use crate::status::Tally;
 use crate::verdict::{Spot, Verified};
 use holzikra_places::{excerpt_at, push_shown_text};
-use holzikra_refusals::{entry_of, message};
+use holzikra_refusals::{Code, entry_of, message};
 use holzikra_scripts::Table;
 use std::alloc::{AllocError, Global};
 
@@ -57,13 +57,28 @@ fn push_line(alloc: Global, lines: &mut String, text: &[u8], spot: Spot) -> Resu
     let excerpt = excerpt_at(alloc, text, spot.offset)?;
     let line = spot.place.line;
     let number = format!(in alloc; "{line:>3}")?;
-    lines.push_str(number.as_str())?;
+    push_marked(
+        lines,
+        number.as_str(),
+        excerpt.shown.as_str(),
+        excerpt.caret,
+    )
+}
+
+/// Appends a line behind its number, and under it a mark that stands behind so many of its characters.
+fn push_marked(
+    lines: &mut String,
+    number: &str,
+    shown: &str,
+    caret: usize,
+) -> Result<(), AllocError> {
+    lines.push_str(number)?;
     lines.push_str(" | ")?;
-    lines.push_str(excerpt.shown.as_str())?;
+    lines.push_str(shown)?;
     lines.push('\n')?;
     push_blanks(lines, number.len())?;
     lines.push_str(" | ")?;
-    push_blanks(lines, excerpt.caret)?;
+    push_blanks(lines, caret)?;
     lines.push_str("^\n")
 }
 
@@ -80,33 +95,45 @@ fn push_count(lines: &mut String, count: u64, one: &str, many: &str) -> Result<(
     write!(lines, "{count} {noun}")
 }
 
+/// Appends how many files there are, of which so many are refused, and what they are.
+fn push_verdicts(line: &mut String, tally: &Tally, refusals: u64) -> Result<(), AllocError> {
+    let scripts = tally.scripts;
+    let outside = tally.outside;
+    push_count(line, scripts.saturating_add(refusals), "file", "files")?;
+    write!(line, ": {scripts} ok, ")?;
+    push_count(line, tally.errors, "with an error", "with errors")?;
+    write!(line, ", {outside} unsupported")
+}
+
+/// Appends how many of the refusals were not shown, if some were not.
+fn push_hidden(line: &mut String, shown: u64, refusals: u64) -> Result<(), AllocError> {
+    if shown >= refusals {
+        return Ok(());
+    }
+    let hidden = refusals.saturating_sub(shown);
+    write!(line, ", {hidden} not shown")
+}
+
+/// Appends where to read on about the codes that were shown, if some were.
+fn push_codes(line: &mut String, codes: &[Code]) -> Result<(), AllocError> {
+    if codes.is_empty() {
+        return Ok(());
+    }
+    line.push_str(" (`holzikra explain")?;
+    for code in codes {
+        line.push(' ')?;
+        line.push_str(entry_of(*code).code)?;
+    }
+    line.push_str("`)")
+}
+
 /// The counts of all files, and where to read on.
 pub(crate) fn summary(alloc: Global, tally: &Tally, said: &Said) -> Result<String, AllocError> {
     let refusals = tally.errors.saturating_add(tally.outside);
     let mut line = String::new(alloc);
-    push_count(
-        &mut line,
-        tally.scripts.saturating_add(refusals),
-        "file",
-        "files",
-    )?;
-    let scripts = tally.scripts;
-    let outside = tally.outside;
-    write!(line, ": {scripts} ok, ")?;
-    push_count(&mut line, tally.errors, "with an error", "with errors")?;
-    write!(line, ", {outside} unsupported")?;
-    if said.shown < refusals {
-        let hidden = refusals.saturating_sub(said.shown);
-        write!(line, ", {hidden} not shown")?;
-    }
-    if !said.codes.is_empty() {
-        line.push_str(" (`holzikra explain")?;
-        for code in &said.codes {
-            line.push(' ')?;
-            line.push_str(entry_of(*code).code)?;
-        }
-        line.push_str("`)")?;
-    }
+    push_verdicts(&mut line, tally, refusals)?;
+    push_hidden(&mut line, said.shown, refusals)?;
+    push_codes(&mut line, &said.codes)?;
     line.push('\n')?;
     Ok(line)
 }

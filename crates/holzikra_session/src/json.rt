@@ -1,9 +1,10 @@
 //! Answers as JSON, an object in a line each.
 
-ghost use Rattle.std.specs.Prelude.{◌≡◌, length, IfOk, OnOk, string_bytes};
+ghost use Rattle.std.specs.Prelude.{◌≡◌, codes, length, IfOk, OnOk, string_bytes};
+ghost use Rattle.serde_json.specs.Data.{put as with_member, string};
 ghost use Rattle.serde_json.specs.View.{view};
-ghost use Rattle.holzikra_json.specs.Lines.{members_of};
-ghost use Rattle.holzikra_session.specs.Answers.{IsCheckedLine, IsImageLine, IsRefusalLine, IsUnreadableLine, checked_members, image_members, place_members, refusal_data, refused_members, rule_of};
+ghost use Rattle.holzikra_json.specs.Lines.{members_of, whole_or_null};
+ghost use Rattle.holzikra_session.specs.Answers.{IsCheckedLine, IsImageLine, IsRefusalLine, IsUnreadableLine, checked_members, image_members, place_members, refusal_data, refused_members, rule_of, word_of};
 
 use crate::note::other_place;
 use crate::refusal::Refused;
@@ -85,6 +86,16 @@ fn put_place(members: &mut Members, spot: Option<Spot>) -> Result<(), AllocError
     Ok(())
 }
 
+/// Puts in the word of a reason and the number of its rule.
+fn put_reason(members: &mut Members, reason: Reason) -> Result<(), AllocError>
+    ensures { OnOk result (members_of members.new ≡ with_member (codes "rule") (whole_or_null (rule_of reason))
+        (with_member (codes "reason") (string (word_of reason)) (members_of members.old))) }
+{
+    members.text("reason", reason.word())?;
+    members.number("rule", rule(reason))?;
+    Ok(())
+}
+
 /// The name at the place of a refusal, or null.
 fn name_value(alloc: Global, refused: Refused<'_>) -> Result<Value, AllocError> {
     let Some(spot) = refused.reason.spot() else {
@@ -154,8 +165,7 @@ fn refusal_value(alloc: Global, reason: Reason, told: Told) -> Result<Value, All
     members.text("code", code)?;
     members.text("message", message.as_str())?;
     members.put("notes", notes)?;
-    members.text("reason", reason.word())?;
-    members.number("rule", rule(reason))?;
+    put_reason(&mut members, reason)?;
     members.put("supported", Value::Bool(supported))?;
     Ok(members.object())
 }

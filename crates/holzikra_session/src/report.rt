@@ -33,6 +33,17 @@ struct Report {
 }
 
 impl Report {
+    /// A page with nothing on it.
+    fn new(alloc: Global, ticker: Ticker) -> Report {
+        Report {
+            page: Vec::new(alloc),
+            count: 0,
+            tally: Tally::new(),
+            said: Said::new(alloc),
+            ticker,
+        }
+    }
+
     /// Says that something cannot be read. Want of memory ends the command.
     fn fault<R: Runtime + AllocGlobal>(
         &mut self,
@@ -189,6 +200,35 @@ impl Report {
             }
         }
     }
+
+    /// Puts on the page all that the walk finds.
+    fn fill<R: Runtime + AllocGlobal, J: Judge>(
+        &mut self,
+        rt: &R,
+        judge: &J,
+        options: &ReportOptions,
+        walk: &mut Walk,
+    ) -> io::Result<()> {
+        append_start(&mut self.page)?;
+        for _ in 0..u64::MAX {
+            let Some(found) = walk.next(rt, &options.files)? else {
+                break;
+            };
+            self.found(rt, judge, options, found)?;
+            self.go_on(rt)?;
+        }
+        self.ticker.wipe(rt)?;
+        append_end(&mut self.page)?;
+        Ok(())
+    }
+
+    /// Writes the page to the file of this name, or says why it cannot be written.
+    fn write<R: Runtime + AllocGlobal>(&mut self, rt: &R, name: &str) -> io::Result<()> {
+        match write_to(rt, name, &self.page) {
+            Ok(()) => Ok(()),
+            Err(error) => self.fault(rt, name, error),
+        }
+    }
 }
 
 /// Writes a page about files. The error is want of memory, or that standard output or standard error takes no more.
@@ -199,25 +239,8 @@ pub(crate) fn report_files<R: Runtime + AllocGlobal, J: Judge>(
     around: Surroundings,
 ) -> io::Result<Status> {
     let mut walk = Walk::new(rt, &options.files)?;
-    let mut report = Report {
-        page: Vec::new(rt.alloc()),
-        count: 0,
-        tally: Tally::new(),
-        said: Said::new(rt.alloc()),
-        ticker: around.ticker(options.quiet),
-    };
-    append_start(&mut report.page)?;
-    for _ in 0..u64::MAX {
-        let Some(found) = walk.next(rt, &options.files)? else {
-            break;
-        };
-        report.found(rt, judge, options, found)?;
-        report.go_on(rt)?;
-    }
-    report.ticker.wipe(rt)?;
-    append_end(&mut report.page)?;
-    if let Err(error) = write_to(rt, options.page.as_str(), &report.page) {
-        report.fault(rt, options.page.as_str(), error)?;
-    }
+    let mut report = Report::new(rt.alloc(), around.ticker(options.quiet));
+    report.fill(rt, judge, options, &mut walk)?;
+    report.write(rt, options.page.as_str())?;
     Ok(report.tally.status())
 }

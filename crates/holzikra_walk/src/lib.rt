@@ -7,8 +7,6 @@
 #![tactic(auto)]
 
 mod glob;
-#[cfg(test)]
-mod tests;
 mod walk;
 
 pub use walk::{Found, Walk};

@@ -1,10 +1,10 @@
 //! The words of `check`.
 
-use crate::files::{FileOptions, file_options, with_files};
-use crate::look::{Look, NO_SUMMARY, found_look, with_look};
-use crate::parts::{choice, named, value, valued, with};
-use clap::builder::ValueParser;
-use clap::{Arg, ArgMatches, Command};
+use crate::files::{FileOptions, add_files, file_options};
+use crate::look::{Look, NO_SUMMARY, add_look, found_look};
+use crate::parts::{Words, value};
+use crate::words::Request;
+use clap::{ArgMatches, Command};
 use std::alloc::{AllocError, Global};
 
 /// How the answers are written.
@@ -46,45 +46,22 @@ static FORMATS: [&str; 4] = ["human", "json", "github", "sarif"];
 
 static CHOICES: [&str; 3] = ["error", "warn", "skip"];
 
-/// The command `check`.
-pub(crate) fn command<'a>(alloc: Global) -> Result<Command<'a>, AllocError> {
-    let command = named(
-        alloc,
-        "check",
-        "say whether each file is a script without errors",
-    );
-    let command = with_files(alloc, command)?;
-    let formats = FORMATS.as_slice();
-    let choices = CHOICES.as_slice();
-    let format = choice(
-        alloc,
-        "format",
-        formats,
-        "human",
-        "how the answers are written",
-    );
-    let command = with(command, format)?;
-    let unsupported = choice(
-        alloc,
-        "unsupported",
-        choices,
-        "error",
-        "what a form outside the profile counts as",
-    );
-    let command = with(command, unsupported)?;
-    let command = with(command, most(alloc))?;
-    with_look(alloc, command, NO_SUMMARY)
-}
-
-fn most<'a>(alloc: Global) -> Arg<'a> {
-    let most = valued(
-        alloc,
-        "max",
-        "N",
-        "50",
-        "how many refusals are shown; 0 is no limit",
-    );
-    most.value_parser(ValueParser::Unsigned(0, 4_294_967_295))
+/// Adds the command `check`.
+pub(crate) fn add_command(
+    alloc: Global,
+    commands: &mut Vec<Command<'_>>,
+) -> Result<(), AllocError> {
+    let mut words = Words::new(alloc);
+    add_files(&mut words)?;
+    let format = "how the answers are written";
+    words.choice("format", FORMATS.as_slice(), "human", format)?;
+    let unsupported = "what a form outside the profile counts as";
+    words.choice("unsupported", CHOICES.as_slice(), "error", unsupported)?;
+    let most = "how many refusals are shown; 0 is no limit";
+    words.number("max", "N", "50", most)?;
+    add_look(&mut words, NO_SUMMARY)?;
+    let about = "say whether each file is a script without errors";
+    words.finish(commands, "check", about)
 }
 
 fn format_of(word: &str) -> Format {
@@ -110,13 +87,13 @@ fn most_of(number: u32) -> Option<u32> {
 }
 
 /// What the words of `check` ask for.
-pub(crate) fn options(alloc: Global, found: &ArgMatches<'_>) -> Result<CheckOptions, AllocError> {
+pub(crate) fn request(alloc: Global, found: &ArgMatches<'_>) -> Result<Request, AllocError> {
     let files = file_options(alloc, found)?;
-    Ok(CheckOptions {
+    Ok(Request::Check(CheckOptions {
         files,
         format: format_of(value(found, "format", "human")),
         unsupported: unsupported_of(value(found, "unsupported", "error")),
         most: most_of(found.get_one::<u32>("max").unwrap_or(50)),
         look: found_look(found),
-    })
+    }))
 }

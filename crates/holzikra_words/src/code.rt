@@ -1,9 +1,10 @@
 //! The words of `code`.
 
-use crate::files::{FileOptions, file_options, with_files};
-use crate::functions::{FunctionWord, function_words, with_functions};
-use crate::look::{Look, NO_PROGRESS, found_look, with_look};
-use crate::parts::{choice, named, switch, value, with};
+use crate::files::{FileOptions, add_files, file_options};
+use crate::functions::{FunctionWord, add_functions, function_words};
+use crate::look::{Look, NO_PROGRESS, add_look, found_look};
+use crate::parts::{Words, value};
+use crate::words::Request;
 use clap::{ArgMatches, Command};
 use std::alloc::{AllocError, Global};
 
@@ -32,21 +33,19 @@ pub struct CodeOptions {
 
 static FORMATS: [&str; 3] = ["human", "plain", "json"];
 
-/// The command `code`.
-pub(crate) fn command<'a>(alloc: Global) -> Result<Command<'a>, AllocError> {
-    let command = named(
-        alloc,
-        "code",
-        "list the code, with names, jumps and source lines",
-    );
-    let command = with_files(alloc, command)?;
-    let command = with_functions(alloc, command)?;
-    let formats = FORMATS.as_slice();
-    let format = choice(alloc, "format", formats, "human", "how code is listed");
-    let command = with(command, format)?;
-    let no_source = switch(alloc, "no-source", "no lines of the source");
-    let command = with(command, no_source)?;
-    with_look(alloc, command, NO_PROGRESS)
+/// Adds the command `code`.
+pub(crate) fn add_command(
+    alloc: Global,
+    commands: &mut Vec<Command<'_>>,
+) -> Result<(), AllocError> {
+    let mut words = Words::new(alloc);
+    add_files(&mut words)?;
+    add_functions(&mut words)?;
+    words.choice("format", FORMATS.as_slice(), "human", "how code is listed")?;
+    words.switch("no-source", "no lines of the source")?;
+    add_look(&mut words, NO_PROGRESS)?;
+    let about = "list the code, with names, jumps and source lines";
+    words.finish(commands, "code", about)
 }
 
 fn format_of(word: &str) -> CodeFormat {
@@ -58,14 +57,14 @@ fn format_of(word: &str) -> CodeFormat {
 }
 
 /// What the words of `code` ask for.
-pub(crate) fn options(alloc: Global, found: &ArgMatches<'_>) -> Result<CodeOptions, AllocError> {
+pub(crate) fn request(alloc: Global, found: &ArgMatches<'_>) -> Result<Request, AllocError> {
     let files = file_options(alloc, found)?;
     let functions = function_words(alloc, found)?;
-    Ok(CodeOptions {
+    Ok(Request::Code(CodeOptions {
         files,
         format: format_of(value(found, "format", "human")),
         functions,
         source_lines: !found.get_flag("no-source"),
         look: found_look(found),
-    })
+    }))
 }

@@ -1,8 +1,9 @@
 //! The words of `diff`.
 
-use crate::look::{Colors, found_colors, with_colors};
-use crate::parts::{choice, named, value, valued, with};
-use clap::{Arg, ArgMatches, Command};
+use crate::look::{Colors, add_colors, found_colors};
+use crate::parts::{Words, value};
+use crate::words::Request;
+use clap::{ArgMatches, Command};
 use std::alloc::{AllocError, Global};
 
 /// How differences are written.
@@ -31,28 +32,19 @@ const SIDE: &str = "a script or an image; one of both may be - for standard inpu
 
 static FORMATS: [&str; 2] = ["human", "json"];
 
-/// One of both files, by what help calls it.
-fn side<'a>(alloc: Global, name: &'a str) -> Arg<'a> {
-    Arg::new(alloc, name).required(true).help(SIDE)
-}
-
-/// The command `diff`.
-pub(crate) fn command<'a>(alloc: Global) -> Result<Command<'a>, AllocError> {
-    let command = named(alloc, "diff", "compare the code of two scripts");
-    let command = with(command, side(alloc, "OLD"))?;
-    let command = with(command, side(alloc, "NEW"))?;
-    let formats = FORMATS.as_slice();
-    let format = choice(
-        alloc,
-        "format",
-        formats,
-        "human",
-        "how differences are written",
-    );
-    let command = with(command, format)?;
-    let stdin_name = valued(alloc, "stdin-name", "NAME", "<stdin>", "what - is called");
-    let command = with(command, stdin_name)?;
-    with_colors(alloc, command)
+/// Adds the command `diff`.
+pub(crate) fn add_command(
+    alloc: Global,
+    commands: &mut Vec<Command<'_>>,
+) -> Result<(), AllocError> {
+    let mut words = Words::new(alloc);
+    words.one("OLD", SIDE)?;
+    words.one("NEW", SIDE)?;
+    let format = "how differences are written";
+    words.choice("format", FORMATS.as_slice(), "human", format)?;
+    words.valued("stdin-name", "NAME", "<stdin>", "what - is called")?;
+    add_colors(&mut words)?;
+    words.finish(commands, "diff", "compare the code of two scripts")
 }
 
 fn format_of(word: &str) -> DiffFormat {
@@ -75,15 +67,15 @@ pub(crate) fn complaint(
 }
 
 /// What the words of `diff` ask for.
-pub(crate) fn options(alloc: Global, found: &ArgMatches<'_>) -> Result<DiffOptions, AllocError> {
+pub(crate) fn request(alloc: Global, found: &ArgMatches<'_>) -> Result<Request, AllocError> {
     let old = String::from_str(alloc, value(found, "OLD", "-"))?;
     let new = String::from_str(alloc, value(found, "NEW", "-"))?;
     let stdin_name = String::from_str(alloc, value(found, "stdin-name", "<stdin>"))?;
-    Ok(DiffOptions {
+    Ok(Request::Diff(DiffOptions {
         old,
         new,
         format: format_of(value(found, "format", "human")),
         stdin_name,
         colors: found_colors(found),
-    })
+    }))
 }

@@ -1,7 +1,8 @@
 //! The words of `explain`.
 
-use crate::look::{Colors, found_colors, with_colors};
-use crate::parts::{named, texts, with, words};
+use crate::look::{Colors, add_colors, found_colors};
+use crate::parts::{Words, texts};
+use crate::words::Request;
 use clap::{ArgMatches, Command};
 use std::alloc::{AllocError, Global};
 
@@ -13,22 +14,22 @@ pub struct ExplainOptions {
     pub colors: Colors,
 }
 
-/// The command `explain`.
-pub(crate) fn command<'a>(alloc: Global) -> Result<Command<'a>, AllocError> {
-    let codes = words(
-        alloc,
-        "CODE",
-        "a code, as E4 or P2; without one, the list of all",
-    );
-    let command = with(named(alloc, "explain", "say what a code means"), codes)?;
-    with_colors(alloc, command)
+/// Adds the command `explain`.
+pub(crate) fn add_command(
+    alloc: Global,
+    commands: &mut Vec<Command<'_>>,
+) -> Result<(), AllocError> {
+    let mut words = Words::new(alloc);
+    words.any("CODE", "a code, as E4 or P2; without one, the list of all")?;
+    add_colors(&mut words)?;
+    words.finish(commands, "explain", "say what a code means")
 }
 
 /// What the words of `explain` ask for.
-pub(crate) fn options(alloc: Global, found: &ArgMatches<'_>) -> Result<ExplainOptions, AllocError> {
+pub(crate) fn request(alloc: Global, found: &ArgMatches<'_>) -> Result<Request, AllocError> {
     let codes = texts(alloc, found, "CODE")?;
-    Ok(ExplainOptions {
+    Ok(Request::Explain(ExplainOptions {
         codes,
         colors: found_colors(found),
-    })
+    }))
 }

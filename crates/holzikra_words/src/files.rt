@@ -1,7 +1,7 @@
 //! The words that name files, for the commands that walk through folders.
 
-use crate::parts::{again, repeated, switch, texts, value, valued, with, words};
-use clap::{Arg, ArgMatches, Command};
+use crate::parts::{Words, texts, value};
+use clap::ArgMatches;
 use std::alloc::{AllocError, Global};
 
 /// Which files a command is about.
@@ -19,59 +19,24 @@ pub struct FileOptions {
     pub stdin_name: String,
 }
 
-/// The command with the words that name files, of which in a folder those are taken whose names end so.
-fn with_files_named<'a>(
-    alloc: Global,
-    command: Command<'a>,
-    taken: &'a str,
-) -> Result<Command<'a>, AllocError> {
-    let command = with(command, paths(alloc))?;
-    let command = with(command, extensions(alloc, taken))?;
-    let stdin_name = valued(alloc, "stdin-name", "NAME", "<stdin>", "what - is called");
-    let command = with(command, stdin_name)?;
-    let all = switch(
-        alloc,
-        "all",
-        "enter node_modules and what begins with a point",
-    );
-    let command = with(command, all)?;
-    with(command, excluded(alloc))
+/// The words that name files, of which in a folder those are taken whose names end so.
+fn add_files_named<'a>(words: &mut Words<'a>, taken: &'a str) -> Result<(), AllocError> {
+    words.some("PATH", "a file, a folder, or - for standard input")?;
+    words.list("ext", "LIST", taken, "which files of a folder are taken")?;
+    words.valued("stdin-name", "NAME", "<stdin>", "what - is called")?;
+    words.switch("all", "enter node_modules and what begins with a point")?;
+    let excluded = "what of a folder is passed over; may be given again";
+    words.repeated("exclude", "GLOB", excluded)
 }
 
-/// The command with the words that name scripts.
-pub(crate) fn with_files<'a>(
-    alloc: Global,
-    command: Command<'a>,
-) -> Result<Command<'a>, AllocError> {
-    with_files_named(alloc, command, "js,cjs")
+/// The words that name scripts.
+pub(crate) fn add_files(words: &mut Words<'_>) -> Result<(), AllocError> {
+    add_files_named(words, "js,cjs")
 }
 
-/// The command with the words that name images.
-pub(crate) fn with_images<'a>(
-    alloc: Global,
-    command: Command<'a>,
-) -> Result<Command<'a>, AllocError> {
-    with_files_named(alloc, command, "stn")
-}
-
-fn paths<'a>(alloc: Global) -> Arg<'a> {
-    words(alloc, "PATH", "a file, a folder, or - for standard input").required(true)
-}
-
-fn extensions<'a>(alloc: Global, taken: &'a str) -> Arg<'a> {
-    let extensions = valued(
-        alloc,
-        "ext",
-        "LIST",
-        taken,
-        "which files of a folder are taken",
-    );
-    again(extensions.value_delimiter(','))
-}
-
-fn excluded<'a>(alloc: Global) -> Arg<'a> {
-    let help = "what of a folder is passed over; may be given again";
-    repeated(alloc, "exclude", "GLOB", help)
+/// The words that name images.
+pub(crate) fn add_images(words: &mut Words<'_>) -> Result<(), AllocError> {
+    add_files_named(words, "stn")
 }
 
 /// Which files the words name.

@@ -1,7 +1,7 @@
 //! The words that name functions.
 
-use crate::parts::{repeated, switch, with};
-use clap::{ArgMatches, Command};
+use crate::parts::Words;
+use clap::ArgMatches;
 use std::alloc::{AllocError, Global};
 
 /// How functions of a script are named.
@@ -26,31 +26,14 @@ pub struct FunctionWord {
 /// What a place is called in help and errors.
 const PLACE: &str = "LINE[:COLUMN]";
 
-/// The command with the options for functions.
-pub(crate) fn with_functions<'a>(
-    alloc: Global,
-    command: Command<'a>,
-) -> Result<Command<'a>, AllocError> {
-    let functions = repeated(
-        alloc,
-        "function",
-        "FUNCTION",
-        "a number or a name; may be given again",
-    );
-    let command = with(command, functions)?;
-    let places = repeated(
-        alloc,
-        "at",
-        PLACE,
-        "the innermost function there; may be given again",
-    );
-    let command = with(command, places)?;
-    let only = switch(
-        alloc,
-        "only",
-        "without the functions inside those that are named",
-    );
-    with(command, only)
+/// The options for functions.
+pub(crate) fn add_functions(words: &mut Words<'_>) -> Result<(), AllocError> {
+    let named = "a number or a name; may be given again";
+    words.repeated("function", "FUNCTION", named)?;
+    let at = "the innermost function there; may be given again";
+    words.repeated("at", PLACE, at)?;
+    let only = "without the functions inside those that are named";
+    words.switch("only", only)
 }
 
 /// The number that a text is: digits alone, and not too great.

@@ -1,8 +1,9 @@
 //! The words of `load`.
 
-use crate::files::{FileOptions, file_options, with_images};
-use crate::look::{Look, NO_PROGRESS, found_look, with_look};
-use crate::parts::{choice, named, value, with};
+use crate::files::{FileOptions, add_images, file_options};
+use crate::look::{Look, NO_PROGRESS, add_look, found_look};
+use crate::parts::{Words, value};
+use crate::words::Request;
 use clap::{ArgMatches, Command};
 use std::alloc::{AllocError, Global};
 
@@ -27,14 +28,16 @@ pub struct LoadOptions {
 
 static FORMATS: [&str; 3] = ["human", "plain", "json"];
 
-/// The command `load`.
-pub(crate) fn command<'a>(alloc: Global) -> Result<Command<'a>, AllocError> {
-    let command = named(alloc, "load", "list the code of images");
-    let command = with_images(alloc, command)?;
-    let formats = FORMATS.as_slice();
-    let format = choice(alloc, "format", formats, "human", "how code is listed");
-    let command = with(command, format)?;
-    with_look(alloc, command, NO_PROGRESS)
+/// Adds the command `load`.
+pub(crate) fn add_command(
+    alloc: Global,
+    commands: &mut Vec<Command<'_>>,
+) -> Result<(), AllocError> {
+    let mut words = Words::new(alloc);
+    add_images(&mut words)?;
+    words.choice("format", FORMATS.as_slice(), "human", "how code is listed")?;
+    add_look(&mut words, NO_PROGRESS)?;
+    words.finish(commands, "load", "list the code of images")
 }
 
 fn format_of(word: &str) -> LoadFormat {
@@ -46,11 +49,11 @@ fn format_of(word: &str) -> LoadFormat {
 }
 
 /// What the words of `load` ask for.
-pub(crate) fn options(alloc: Global, found: &ArgMatches<'_>) -> Result<LoadOptions, AllocError> {
+pub(crate) fn request(alloc: Global, found: &ArgMatches<'_>) -> Result<Request, AllocError> {
     let files = file_options(alloc, found)?;
-    Ok(LoadOptions {
+    Ok(Request::Load(LoadOptions {
         files,
         format: format_of(value(found, "format", "human")),
         look: found_look(found),
-    })
+    }))
 }

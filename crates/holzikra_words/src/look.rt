@@ -1,8 +1,8 @@
 //! The words that say how what is printed looks.
 
-use crate::parts::{choice, switch, value, with};
-use clap::{Arg, ArgMatches, Command};
-use std::alloc::{AllocError, Global};
+use crate::parts::{Words, value};
+use clap::ArgMatches;
+use std::alloc::AllocError;
 
 /// When what is printed for a person has colours.
 #[derive(Clone, Copy, PartialEq, Eq)]
@@ -31,37 +31,21 @@ pub(crate) const NO_SUMMARY: &str = "no summary, and no progress on a terminal";
 /// What `--quiet` does of a command that has no summary, in help.
 pub(crate) const NO_PROGRESS: &str = "no progress on a terminal";
 
-/// The command with the option for colours.
-pub(crate) fn with_colors<'a>(
-    alloc: Global,
-    command: Command<'a>,
-) -> Result<Command<'a>, AllocError> {
-    let colors = COLORS.as_slice();
+/// The option for colours.
+pub(crate) fn add_colors(words: &mut Words<'_>) -> Result<(), AllocError> {
     let help = "when what is printed for people has colours";
-    with(command, choice(alloc, "color", colors, "auto", help))
+    words.choice("color", COLORS.as_slice(), "auto", help)
 }
 
-fn quiet<'a>(alloc: Global, help: &'a str) -> Arg<'a> {
-    switch(alloc, "quiet", help).short('q')
+/// The option that leaves out what is no answer.
+pub(crate) fn add_quiet<'a>(words: &mut Words<'a>, help: &'a str) -> Result<(), AllocError> {
+    words.lettered_switch("quiet", 'q', help)
 }
 
-/// The command with the option that leaves out what is no answer.
-pub(crate) fn with_quiet<'a>(
-    alloc: Global,
-    command: Command<'a>,
-    help: &'a str,
-) -> Result<Command<'a>, AllocError> {
-    with(command, quiet(alloc, help))
-}
-
-/// The command with both options.
-pub(crate) fn with_look<'a>(
-    alloc: Global,
-    command: Command<'a>,
-    quiet: &'a str,
-) -> Result<Command<'a>, AllocError> {
-    let command = with_quiet(alloc, command, quiet)?;
-    with_colors(alloc, command)
+/// Both options.
+pub(crate) fn add_look<'a>(words: &mut Words<'a>, quiet: &'a str) -> Result<(), AllocError> {
+    add_quiet(words, quiet)?;
+    add_colors(words)
 }
 
 fn colors_of(word: &str) -> Colors {

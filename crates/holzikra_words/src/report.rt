@@ -1,10 +1,11 @@
 //! The words of `report`.
 
-use crate::files::{FileOptions, file_options, with_files};
-use crate::functions::{FunctionWord, function_words, with_functions};
-use crate::look::{NO_PROGRESS, found_quiet, with_quiet};
-use crate::parts::{named, value, with};
-use clap::{Arg, ArgMatches, Command};
+use crate::files::{FileOptions, add_files, file_options};
+use crate::functions::{FunctionWord, add_functions, function_words};
+use crate::look::{NO_PROGRESS, add_quiet, found_quiet};
+use crate::parts::{Words, value};
+use crate::words::Request;
+use clap::{ArgMatches, Command};
 use std::alloc::{AllocError, Global};
 
 /// What `report` is asked for.
@@ -19,27 +20,29 @@ pub struct ReportOptions {
     pub quiet: bool,
 }
 
-/// The command `report`.
-pub(crate) fn command<'a>(alloc: Global) -> Result<Command<'a>, AllocError> {
-    let command = named(alloc, "report", "write one page for a browser");
-    let command = with_files(alloc, command)?;
-    let command = with_functions(alloc, command)?;
-    let page = Arg::new(alloc, "output").long("output").short('o');
-    let page = page.value_name("PAGE").required(true);
-    let page = page.help("where the page is written; - is standard output");
-    let command = with(command, page)?;
-    with_quiet(alloc, command, NO_PROGRESS)
+/// Adds the command `report`.
+pub(crate) fn add_command(
+    alloc: Global,
+    commands: &mut Vec<Command<'_>>,
+) -> Result<(), AllocError> {
+    let mut words = Words::new(alloc);
+    add_files(&mut words)?;
+    add_functions(&mut words)?;
+    let page = "where the page is written; - is standard output";
+    words.needed("output", 'o', "PAGE", page)?;
+    add_quiet(&mut words, NO_PROGRESS)?;
+    words.finish(commands, "report", "write one page for a browser")
 }
 
 /// What the words of `report` ask for.
-pub(crate) fn options(alloc: Global, found: &ArgMatches<'_>) -> Result<ReportOptions, AllocError> {
+pub(crate) fn request(alloc: Global, found: &ArgMatches<'_>) -> Result<Request, AllocError> {
     let files = file_options(alloc, found)?;
     let functions = function_words(alloc, found)?;
     let page = String::from_str(alloc, value(found, "output", "-"))?;
-    Ok(ReportOptions {
+    Ok(Request::Report(ReportOptions {
         files,
         functions,
         page,
         quiet: found_quiet(found),
-    })
+    }))
 }

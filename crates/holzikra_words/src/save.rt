@@ -1,7 +1,8 @@
 //! The words of `save`.
 
-use crate::parts::{named, value, valued, with};
-use clap::{Arg, ArgMatches, Command};
+use crate::parts::{Words, value};
+use crate::words::Request;
+use clap::{ArgMatches, Command};
 use std::alloc::{AllocError, Global};
 
 /// What `save` is asked for.
@@ -15,27 +16,27 @@ pub struct SaveOptions {
     pub image: String,
 }
 
-/// The command `save`.
-pub(crate) fn command<'a>(alloc: Global) -> Result<Command<'a>, AllocError> {
-    let command = named(alloc, "save", "compile a script to an image");
-    let file = Arg::new(alloc, "FILE").required(true);
-    let command = with(command, file.help("a file, or - for standard input"))?;
-    let image = Arg::new(alloc, "output").long("output").short('o');
-    let image = image.value_name("IMAGE").required(true);
-    let image = image.help("where the image is written; - is standard output");
-    let command = with(command, image)?;
-    let stdin_name = valued(alloc, "stdin-name", "NAME", "<stdin>", "what - is called");
-    with(command, stdin_name)
+/// Adds the command `save`.
+pub(crate) fn add_command(
+    alloc: Global,
+    commands: &mut Vec<Command<'_>>,
+) -> Result<(), AllocError> {
+    let mut words = Words::new(alloc);
+    words.one("FILE", "a file, or - for standard input")?;
+    let image = "where the image is written; - is standard output";
+    words.needed("output", 'o', "IMAGE", image)?;
+    words.valued("stdin-name", "NAME", "<stdin>", "what - is called")?;
+    words.finish(commands, "save", "compile a script to an image")
 }
 
 /// What the words of `save` ask for.
-pub(crate) fn options(alloc: Global, found: &ArgMatches<'_>) -> Result<SaveOptions, AllocError> {
+pub(crate) fn request(alloc: Global, found: &ArgMatches<'_>) -> Result<Request, AllocError> {
     let file = String::from_str(alloc, value(found, "FILE", "-"))?;
     let stdin_name = String::from_str(alloc, value(found, "stdin-name", "<stdin>"))?;
     let image = String::from_str(alloc, value(found, "output", "-"))?;
-    Ok(SaveOptions {
+    Ok(Request::Save(SaveOptions {
         file,
         stdin_name,
         image,
-    })
+    }))
 }

@@ -1,9 +1,10 @@
 //! The words of `scopes`.
 
-use crate::files::{FileOptions, file_options, with_files};
-use crate::functions::{FunctionWord, function_words, with_functions};
-use crate::look::{Look, NO_PROGRESS, found_look, with_look};
-use crate::parts::{choice, named, value, with};
+use crate::files::{FileOptions, add_files, file_options};
+use crate::functions::{FunctionWord, add_functions, function_words};
+use crate::look::{Look, NO_PROGRESS, add_look, found_look};
+use crate::parts::{Words, value};
+use crate::words::Request;
 use clap::{ArgMatches, Command};
 use std::alloc::{AllocError, Global};
 
@@ -32,19 +33,23 @@ pub struct ScopesOptions {
 
 static FORMATS: [&str; 4] = ["human", "plain", "json", "dot"];
 
-/// The command `scopes`.
-pub(crate) fn command<'a>(alloc: Global) -> Result<Command<'a>, AllocError> {
-    let command = named(
-        alloc,
-        "scopes",
-        "draw functions and scopes, and who closes over what",
-    );
-    let command = with_files(alloc, command)?;
-    let command = with_functions(alloc, command)?;
-    let formats = FORMATS.as_slice();
-    let format = choice(alloc, "format", formats, "human", "how scopes are drawn");
-    let command = with(command, format)?;
-    with_look(alloc, command, NO_PROGRESS)
+/// Adds the command `scopes`.
+pub(crate) fn add_command(
+    alloc: Global,
+    commands: &mut Vec<Command<'_>>,
+) -> Result<(), AllocError> {
+    let mut words = Words::new(alloc);
+    add_files(&mut words)?;
+    add_functions(&mut words)?;
+    words.choice(
+        "format",
+        FORMATS.as_slice(),
+        "human",
+        "how scopes are drawn",
+    )?;
+    add_look(&mut words, NO_PROGRESS)?;
+    let about = "draw functions and scopes, and who closes over what";
+    words.finish(commands, "scopes", about)
 }
 
 fn format_of(word: &str) -> ScopesFormat {
@@ -57,13 +62,13 @@ fn format_of(word: &str) -> ScopesFormat {
 }
 
 /// What the words of `scopes` ask for.
-pub(crate) fn options(alloc: Global, found: &ArgMatches<'_>) -> Result<ScopesOptions, AllocError> {
+pub(crate) fn request(alloc: Global, found: &ArgMatches<'_>) -> Result<Request, AllocError> {
     let files = file_options(alloc, found)?;
     let functions = function_words(alloc, found)?;
-    Ok(ScopesOptions {
+    Ok(Request::Scopes(ScopesOptions {
         files,
         format: format_of(value(found, "format", "human")),
         functions,
         look: found_look(found),
-    })
+    }))
 }

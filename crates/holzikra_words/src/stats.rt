@@ -1,10 +1,10 @@
 //! The words of `stats`.
 
-use crate::files::{FileOptions, file_options, with_files};
-use crate::look::{Look, NO_SUMMARY, found_look, with_look};
-use crate::parts::{choice, named, value, with};
-use clap::builder::ValueParser;
-use clap::{Arg, ArgMatches, Command};
+use crate::files::{FileOptions, add_files, file_options};
+use crate::look::{Look, NO_SUMMARY, add_look, found_look};
+use crate::parts::{Words, value};
+use crate::words::Request;
+use clap::{ArgMatches, Command};
 use std::alloc::{AllocError, Global};
 
 /// How counts are written.
@@ -53,27 +53,24 @@ static COLUMNS: [&str; 8] = [
     "source-bytes",
 ];
 
-/// The option that names a column.
-fn sort<'a>(alloc: Global) -> Arg<'a> {
-    let columns = COLUMNS.as_slice();
-    let sort = Arg::new(alloc, "sort").long("sort").value_name("COLUMN");
-    let sort = sort.value_parser(ValueParser::Names(columns));
-    sort.help("what the lines of the table are sorted by")
-}
-
-/// The command `stats`.
-pub(crate) fn command<'a>(alloc: Global) -> Result<Command<'a>, AllocError> {
-    let command = named(
-        alloc,
-        "stats",
-        "count functions, closed names, instructions, bytes",
-    );
-    let command = with_files(alloc, command)?;
-    let formats = FORMATS.as_slice();
-    let format = choice(alloc, "format", formats, "human", "how counts are written");
-    let command = with(command, format)?;
-    let command = with(command, sort(alloc))?;
-    with_look(alloc, command, NO_SUMMARY)
+/// Adds the command `stats`.
+pub(crate) fn add_command(
+    alloc: Global,
+    commands: &mut Vec<Command<'_>>,
+) -> Result<(), AllocError> {
+    let mut words = Words::new(alloc);
+    add_files(&mut words)?;
+    words.choice(
+        "format",
+        FORMATS.as_slice(),
+        "human",
+        "how counts are written",
+    )?;
+    let sort = "what the lines of the table are sorted by";
+    words.named("sort", "COLUMN", COLUMNS.as_slice(), sort)?;
+    add_look(&mut words, NO_SUMMARY)?;
+    let about = "count functions, closed names, instructions, bytes";
+    words.finish(commands, "stats", about)
 }
 
 fn format_of(word: &str) -> StatsFormat {
@@ -109,12 +106,12 @@ pub(crate) fn complaint(
 }
 
 /// What the words of `stats` ask for.
-pub(crate) fn options(alloc: Global, found: &ArgMatches<'_>) -> Result<StatsOptions, AllocError> {
+pub(crate) fn request(alloc: Global, found: &ArgMatches<'_>) -> Result<Request, AllocError> {
     let files = file_options(alloc, found)?;
-    Ok(StatsOptions {
+    Ok(Request::Stats(StatsOptions {
         files,
         format: format_of(value(found, "format", "human")),
         sort: found.get_str("sort").map(column_of),
         look: found_look(found),
-    })
+    }))
 }

@@ -1,8 +1,9 @@
 //! The words of `verify`.
 
-use crate::files::{FileOptions, file_options, with_images};
-use crate::look::{Look, found_look, with_look};
-use crate::parts::{choice, named, value, with};
+use crate::files::{FileOptions, add_images, file_options};
+use crate::look::{Look, add_look, found_look};
+use crate::parts::{Words, value};
+use crate::words::Request;
 use clap::{ArgMatches, Command};
 use std::alloc::{AllocError, Global};
 
@@ -25,21 +26,19 @@ pub struct VerifyOptions {
 
 static FORMATS: [&str; 2] = ["human", "json"];
 
-/// The command `verify`.
-pub(crate) fn command<'a>(alloc: Global) -> Result<Command<'a>, AllocError> {
-    let command = named(alloc, "verify", "say whether the code of images is sound");
-    let command = with_images(alloc, command)?;
-    let formats = FORMATS.as_slice();
-    let format = choice(
-        alloc,
-        "format",
-        formats,
-        "human",
-        "how the answers are written",
-    );
-    let command = with(command, format)?;
+/// Adds the command `verify`.
+pub(crate) fn add_command(
+    alloc: Global,
+    commands: &mut Vec<Command<'_>>,
+) -> Result<(), AllocError> {
+    let mut words = Words::new(alloc);
+    add_images(&mut words)?;
+    let format = "how the answers are written";
+    words.choice("format", FORMATS.as_slice(), "human", format)?;
     let quiet = "images that are sound have no line; no progress on a terminal";
-    with_look(alloc, command, quiet)
+    add_look(&mut words, quiet)?;
+    let about = "say whether the code of images is sound";
+    words.finish(commands, "verify", about)
 }
 
 fn format_of(word: &str) -> VerifyFormat {
@@ -50,11 +49,11 @@ fn format_of(word: &str) -> VerifyFormat {
 }
 
 /// What the words of `verify` ask for.
-pub(crate) fn options(alloc: Global, found: &ArgMatches<'_>) -> Result<VerifyOptions, AllocError> {
+pub(crate) fn request(alloc: Global, found: &ArgMatches<'_>) -> Result<Request, AllocError> {
     let files = file_options(alloc, found)?;
-    Ok(VerifyOptions {
+    Ok(Request::Verify(VerifyOptions {
         files,
         format: format_of(value(found, "format", "human")),
         look: found_look(found),
-    })
+    }))
 }

@@ -56,43 +56,50 @@ fn with_rules<'a>(program: Command<'a>) -> Command<'a> {
         .arg_required_else_help(true)
 }
 
+/// The commands, in the order of the help.
+fn commands<'a>(alloc: Global) -> Result<Vec<Command<'a>>, AllocError> {
+    let mut commands = Vec::new(alloc);
+    check::add_command(alloc, &mut commands)?;
+    code::add_command(alloc, &mut commands)?;
+    scopes::add_command(alloc, &mut commands)?;
+    stats::add_command(alloc, &mut commands)?;
+    diff::add_command(alloc, &mut commands)?;
+    report::add_command(alloc, &mut commands)?;
+    save::add_command(alloc, &mut commands)?;
+    load::add_command(alloc, &mut commands)?;
+    verify::add_command(alloc, &mut commands)?;
+    explain::add_command(alloc, &mut commands)?;
+    Ok(commands)
+}
+
 /// The program without its commands.
-fn program<'a>(alloc: Global) -> Result<Command<'a>, AllocError> {
+fn bare_program<'a>(alloc: Global) -> Result<Command<'a>, AllocError> {
     with_rules(titled(alloc)).bin_name("holzikra")
 }
 
-/// The program with one more command.
-fn with_command<'a>(program: Command<'a>, command: Command<'a>) -> Result<Command<'a>, AllocError> {
-    program.subcommand(command)
+/// The program with these commands.
+fn program_with<'a>(alloc: Global, commands: Vec<Command<'a>>) -> Result<Command<'a>, AllocError> {
+    bare_program(alloc)?.subcommands(commands)
 }
 
 /// The program and its commands.
-fn commands<'a>(alloc: Global) -> Result<Command<'a>, AllocError> {
-    let program = with_command(program(alloc)?, check::command(alloc)?)?;
-    let program = with_command(program, code::command(alloc)?)?;
-    let program = with_command(program, scopes::command(alloc)?)?;
-    let program = with_command(program, stats::command(alloc)?)?;
-    let program = with_command(program, diff::command(alloc)?)?;
-    let program = with_command(program, report::command(alloc)?)?;
-    let program = with_command(program, save::command(alloc)?)?;
-    let program = with_command(program, load::command(alloc)?)?;
-    let program = with_command(program, verify::command(alloc)?)?;
-    with_command(program, explain::command(alloc)?)
+fn program<'a>(alloc: Global) -> Result<Command<'a>, AllocError> {
+    program_with(alloc, commands(alloc)?)
 }
 
 /// The command that was found, with its options.
 fn found_request(alloc: Global, matches: &ArgMatches<'_>) -> Result<Request, AllocError> {
     match matches.subcommand() {
-        Some(("check", found)) => Ok(Request::Check(check::options(alloc, found)?)),
-        Some(("code", found)) => Ok(Request::Code(code::options(alloc, found)?)),
-        Some(("scopes", found)) => Ok(Request::Scopes(scopes::options(alloc, found)?)),
-        Some(("stats", found)) => Ok(Request::Stats(stats::options(alloc, found)?)),
-        Some(("diff", found)) => Ok(Request::Diff(diff::options(alloc, found)?)),
-        Some(("report", found)) => Ok(Request::Report(report::options(alloc, found)?)),
-        Some(("save", found)) => Ok(Request::Save(save::options(alloc, found)?)),
-        Some(("load", found)) => Ok(Request::Load(load::options(alloc, found)?)),
-        Some(("verify", found)) => Ok(Request::Verify(verify::options(alloc, found)?)),
-        Some((_, found)) => Ok(Request::Explain(explain::options(alloc, found)?)),
+        Some(("check", found)) => check::request(alloc, found),
+        Some(("code", found)) => code::request(alloc, found),
+        Some(("scopes", found)) => scopes::request(alloc, found),
+        Some(("stats", found)) => stats::request(alloc, found),
+        Some(("diff", found)) => diff::request(alloc, found),
+        Some(("report", found)) => report::request(alloc, found),
+        Some(("save", found)) => save::request(alloc, found),
+        Some(("load", found)) => load::request(alloc, found),
+        Some(("verify", found)) => verify::request(alloc, found),
+        Some((_, found)) => explain::request(alloc, found),
         None => Ok(Request::Explain(ExplainOptions {
             codes: Vec::new(alloc),
             colors: Colors::Auto,
@@ -112,7 +119,7 @@ fn complaint_of(alloc: Global, matches: &ArgMatches<'_>) -> Result<Option<String
 
 /// The error with this text.
 fn error_of(alloc: Global, message: &str) -> Result<Error, AllocError> {
-    let mut program = commands(alloc)?;
+    let mut program = program(alloc)?;
     program.error(ErrorKind::ValueValidation, message)
 }
 
@@ -123,7 +130,7 @@ fn matches_of<'a>(program: Command<'a>, words: &'a [String]) -> Result<ArgMatche
 /// What the words behind the program's name ask for. An error is a mistake in them, with its text, or a request for help or for the
 /// version, with that as its text; or want of memory.
 pub fn read_words(alloc: Global, words: &[String]) -> Result<Request, Error> {
-    let matches = matches_of(commands(alloc)?, words)?;
+    let matches = matches_of(program(alloc)?, words)?;
     if let Some(message) = complaint_of(alloc, &matches)? {
         return Err(error_of(alloc, message.as_str())?);
     }

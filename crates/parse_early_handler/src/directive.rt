@@ -4,7 +4,7 @@ use crate::shape::Shape;
 
 /// What a statement is among the directives at the head of a body: leading statements that are one string without
 /// parentheses (ECMA-262, 12th edition, 11.2.1).
-#[derive(Clone, Copy, Debug)]
+#[derive(Clone, Copy)]
 pub enum Directive {
     /// No directive: none stands after it.
     No,

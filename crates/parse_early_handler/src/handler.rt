@@ -37,7 +37,7 @@ use std::alloc::AllocError;
 
 /// A handler that keeps no tree. Its nodes are the first early errors of the parts, of the rules that look at no region. It
 /// takes no memory.
-#[derive(Clone, Copy, Debug, Default)]
+#[derive(Clone, Copy, Default)]
 pub struct EarlyErrorHandler {}
 
 impl EarlyErrorHandler {

@@ -1,7 +1,7 @@
 //! What rules ask of the form of an expression inside another.
 
 /// The form of an expression, as far as the rules of assignments, of `delete` and of directives look at it.
-#[derive(Clone, Copy, Debug)]
+#[derive(Clone, Copy)]
 pub enum Shape {
     /// A name without parentheses; `reserved` says that it is `eval` or `arguments`.
     Name { reserved: bool },

@@ -19,6 +19,7 @@ ghost use Rattle.parse_exprs.specs.Means.{Itself, NameOf, MaybeNameOf, PassedOf}
 
 use crate::source::Source;
 use crate::{heads, kinds, token};
+use script_grammar::compact::CompactToken;
 use script_grammar::token::{FuncForm, Kind, Token, mark};
 use script_grammar::tree::Ident;
 use std::alloc::{AllocError, AllocFailed};
@@ -330,9 +331,13 @@ impl Cursor {
 }
 
 /// The offset where the token of this number, counted from 1, ends; 0 of none.
-fn end_of(tokens: &[Token], count: usize) -> u32
+fn end_of(tokens: &[CompactToken], count: usize) -> u32
     requires { count ≤ length tokens.now }
     ensures { result ≡ end_of tokens.now count }
 {
-    if count == 0 { 0 } else { tokens[count - 1].end }
+    if count == 0 {
+        0
+    } else {
+        tokens[count - 1].end()
+    }
 }

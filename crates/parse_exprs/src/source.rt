@@ -9,12 +9,13 @@ ghost use Rattle.parse_exprs.specs.Source.{IsSource, IsScanned, HasAtom, front};
 ghost use Rattle.script_grammar.specs.Matching.{IsMatching, kinds_of};
 
 use script_grammar::brackets::Brackets;
+use script_grammar::compact::CompactToken;
 use script_grammar::token::{Kind, Token};
 
 /// The tokens that a parser reads, which of them match as brackets, and the atoms of `get` and `set`.
 #[derive(Drop)]
 pub struct Source<'a> {
-    pub tokens: &'a [Token],
+    pub tokens: &'a [CompactToken],
     pub brackets: &'a Brackets,
     pub get: u32,
     pub set: u32,
@@ -23,7 +24,7 @@ pub struct Source<'a> {
 impl<'a> Source<'a> {
     /// The tokens of a text, as far as its brackets match: nothing is read after the brackets' stop. `get` and `set` are
     /// the atoms of these names.
-    pub fn new(tokens: &'a [Token], brackets: &'a Brackets, get: u32, set: u32) -> Source<'a>
+    pub fn new(tokens: &'a [CompactToken], brackets: &'a Brackets, get: u32, set: u32) -> Source<'a>
         requires scanned { IsScanned tokens.now }
         requires matching { IsMatching (kinds_of tokens.now) brackets.now }
         ensures is { IsSource result }
@@ -46,7 +47,7 @@ impl<'a> Source<'a> {
         ensures atom { HasAtom result }
     {
         if at < self.tokens.len() {
-            self.tokens[at]
+            self.tokens[at].get()
         } else {
             Token {
                 kind: Kind::End,

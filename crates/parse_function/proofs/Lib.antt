@@ -8,6 +8,7 @@ pub mod Places
 pub mod Lying
 pub mod Standing
 pub mod Without
+pub mod AsciiPoints
 pub mod TokenValues
 pub mod LeftValues
 pub mod Bodies
@@ -21,3 +22,7 @@ pub mod HoleHeads
 pub mod HoleTexts
 pub mod HolesFound
 pub mod HoleKinds
+pub mod MovedTokens
+pub mod GluedPoints
+pub mod Stretches
+pub mod GluedTokens

@@ -1,5 +1,5 @@
 -- The points of a part of a file with blanks in place of some bodies of its tokens, as they are made span by span.
-use Rattle.std.proofs.Common.{◌≡◌, ◌∙◌, ℕ, ◌+◌, ◌-◌, List, [], ◌∷◌, ◌++◌, map, take, drop, refl, sym, ap, subst, arith, append_assoc}
+use Rattle.std.proofs.Common.{◌≡◌, ◌≤◌, ◌∙◌, ℕ, ◌+◌, ◌-◌, List, [], ◌∷◌, ◌++◌, length, map, take, drop, refl, sym, ap, subst, arith, append_assoc}
 use Rattle.std.specs.Char.{len_utf8}
 use Rattle.std.specs.Str.{IsUtf8}
 use Rattle.script_grammar.specs.Lexeme.{Lexeme}
@@ -146,3 +146,9 @@ module _ (file : List ℕ) (utf8 : IsUtf8 file) (to : ℕ) where
       split =
           e ∙ ap (λ (xs : List Point). front ++ xs) (o.split ∙ sym (append_assoc o.front o.here o.behind)) ∙ sym (append_assoc front (o.front ++ o.here) o.behind)
           ∙ ap (λ (xs : List Point). (front ++ (o.front ++ o.here)) ++ xs) c.split
+
+-- ---- parts end in the file
+
+pub parts_within : (file : List ℕ) (from to : ℕ) (spans : List Span) → AreParts file from to spans → to ≤ length file
+parts_within file from to [] h = h.within
+parts_within file from to (s ∷ spans) h = parts_within file s.to to spans h.2

@@ -5,3 +5,4 @@ pub mod Shifted
 pub mod Holes
 pub mod Without
 pub mod Left
+pub mod Glued

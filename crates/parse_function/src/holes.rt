@@ -1,10 +1,12 @@
 //! What stands between the braces of the bodies of functions directly in a function, found by what stands in front of these bodies.
 //!
-//! A function's text is looked at from its start on, in windows that grow, until its head and a `{` are found. That search
-//! answers a guess, of which nothing is proved. Then the text up to that brace is scanned alone, and what was found counts only
-//! where it is a head and this brace: so a hole is what stands in the function's body. Where nothing is found there is no hole.
+//! Mostly the first `{` of a function's text opens its body, so that brace is tried first. Where it does not, the text is looked at
+//! from its start on, in windows that grow, until its head and a `{` are found. Either is a guess, of which nothing is proved: the
+//! text up to that brace is scanned alone, and what was found counts only where it is a head and this brace. So a hole is what
+//! stands in the function's body. Where nothing is found there is no hole.
 
 ghost use Rattle.std.specs.Prelude.{◌≡◌, ◌-◌, ◌≤◌, ◌<◌, ◌^◌, ℕ, length, take, drop, IfOk, IfSome, IsTrue};
+ghost use Rattle.std.specs.Str.{IsAscii, IsUtf8};
 ghost use Rattle.script_grammar.specs.Matching.{kinds_of, Pairs};
 ghost use Rattle.script_grammar.specs.declared.token.FuncForm.{FuncForm};
 ghost use Rattle.parse_function.specs.Extents.{IsFunctionExtent};
@@ -14,8 +16,9 @@ ghost use Rattle.parse_function.specs.Holes.{IsHeadLength, IsKindAt, OpensWithPa
 use crate::points::points_in;
 use parser_atoms::Atoms;
 use script_grammar::brackets::Brackets;
-use script_grammar::token::{Kind, Token, mark};
-use script_scanner::scan;
+use script_grammar::compact::CompactToken;
+use script_grammar::token::{Kind, mark};
+use script_scanner::{scan, scan_ascii};
 use std::alloc::{AllocError, Global};
 use stencil_data::Extent;
 
@@ -75,15 +78,36 @@ pub(crate) fn holes_in(
     Ok(holes)
 }
 
-// The hole of a function, where its opening brace is found.
+// The hole of a function, where its opening brace is found: mostly it is the first `{` of the function's text.
 fn hole_of(alloc: Global, file: &[u8], inner: Extent) -> Result<Option<Hole>, AllocError>
     requires size { length file.now ≤ 16777215 }
     requires function { IsFunctionAt file.now inner }
     ensures { IfOk result (λ found. IfSome found (λ hole. IsHole file.now inner hole)) }
 {
+    let Some(first) = window(file, inner, 0) else {
+        return Ok(None);
+    };
+    let found = hole_after(alloc, file, inner, first)?;
+    if found.is_some() {
+        return Ok(found);
+    }
     let Some(behind) = brace_of(alloc, file, inner)? else {
         return Ok(None);
     };
+    hole_after(alloc, file, inner, behind)
+}
+
+// The hole that begins at this offset, where a function's head and a `{` stand in front of it.
+fn hole_after(
+    alloc: Global,
+    file: &[u8],
+    inner: Extent,
+    behind: u32,
+) -> Result<Option<Hole>, AllocError>
+    requires size { length file.now ≤ 16777215 }
+    requires function { IsFunctionAt file.now inner }
+    ensures { IfOk result (λ found. IfSome found (λ hole. IsHole file.now inner hole)) }
+{
     if inner.start == 0 || behind <= inner.start || inner.end < behind {
         return Ok(None);
     }
@@ -129,7 +153,7 @@ fn look_at(alloc: Global, file: &[u8], inner: Extent, size: u32) -> Result<Look,
         return Ok(Look::Nowhere);
     };
     match beginning_of(alloc, &tokens)? {
-        Beginning::Braced(at) => Ok(Look::Behind(tokens[at].end)),
+        Beginning::Braced(at) => Ok(Look::Behind(tokens[at].end())),
         Beginning::Other => Ok(Look::Nowhere),
         Beginning::Cut => Ok(larger(inner, to, size)),
     }
@@ -171,7 +195,7 @@ fn tokens_of(
     file: &[u8],
     inner: Extent,
     to: u32,
-) -> Result<Option<Vec<Token>>, AllocError>
+) -> Result<Option<Vec<CompactToken>>, AllocError>
     requires size { length file.now ≤ 16777215 }
     requires function { IsFunctionAt file.now inner }
     requires behind { inner.start ≤ to }
@@ -181,13 +205,60 @@ fn tokens_of(
     ensures few { IfOk result (λ found. IfSome found (λ tokens. length tokens.items < 2 ^ 32)) }
 {
     let bytes = part_of(file, inner.start, to);
+    if bytes.is_ascii() {
+        let tokens = ascii_tokens(alloc, file, inner, to)?;
+        return Ok(Some(tokens));
+    }
     if str::from_utf8(bytes).is_err() {
         return Ok(None);
     }
+    let tokens = unicode_tokens(alloc, file, inner, to)?;
+    Ok(Some(tokens))
+}
+
+// The tokens of a function's text up to an offset, whose bytes are of ASCII.
+fn ascii_tokens(
+    alloc: Global,
+    file: &[u8],
+    inner: Extent,
+    to: u32,
+) -> Result<Vec<CompactToken>, AllocError>
+    requires size { length file.now ≤ 16777215 }
+    requires function { IsFunctionAt file.now inner }
+    requires behind { inner.start ≤ to }
+    requires within { to ≤ inner.end }
+    requires ascii { IsAscii (take (to - inner.start) (drop inner.start file.now)) }
+    ensures tokens { IfOk result (λ tokens. AreTokensOf file.now inner.start to tokens.items) }
+    ensures some { IfOk result (λ tokens. 0 < length tokens.items) }
+    ensures few { IfOk result (λ tokens. length tokens.items < 2 ^ 32) }
+{
+    let bytes = part_of(file, inner.start, to);
+    let mut atoms = Atoms::new(alloc);
+    let tokens = scan_ascii(alloc, bytes, inner.start, &mut atoms)?;
+    Ok(tokens)
+}
+
+// The tokens of a function's text up to an offset, whose bytes are UTF-8.
+fn unicode_tokens(
+    alloc: Global,
+    file: &[u8],
+    inner: Extent,
+    to: u32,
+) -> Result<Vec<CompactToken>, AllocError>
+    requires size { length file.now ≤ 16777215 }
+    requires function { IsFunctionAt file.now inner }
+    requires behind { inner.start ≤ to }
+    requires within { to ≤ inner.end }
+    requires utf8 { IsUtf8 (take (to - inner.start) (drop inner.start file.now)) }
+    ensures tokens { IfOk result (λ tokens. AreTokensOf file.now inner.start to tokens.items) }
+    ensures some { IfOk result (λ tokens. 0 < length tokens.items) }
+    ensures few { IfOk result (λ tokens. length tokens.items < 2 ^ 32) }
+{
+    let bytes = part_of(file, inner.start, to);
     let points = points_in(alloc, bytes, inner.start)?;
     let mut atoms = Atoms::new(alloc);
     let tokens = scan(alloc, &points, inner.start, to, &mut atoms)?;
-    Ok(Some(tokens))
+    Ok(tokens)
 }
 
 // The bytes between two offsets of a file.
@@ -200,20 +271,20 @@ fn part_of(file: &[u8], from: u32, to: u32) -> &[u8]
 }
 
 // Whether tokens are a function's head, a `{` that ends at this offset, and a last one.
-fn ends_with_head(alloc: Global, tokens: &[Token], behind: u32) -> Result<bool, AllocError>
+fn ends_with_head(alloc: Global, tokens: &[CompactToken], behind: u32) -> Result<bool, AllocError>
     requires some { 0 < length tokens.now }
     requires few { length tokens.now < 2 ^ 32 }
     ensures { IfOk result (λ ends. IsTrue ends → EndsWithHead tokens.now behind) }
 {
     match beginning_of(alloc, tokens)? {
-        Beginning::Braced(at) => Ok(at + 2 == tokens.len() && tokens[at].end == behind),
+        Beginning::Braced(at) => Ok(at + 2 == tokens.len() && tokens[at].end() == behind),
         Beginning::Other => Ok(false),
         Beginning::Cut => Ok(false),
     }
 }
 
 // How these tokens begin, which are those of a first part of a function's text.
-fn beginning_of(alloc: Global, tokens: &[Token]) -> Result<Beginning, AllocError>
+fn beginning_of(alloc: Global, tokens: &[CompactToken]) -> Result<Beginning, AllocError>
     requires some { 0 < length tokens.now }
     requires few { length tokens.now < 2 ^ 32 }
     ensures { IfOk result (BeginsWithHead (kinds_of tokens.now)) }
@@ -232,7 +303,7 @@ fn beginning_of(alloc: Global, tokens: &[Token]) -> Result<Beginning, AllocError
 }
 
 // How many tokens the function's head takes with which these tokens begin; none where they begin with none.
-fn head_length(alloc: Global, tokens: &[Token]) -> Result<Option<usize>, AllocError>
+fn head_length(alloc: Global, tokens: &[CompactToken]) -> Result<Option<usize>, AllocError>
     requires some { 0 < length tokens.now }
     requires few { length tokens.now < 2 ^ 32 }
     ensures { IfOk result (λ found. IfSome found (IsHeadLength (kinds_of tokens.now))) }
@@ -251,7 +322,7 @@ fn head_length(alloc: Global, tokens: &[Token]) -> Result<Option<usize>, AllocEr
 }
 
 // An arrow's single name, and the arrow's mark.
-fn name_length(tokens: &[Token]) -> Option<usize>
+fn name_length(tokens: &[CompactToken]) -> Option<usize>
     requires { IsKindAt (kinds_of tokens.now) 0 Kind.Name }
     ensures { IfSome result (IsHeadLength (kinds_of tokens.now)) }
 {
@@ -263,7 +334,7 @@ fn name_length(tokens: &[Token]) -> Option<usize>
 }
 
 // Parameters in parentheses, of which this token closes the last one, and perhaps an arrow's mark.
-fn params_length(tokens: &[Token], closer: u32) -> usize
+fn params_length(tokens: &[CompactToken], closer: u32) -> usize
     requires opens { OpensWithParen (kinds_of tokens.now) }
     requires pairs { Pairs (kinds_of tokens.now) 0 closer }
     ensures { IsHeadLength (kinds_of tokens.now) result }
@@ -277,21 +348,21 @@ fn params_length(tokens: &[Token], closer: u32) -> usize
 }
 
 // Whether the first token is a name.
-fn is_name(tokens: &[Token]) -> bool
+fn is_name(tokens: &[CompactToken]) -> bool
     ensures { IsTrue result → IsKindAt (kinds_of tokens.now) 0 Kind.Name }
 {
     match tokens.first() {
-        Some(token) => matches!(token.kind, Kind::Name),
+        Some(token) => matches!(token.kind(), Kind::Name),
         None => false,
     }
 }
 
 // Whether the token of this number is this mark.
-fn is_mark(tokens: &[Token], number: usize, index: u8) -> bool
+fn is_mark(tokens: &[CompactToken], number: usize, index: u8) -> bool
     ensures { IsTrue result → IsKindAt (kinds_of tokens.now) number (Kind.Mark index) }
 {
     match tokens.get(number) {
-        Some(token) => match token.kind {
+        Some(token) => match token.kind() {
             Kind::Mark(mark) => mark == index,
             _ => false,
         },
@@ -300,9 +371,9 @@ fn is_mark(tokens: &[Token], number: usize, index: u8) -> bool
 }
 
 // Whether there is no token of this number but the last one, which is End or Bad.
-fn is_last(tokens: &[Token], number: usize) -> bool {
+fn is_last(tokens: &[CompactToken], number: usize) -> bool {
     match tokens.get(number) {
-        Some(token) => matches!(token.kind, Kind::Bad | Kind::End),
+        Some(token) => matches!(token.kind(), Kind::Bad | Kind::End),
         None => true,
     }
 }

@@ -27,6 +27,7 @@ ghost use Rattle.grammar_alone_laws.specs.Alone.{nameless};
 ghost use Rattle.parse_function.specs.Extents.{IsExtentOf, IsFunctionExtent, own_statements, body_in};
 ghost use Rattle.parse_function.specs.Words.{KnowsAccessors};
 
+mod glued;
 mod holes;
 mod parsing;
 mod points;
@@ -44,9 +45,9 @@ use stencil_data::{Extent, Text};
 /// directly in it, in the order of the source. `known` has the atoms of `get` and `set`.
 ///
 /// The tree has no name, and the bodies of functions inside it are passed over. Time is linear in the bytes of the extent
-/// without those in braces of bodies directly in it; memory is that of its points, its tokens, its tree and its new texts. The
-/// atoms of the tree are indexes into the texts that are answered: those that were handed in, and after them those of the
-/// function's tokens that were not among these.
+/// without those in braces of bodies directly in it; memory is that of these bytes, or of their points where not all are of ASCII,
+/// of its tokens, its tree and its new texts. The atoms of the tree are indexes into the texts that are answered: those that were
+/// handed in, and after them those of the function's tokens that were not among these.
 pub fn read_function(
     alloc: Global,
     file: &[u8],

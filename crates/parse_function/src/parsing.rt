@@ -13,7 +13,8 @@ use parse_handlers::Full;
 use parse_parts::functions::alone;
 use parse_track::region::WellKnownAtoms;
 use script_grammar::brackets::Brackets;
-use script_grammar::token::{FuncForm, Token};
+use script_grammar::compact::CompactToken;
+use script_grammar::token::FuncForm;
 use script_grammar::tree::Func;
 use std::alloc::Global;
 
@@ -21,7 +22,7 @@ use std::alloc::Global;
 /// `known` has the atoms of `get` and `set`.
 pub(crate) fn function_of(
     alloc: Global,
-    tokens: &[Token],
+    tokens: &[CompactToken],
     form: FuncForm,
     known: WellKnownAtoms,
 ) -> Result<Func, ParseFault>

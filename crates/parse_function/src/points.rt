@@ -1,7 +1,7 @@
 //! The code points of a part of a file, at the places that they have in the file, without those in some holes.
 
 ghost use Rattle.std.specs.Prelude.{◌≡◌, ◌+◌, ◌≤◌, ◌<◌, ◌^◌, ◌++◌, length, map, IfOk, OnOk, All};
-ghost use Rattle.std.specs.Str.{IsUtf8, chars};
+ghost use Rattle.std.specs.Str.{IsAscii, IsUtf8, chars};
 ghost use Rattle.unit_text.specs.Points.{points, points_from};
 ghost use Rattle.scan_skip_laws.specs.Spans.{blank};
 ghost use Rattle.parse_function.specs.Holes.{span_at};
@@ -47,8 +47,32 @@ fn add_part(
     requires part { IsPart file.now from to }
     ensures { OnOk result (points.new.items ≡ points.old.items ++ points_between file.now from to) }
 {
-    let more = points_in(alloc, &file[from as usize..to as usize], from)?;
+    let bytes = &file[from as usize..to as usize];
+    if bytes.is_ascii() {
+        push_ascii(points, bytes, from)?;
+        return Ok(());
+    }
+    let more = points_in(alloc, bytes, from)?;
     points.extend_from_slice(&more)?;
+    Ok(())
+}
+
+// Adds the code points of bytes of ASCII, one each, which stand in the file from this offset on. There is room for them at once.
+#[tactic(auto, using(crate::proofs::AsciiPoints::ascii_none, crate::proofs::AsciiPoints::ascii_more, crate::proofs::AsciiPoints::ascii_all))]
+fn push_ascii(points: &mut Vec<Point>, bytes: &[u8], start: u32) -> Result<(), AllocError>
+    requires size { start + length bytes.now ≤ 16777215 }
+    requires ascii { IsAscii bytes.now }
+    ensures { OnOk result (points.new.items ≡ points.old.items ++ points_from start (chars bytes.now)) }
+{
+    points.reserve(bytes.len())?;
+    for at in 0..bytes.len() {
+        let place = start + at as u32;
+        points.push_reserved(Point {
+            code: char::from(bytes[at]),
+            start: place,
+            end: place + 1,
+        });
+    }
     Ok(())
 }
 

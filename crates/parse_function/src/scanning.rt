@@ -8,23 +8,24 @@ ghost use Rattle.parse_function.specs.Holes.{span_at};
 ghost use Rattle.parse_function.specs.Left.{points_left};
 ghost use Rattle.parse_function.specs.Without.{AreParts};
 
+use crate::glued::{glued_bytes, move_tokens};
 use crate::holes::Hole;
 use crate::points::without;
 use parser_atoms::Atoms;
-use script_grammar::token::Token;
+use script_grammar::compact::CompactToken;
 use script_scanner::{scan, scan_ascii};
 use std::alloc::{AllocError, Global};
 use stencil_data::Extent;
 
-/// The tokens of an extent of a file, with one space in place of what stands in each hole. Most functions have no function in them and
-/// are of ASCII alone, and are read without a list of their points.
+/// The tokens of an extent of a file, with one space in place of what stands in each hole. Where what is left is of ASCII alone, as of
+/// most functions, it is read without a list of its points: as it stands in the file where there is no hole, else put together.
 pub(crate) fn tokens_without(
     alloc: Global,
     file: &[u8],
     extent: Extent,
     holes: &[Hole],
     atoms: &mut Atoms,
-) -> Result<Vec<Token>, AllocError>
+) -> Result<Vec<CompactToken>, AllocError>
     requires size { length file.now ≤ 16777215 }
     requires parts { AreParts file.now extent.start extent.end (map span_at holes.now) }
     requires in_order { AreInOrder (points_left file.now extent holes.now) }
@@ -39,6 +40,13 @@ pub(crate) fn tokens_without(
         let bytes = part_of(file, extent);
         if bytes.is_ascii() {
             let tokens = scan_ascii(alloc, bytes, extent.start, atoms)?;
+            return Ok(tokens);
+        }
+    } else {
+        let bytes = glued_bytes(alloc, file, extent, holes)?;
+        if bytes.is_ascii() {
+            let mut tokens = scan_ascii(alloc, &bytes, extent.start, atoms)?;
+            move_tokens(&mut tokens, extent.start, holes);
             return Ok(tokens);
         }
     }

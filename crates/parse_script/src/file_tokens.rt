@@ -12,7 +12,7 @@ ghost use Rattle.parse_script.specs.Tokens.{tokens_in, IsSound};
 use parse_track::region::WellKnownAtoms;
 use parser_atoms::Atoms;
 use script_grammar::brackets::Brackets;
-use script_grammar::token::Token;
+use script_grammar::compact::CompactToken;
 use script_scanner::{scan, scan_ascii};
 use std::alloc::Global;
 use stencil_data::Text;
@@ -22,7 +22,7 @@ use unit_text::{DecodeFault, decode};
 /// The tokens of a file, which of them match as brackets, and the texts that their atoms index; `known` has the atoms of the known words.
 #[derive(Drop)]
 pub struct FileTokens {
-    pub tokens: Vec<Token>,
+    pub tokens: Vec<CompactToken>,
     pub brackets: Brackets,
     pub texts: Vec<Text>,
     pub known: WellKnownAtoms,
@@ -51,7 +51,11 @@ pub fn tokens_of(alloc: Global, bytes: &[u8]) -> Result<FileTokens, DecodeFault>
 
 /// The same, their texts interned in `atoms`. Most files are of ASCII alone, and are read without a list of their points.
 #[tactic(auto, using(crate::proofs::AsciiFiles::ascii_points, crate::proofs::AsciiFiles::ascii_utf8))]
-fn scan_file(alloc: Global, bytes: &[u8], atoms: &mut Atoms) -> Result<Vec<Token>, DecodeFault>
+fn scan_file(
+    alloc: Global,
+    bytes: &[u8],
+    atoms: &mut Atoms,
+) -> Result<Vec<CompactToken>, DecodeFault>
     requires size { length bytes.now ≤ 16777215 }
     requires room { length bytes.now + length atoms.old < 2 ^ 32 - 1 }
     ensures utf8 { OnOk result (IsUtf8 bytes.now) }

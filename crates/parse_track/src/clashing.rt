@@ -24,14 +24,14 @@ use script_grammar::tree::Ident;
 use std::alloc::{AllocError, Global};
 
 /// An offset for the names that heads of `for` statements declare, and one for other lexical names.
-#[derive(Clone, Copy, Debug)]
+#[derive(Clone, Copy)]
 pub struct LexicalOffsets {
     pub head: Option<u32>,
     pub other: Option<u32>,
 }
 
 /// A name that regions around declare lexically: how many functions are around them, and where it stands first in them.
-#[derive(Clone, Copy, Debug)]
+#[derive(Clone, Copy)]
 pub struct LexicalName {
     pub depth: u32,
     pub first: LexicalOffsets,

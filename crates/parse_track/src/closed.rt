@@ -22,7 +22,7 @@ use crate::track::{Item, RegionRow};
 use std::alloc::{AllocError, Global};
 
 /// The innermost binding of a name: its place among all bindings, and how many functions are around its scope.
-#[derive(Clone, Copy, Debug)]
+#[derive(Clone, Copy)]
 pub struct Top {
     pub place: usize,
     pub depth: usize,
@@ -123,7 +123,7 @@ impl FoundClosed {
 
 /// What is around a region: whether it stands directly in that of its function's name, the offset where its function begins,
 /// None for the script, and how many functions are around it.
-#[derive(Clone, Copy, Debug)]
+#[derive(Clone, Copy)]
 pub struct RegionContext {
     pub named: bool,
     pub func: Option<u32>,

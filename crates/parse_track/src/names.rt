@@ -13,7 +13,7 @@ use script_grammar::tree::Ident;
 use std::alloc::{AllocError, Global};
 
 /// Which declarations are asked for.
-#[derive(Clone, Copy, Debug)]
+#[derive(Clone, Copy)]
 pub enum Asked {
     Lexical,
     Var,

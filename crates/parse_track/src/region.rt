@@ -3,7 +3,7 @@
 use script_grammar::tree::Ident;
 
 /// The atoms of the names and texts that a parser knows by their spelling.
-#[derive(Clone, Copy, Debug)]
+#[derive(Clone, Copy)]
 pub struct WellKnownAtoms {
     /// `eval`
     pub eval: u32,
@@ -22,7 +22,7 @@ pub struct WellKnownAtoms {
 }
 
 /// A region of a script.
-#[derive(Clone, Copy, Debug)]
+#[derive(Clone, Copy)]
 pub enum Region {
     Script,
     /// A function that is no arrow: its parameters, and its body where no parameter has an initializer.
@@ -43,7 +43,7 @@ pub enum Region {
 }
 
 /// How a name is declared.
-#[derive(Clone, Copy, Debug)]
+#[derive(Clone, Copy)]
 pub enum Declare {
     /// By `let` or `const`, or by a function declaration that is not at the top of a script or function.
     Lexical,
@@ -55,14 +55,14 @@ pub enum Declare {
 }
 
 /// The word of a jump.
-#[derive(Clone, Copy, Debug)]
+#[derive(Clone, Copy)]
 pub enum Jump {
     Break,
     Continue,
 }
 
 /// An early error: the offset where it stands, in bytes, and the number of its rule, 1 to 14.
-#[derive(Clone, Copy, Debug)]
+#[derive(Clone, Copy)]
 pub struct Early {
     pub offset: u32,
     pub rule: u8,
@@ -70,7 +70,7 @@ pub struct Early {
 
 /// A name that an inner function closes over: the offset where the parameters of its function start, None for the script;
 /// the number of its scope in that function; and its atom.
-#[derive(Clone, Copy, Debug)]
+#[derive(Clone, Copy)]
 pub struct ClosedAt {
     pub func: Option<u32>,
     pub scope: u32,

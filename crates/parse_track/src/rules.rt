@@ -22,7 +22,7 @@ use script_grammar::tree::Ident;
 use std::alloc::{AllocError, Global};
 
 /// The smallest offset of each early error that looks at one region alone, where there is one.
-#[derive(Clone, Copy, Debug)]
+#[derive(Clone, Copy)]
 pub struct RuleOffsets {
     pub twice_lexical: Option<u32>,
     pub catch_and_lexical: Option<u32>,
@@ -58,7 +58,7 @@ impl RuleOffsets {
 }
 
 /// Regions whose lexical names count as those of the region around them.
-#[derive(Clone, Copy, Debug)]
+#[derive(Clone, Copy)]
 enum InnerKind {
     Block,
     Body,

@@ -12,7 +12,7 @@ use script_grammar::tree::Ident;
 use std::alloc::{AllocError, Global};
 
 /// A jump that is told; `at` is the offset of its word, in bytes.
-#[derive(Clone, Copy, Debug)]
+#[derive(Clone, Copy)]
 pub struct ToldJump {
     pub word: Jump,
     pub at: u32,
@@ -20,7 +20,7 @@ pub struct ToldJump {
 }
 
 /// What a region is; `at` is the offset where the parameters of a function start, in bytes, and 0 of another region.
-#[derive(Clone, Copy, Debug)]
+#[derive(Clone, Copy)]
 pub struct RegionHead {
     pub kind: Region,
     pub at: u32,

@@ -11,7 +11,7 @@ use std::collections::BTreeMap;
 use stencil_data::Text;
 
 // How many cells there are at first.
-const FEWEST: usize = 64;
+const FEWEST: usize = 128;
 
 // The places of texts. A text's digest leads to two cells, and the text has the first one that was free when it was put in. A text
 // both of whose cells others have is in a tree, which is balanced: so neither looking a text up nor putting one in takes more

@@ -1,4 +1,5 @@
 pub mod Adding
+pub mod Appending
 pub mod FunctionScopes
 pub mod NameTexts
 pub mod Placing

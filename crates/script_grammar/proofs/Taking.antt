@@ -9,7 +9,7 @@ use Rattle.script_grammar.specs.declared.brackets.BracketPart.{BracketPart}
 use Rattle.script_grammar.specs.declared.brackets.BracketPart.TheVariants.{Opening, Closing, Middle, Other}
 use Rattle.script_grammar.specs.declared.brackets.Open.{Open}
 use Rattle.script_grammar.specs.Matching.{part_of, part_at, kinds_of, is_same, next_open, Matching, IsMatching}
-use Rattle.script_grammar.specs.BracketWalk.{brackets_of, partner_in, partners_from, Walked, After, Closes, GainsPartner}
+use Rattle.script_grammar.specs.BracketWalk.{brackets_of, partner_in, told_partners, Walked, After, Closes, GainsPartner}
 use Rattle.script_grammar.proofs.Walking.{walked-start, walked-other, walked-opening, walked-closing, walked-middle, walked-last, walked-misfit, opener-before}
 use Rattle.script_grammar.proofs.PartnerLists.{none-in, gains-here, gains-other}
 
@@ -64,9 +64,9 @@ taken-middle ts n d x ps qs rs ss os us vs ws within read h closed same first ke
     subst (λ q. Walked (kinds_of ts) (suc n) (partner_in q) ws) (sym after) (subst (λ u. Walked (kinds_of ts) (suc n) (partner_in rs) u) (sym entries) made)
 
 pub misfit-closing : (ts : List Token) (n : ℕ) (d : Token) (b : Bracket) (ps qs : List ℕ) (os us : List Open) → n < length ts → Closing b ≡ part_of (get_or ts n d).kind
-    → Walked (kinds_of ts) n (partner_in ps) os → Closes os us b None → qs ≡ ps → IsMatching (kinds_of ts) (record { partners = partners_from 0 qs; stop = n })
+    → Walked (kinds_of ts) n (partner_in ps) os → Closes os us b None → qs ≡ ps → IsMatching (kinds_of ts) (record { partners = told_partners qs; stop = n })
 misfit-closing ts n d b ps qs os us within read h closed same =
-    subst (λ q. IsMatching (kinds_of ts) (record { partners = partners_from 0 q; stop = n })) (sym same)
+    subst (λ q. IsMatching (kinds_of ts) (record { partners = told_partners q; stop = n })) (sym same)
     (walked-misfit (kinds_of ts) n ps os (kinds-within ts n within) (ap (next_open (brackets_of os)) (part-read ts n d (Closing b) within read) ∙ closed) h)
 
 -- what does not close a template does not stand in the middle of one
@@ -79,16 +79,16 @@ middle-none (o ∷ os) h = same (is_same o.bracket Template) h
     same false e = refl
 
 pub misfit-middle : (ts : List Token) (n : ℕ) (d : Token) (ps qs : List ℕ) (os us : List Open) → n < length ts → Middle ≡ part_of (get_or ts n d).kind
-    → Walked (kinds_of ts) n (partner_in ps) os → Closes os us Template None → qs ≡ ps → IsMatching (kinds_of ts) (record { partners = partners_from 0 qs; stop = n })
+    → Walked (kinds_of ts) n (partner_in ps) os → Closes os us Template None → qs ≡ ps → IsMatching (kinds_of ts) (record { partners = told_partners qs; stop = n })
 misfit-middle ts n d ps qs os us within read h closed same =
-    subst (λ q. IsMatching (kinds_of ts) (record { partners = partners_from 0 q; stop = n })) (sym same)
+    subst (λ q. IsMatching (kinds_of ts) (record { partners = told_partners q; stop = n })) (sym same)
     (walked-misfit (kinds_of ts) n ps os (kinds-within ts n within) (ap (next_open (brackets_of os)) (part-read ts n d Middle within read) ∙ middle-none os closed) h)
 
 pub taken-start : (ts : List Token) (ps : List ℕ) (os : List Open) → ps ≡ [] → os ≡ [] → Walked (kinds_of ts) 0 (partner_in ps) os
 taken-start ts ps os made none = subst (λ l. Walked (kinds_of ts) 0 (partner_in ps) l) (sym none) (walked-start (kinds_of ts) (partner_in ps) (λ t. ap (λ l. partner_in l t) made ∙ none-in t))
 
 pub taken-last : (ts : List Token) (n : ℕ) (ps : List ℕ) (os : List Open) → suc n ≡ length ts → Walked (kinds_of ts) n (partner_in ps) os
-    → IsMatching (kinds_of ts) (record { partners = partners_from 0 ps; stop = n })
+    → IsMatching (kinds_of ts) (record { partners = told_partners ps; stop = n })
 taken-last ts n ps os last h = walked-last (kinds_of ts) n ps os (last ∙ sym (length-map ts (λ t. t.kind))) h
 
 pub after-fits : (ts : List Token) (n : ℕ) (fits : Bool) (ps : List ℕ) (os : List Open) → fits ≡ true → After (kinds_of ts) n fits ps os
@@ -96,7 +96,7 @@ pub after-fits : (ts : List Token) (n : ℕ) (fits : Bool) (ps : List ℕ) (os :
 after-fits ts n true ps os e h = let next : suc n ≡ n + 1 = omega arith in subst (λ m. Walked (kinds_of ts) m (partner_in ps) os) next h
 after-fits ts n false ps os e h = absurd (cc)
 
-pub taken-end : (ts : List Token) (n last : ℕ) (ps : List ℕ) (os : List Open) (m : Matching) → n ≡ last → suc last ≡ length ts → m ≡ record { partners = partners_from 0 ps; stop = last }
+pub taken-end : (ts : List Token) (n last : ℕ) (ps : List ℕ) (os : List Open) (m : Matching) → n ≡ last → suc last ≡ length ts → m ≡ record { partners = told_partners ps; stop = last }
     → Walked (kinds_of ts) n (partner_in ps) os → IsMatching (kinds_of ts) m
 taken-end ts n last ps os m at_last end made h =
     subst (IsMatching (kinds_of ts)) (sym made) (taken-last ts last ps os end (subst (λ k. Walked (kinds_of ts) k (partner_in ps) os) at_last h))

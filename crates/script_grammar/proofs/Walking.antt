@@ -9,10 +9,10 @@ use Rattle.script_grammar.specs.declared.brackets.Bracket.TheVariants.{Template}
 use Rattle.script_grammar.specs.declared.brackets.BracketPart.TheVariants.{Opening, Closing, Middle, Other}
 use Rattle.script_grammar.specs.declared.brackets.Open.{Open}
 use Rattle.script_grammar.specs.Matching.{part_at, is_same, next_open, all_open, opened_by, closed_by, between, IsBalanced, Pairs, IsPartner, IsMatching}
-use Rattle.script_grammar.specs.BracketWalk.{brackets_of, partner_in, partners_from, AllOpen, Walked}
+use Rattle.script_grammar.specs.BracketWalk.{brackets_of, partner_in, told_partners, AllOpen, Walked}
 use Rattle.script_grammar.proofs.Balance.{all_open-more, is_same-eq, between-more, between-none}
 use Rattle.script_grammar.proofs.Partners.{opener-unique, closer-not_before, partner-later, partner-earlier, partner-same}
-use Rattle.script_grammar.proofs.PartnerLists.{told_by}
+use Rattle.script_grammar.proofs.PartnerLists.{told_at}
 
 -- One token more changes what is open above each in the same way.
 opened-step : (ks : List Kind) (n : ℕ) → n < length ks
@@ -179,19 +179,19 @@ walked-middle ks n f g o stack within part same at_x at_other h = record {
 
 -- where a walk ends, at the last token or at one that does not fit
 pub walked-last : (ks : List Kind) (n : ℕ) (ps : List ℕ) (stack : List Open) → suc n ≡ length ks → Walked ks n (partner_in ps) stack
-    → IsMatching ks (record { partners = partners_from 0 ps; stop = n })
+    → IsMatching ks (record { partners = told_partners ps; stop = n })
 walked-last ks n ps stack last h = record {
   stop = record { within = omega arith; stack = brackets_of stack; fit = h.fit; stops = inl last };
-  partner = λ t p e. h.sound t p (sym (told_by ps t) ∙ e);
-  only = λ t p e. told_by ps t ∙ h.only t p e;
+  partner = λ t p e. h.sound t p (sym (told_at ps t) ∙ e);
+  only = λ t p e. told_at ps t ∙ h.only t p e;
 }
 
 pub walked-misfit : (ks : List Kind) (n : ℕ) (ps : List ℕ) (stack : List Open) → n < length ks → next_open (brackets_of stack) (part_at ks n) ≡ None
-    → Walked ks n (partner_in ps) stack → IsMatching ks (record { partners = partners_from 0 ps; stop = n })
+    → Walked ks n (partner_in ps) stack → IsMatching ks (record { partners = told_partners ps; stop = n })
 walked-misfit ks n ps stack within misfit h = record {
   stop = record { within = within; stack = brackets_of stack; fit = h.fit; stops = inr misfit };
-  partner = λ t p e. h.sound t p (sym (told_by ps t) ∙ e);
-  only = λ t p e. told_by ps t ∙ h.only t p e;
+  partner = λ t p e. h.sound t p (sym (told_at ps t) ∙ e);
+  only = λ t p e. told_at ps t ∙ h.only t p e;
 }
 
 -- the innermost open token stands before the next token

@@ -7,14 +7,17 @@ use Rattle.script_grammar.specs.declared.brackets.BracketPart.TheVariants.{Closi
 use Rattle.script_grammar.specs.declared.brackets.Open.{Open}
 use Rattle.script_grammar.specs.Matching.{is_same, next_open, IsMatching, all_open, opened_by, part_at, between, IsPartner}
 
--- What a list tells that has the partner of each token from token n on, or the token's own number where it has none.
-unfoldable pub partners_from : ℕ → List ℕ → List (Option ℕ)
-partners_from n [] = []
-partners_from n (p ∷ ps) = (if nat_eq p n then None else Some p) ∷ partners_from (suc n) ps
+-- What an entry of a list of partners tells: 2^32 - 1 stands in place of a partner where there is none.
+abbrev pub told_by : ℕ → Option ℕ
+told_by entry = if nat_eq entry 4294967295 then None else Some entry
 
--- The partner of a token by such a list from token 0 on. Tokens after the end of the list have none.
+-- What a list of such entries tells.
+abbrev pub told_partners : List ℕ → List (Option ℕ)
+told_partners = map told_by
+
+-- The partner of a token by such a list. Tokens after the end of the list have none.
 abbrev pub partner_in : List ℕ → ℕ → Option ℕ
-partner_in partners t = if nat_eq (slice_index_or partners t t) t then None else Some (slice_index_or partners t t)
+partner_in partners t = told_by (slice_index_or partners t 4294967295)
 
 -- Both lists say the same but for token t, whose partner is p in the new one.
 abbrev pub GainsPartner : List ℕ → List ℕ → ℕ → ℕ → Type 0
@@ -40,7 +43,7 @@ pub record Walked (ks : List Kind) (n : ℕ) (partner : ℕ → Option ℕ) (sta
 -- What the walk knows after token n, whether it fits or not.
 abbrev pub After : List Kind → ℕ → Bool → List ℕ → List Open → Type 0
 After ks n true partners stack = Walked ks (suc n) (partner_in partners) stack
-After ks n false partners stack = IsMatching ks (record { partners = partners_from 0 partners; stop = n })
+After ks n false partners stack = IsMatching ks (record { partners = told_partners partners; stop = n })
 
 -- Closing this bracket takes away the innermost open token, where that is of this kind, and answers it.
 abbrev pub Closes : List Open → List Open → Bracket → Option ℕ → Type 0

@@ -1,10 +1,11 @@
 //! Which brackets of a list of tokens match.
 
-ghost use Rattle.std.specs.Prelude.{◌≡◌, ◌≢◌, ◌<◌, ◌^◌, ℕ, [], ◌∷◌, length, reverse, IfOk, OnOk};
+ghost use Rattle.std.specs.Prelude.{◌≡◌, ◌<◌, ◌^◌, ℕ, [], ◌∷◌, length, reverse, IfOk, OnOk};
 ghost use Rattle.script_grammar.specs.Matching.{part_of, part_of_mark, kinds_of, is_same, partner_of, IsMatching};
-ghost use Rattle.script_grammar.specs.BracketWalk.{Walked, After, Closes, GainsPartner, partner_in, partners_from};
+ghost use Rattle.script_grammar.specs.BracketWalk.{Walked, After, Closes, GainsPartner, partner_in, told_partners};
 
-use crate::token::{Kind, Token, mark};
+use crate::compact::CompactToken;
+use crate::token::{Kind, mark};
 use std::alloc::{AllocError, Global};
 use std::marker::Model;
 
@@ -33,6 +34,9 @@ struct Open {
     bracket: Bracket,
 }
 
+/// Stands in place of a partner where a token has none. No token has this number: a list has fewer tokens.
+const NO_PARTNER: u32 = 4294967295;
+
 /// The partners found so far, and the open tokens, the innermost last.
 #[derive(Drop)]
 struct Walk {
@@ -45,18 +49,18 @@ struct Walk {
 /// Takes 4 bytes of memory for each token up to the last that has a partner, and no more.
 #[derive(Drop)]
 pub struct Brackets {
-    /// Each token's partner, or the token's own number where it has none. The tokens after the end have none.
+    /// Each token's partner, or `NO_PARTNER`. The tokens after the end have none.
     partners: Vec<u32>,
     stop: u32,
 }
 
 impl Model for Brackets {
     ghost use Rattle.script_grammar.specs.Matching.{Matching};
-    ghost use Rattle.script_grammar.specs.BracketWalk.{partners_from};
+    ghost use Rattle.script_grammar.specs.BracketWalk.{told_partners};
 
     ghost Value = { Matching };
 
-    ghost view = { λ b. record { partners = partners_from 0 b.partners.items; stop = b.stop } };
+    ghost view = { λ b. record { partners = told_partners b.partners.items; stop = b.stop } };
 }
 
 fn mark_part(index: u8) -> BracketPart
@@ -85,6 +89,13 @@ fn bracket_part(kind: Kind) -> BracketPart
     }
 }
 
+/// What a token does to brackets.
+fn token_part(token: CompactToken) -> BracketPart
+    ensures { result ≡ part_of token.kind }
+{
+    bracket_part(token.kind())
+}
+
 fn is_same(first: Bracket, second: Bracket) -> bool
     ensures { result ≡ is_same first second }
 {
@@ -101,7 +112,7 @@ fn partner_in(partners: &[u32], token: u32) -> Option<u32>
     ensures { result ≡ partner_in partners.now token }
 {
     match partners.get(token as usize) {
-        Some(partner) if *partner != token => Some(*partner),
+        Some(partner) if *partner != NO_PARTNER => Some(*partner),
         _ => None,
     }
 }
@@ -138,21 +149,20 @@ impl Walk {
     }
 
     /// Makes the list of partners reach to this token.
+    #[tactic(auto, using(crate::proofs::PartnerLists::reached_same))]
     fn reach(&mut self, token: u32) -> Result<(), AllocError>
         ensures partners { OnOk result ((t : ℕ) → partner_in self.new.partners.items t ≡ partner_in self.old.partners.items t) }
         ensures within { OnOk result (token < length self.new.partners.items) }
         ensures stack { self.new.stack ≡ self.old.stack }
     {
-        let mut own = self.partners.len();
-        while own <= token as usize {
-            self.partners.push(own as u32)?;
-            own += 1;
+        if self.partners.len() <= token as usize {
+            self.partners.resize(token as usize + 1, NO_PARTNER)?;
         }
         Ok(())
     }
 
     fn pair(&mut self, token: u32, partner: u32) -> Result<(), AllocError>
-        requires other { partner ≢ token }
+        requires number { partner < 4294967295 }
         ensures partners { OnOk result (GainsPartner self.old.partners.items self.new.partners.items token partner) }
         ensures stack { self.new.stack ≡ self.old.stack }
     {
@@ -161,12 +171,13 @@ impl Walk {
         Ok(())
     }
 
-    fn take(&mut self, tokens: &[Token], token: u32) -> Result<bool, AllocError>
+    fn take(&mut self, tokens: &[CompactToken], token: u32) -> Result<bool, AllocError>
         requires within { token < length tokens.now }
+        requires few { length tokens.now < 2 ^ 32 }
         requires so_far { Walked (kinds_of tokens.now) token (partner_in self.old.partners.items) (reverse self.old.stack.items) }
         ensures { IfOk result (λ fits. After (kinds_of tokens.now) token fits self.new.partners.items (reverse self.new.stack.items)) }
     {
-        match bracket_part(tokens[token as usize].kind) {
+        match token_part(tokens[token as usize]) {
             BracketPart::Opening(bracket) => {
                 self.open(token, bracket)?;
                 Ok(true)
@@ -192,7 +203,7 @@ impl Walk {
     }
 
     fn stop_at(self, stop: u32) -> Brackets
-        ensures { result ≡ record { partners = partners_from 0 self.partners.items; stop = stop } }
+        ensures { result ≡ record { partners = told_partners self.partners.items; stop = stop } }
     {
         let Walk { partners, stack: _ } = self;
         Brackets { partners, stop }
@@ -201,7 +212,7 @@ impl Walk {
 
 impl Brackets {
     /// Matches the brackets of a list of tokens as `scan` gives it.
-    pub fn of(alloc: Global, tokens: &[Token]) -> Result<Brackets, AllocError>
+    pub fn of(alloc: Global, tokens: &[CompactToken]) -> Result<Brackets, AllocError>
         requires some { 0 < length tokens.now }
         requires few { length tokens.now < 2 ^ 32 }
         ensures { IfOk result (λ b. IsMatching (kinds_of tokens.now) b) }
@@ -218,7 +229,7 @@ impl Brackets {
 
     /// The token that closes what this one opens, or else the one that opened what it closes. None where the token is no
     /// bracket, where it has no partner before the stop, and where there is no such token.
-    #[tactic(auto, using(crate::proofs::PartnerLists::told_by))]
+    #[tactic(auto, using(crate::proofs::PartnerLists::told_at))]
     pub fn partner(&self, token: u32) -> Option<u32>
         ensures { result ≡ partner_of self.now token }
     {

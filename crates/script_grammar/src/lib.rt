@@ -1,6 +1,7 @@
 //! Tokens and trees of a script, the trait by which a parser hands out what it reads, and the matching of brackets.
 //!
-//! It stands on no crate of this project. The scanner makes its tokens (`token`), the parsers read them and call a `Handler`
+//! It stands on no crate of this project. The scanner makes its tokens (`token`, and `compact` for the form in which a list has
+//! them), the parsers read them and call a `Handler`
 //! (`handler`, with the forms that it is handed in `build` and `node`), and whoever keeps a tree has the types of `tree`.
 //! `brackets` finds the partner of each bracket. Its specs have the grammar itself: the trees of the model, how they print,
 //! and which lists of tokens are a script.
@@ -11,6 +12,7 @@
 
 pub mod brackets;
 pub mod build;
+pub mod compact;
 pub mod handler;
 pub mod node;
 pub mod token;

@@ -30,7 +30,7 @@ pub enum Kind {
     End,
 }
 
-/// A token: offsets are in bytes from the text's start. It takes 24 bytes of memory: its fields lie in this order.
+/// A token: offsets are in bytes from the text's start. Lists of tokens have them as [`CompactToken`](crate::compact::CompactToken).
 #[derive(Clone, Copy, Debug, PartialEq, Eq)]
 pub struct Token {
     pub kind: Kind,
@@ -43,8 +43,6 @@ pub struct Token {
     /// The offset after its last byte.
     pub end: u32,
 }
-
-const _: () = prove!(size_of::<Token>() == 24);
 
 /// What a function is by its syntax: what its parameters and its body look like. `Script` is the script itself.
 #[derive(Clone, Copy, Debug, PartialEq, Eq)]

@@ -11,7 +11,7 @@ ghost use Rattle.script_image.specs.Pieces.{left_from, walked};
 
 use crate::chunk::{Chunk, flush, put, put_byte};
 use crate::names::op_name;
-use crate::quoted::{put_decimal, put_padded, put_quoted, put_range, text_at};
+use crate::quoted::{put_column, put_decimal, put_quoted, put_range, text_at};
 use bytecode_buf::{Instr, Shape, decode_at};
 use std::alloc::AllocError;
 use stencil_data::{FunctionStencil, Text, TryNote};
@@ -88,9 +88,7 @@ fn put_line(
 ) -> Result<(), AllocError>
     ensures { OnOk result (out.new.items ++ chunk.new.items ≡ (out.old.items ++ chunk.old.items) ++ lines.line (read_as texts.now at instr)) }
 {
-    put(out, chunk, b"  ")?;
-    put_padded(out, chunk, at as u64)?;
-    put_byte(out, chunk, b' ')?;
+    put_column(out, chunk, at as u64)?;
     put(out, chunk, op_name(instr.op).as_bytes())?;
     put_operand(out, chunk, at, instr.op.row().shape, instr, texts)?;
     put_byte(out, chunk, b'\n')

@@ -1,11 +1,11 @@
 //! Texts, numbers and extents, as they are printed.
 
-ghost use Rattle.std.specs.Prelude.{◌≡◌, ◌<◌, ◌≤◌, ◌++◌, flat_map, option_map, replicate, OnOk};
+ghost use Rattle.std.specs.Prelude.{◌≡◌, ◌<◌, ◌≤◌, [], ◌∷◌, ◌++◌, flat_map, option_map, replicate, OnOk};
 ghost use Rattle.std.specs.Fmt.{decimal};
 ghost use Rattle.stencil_data.specs.StandsFor as stands;
 ghost use Rattle.script_image.specs.Quoted as printed;
 
-use crate::chunk::{Chunk, put, put_byte};
+use crate::chunk::{Chunk, put, put_byte, put_eight};
 use itoa::Buffer;
 use std::alloc::AllocError;
 use stencil_data::{Extent, Text};
@@ -43,36 +43,49 @@ fn zeros(count: usize) -> &'static [u8]
     &b"00000"[..count]
 }
 
-/// The five digits of a number that has no more.
+/// The column of an offset that has at most five digits: two blanks, five digits, a blank.
 #[tactic(auto, using(crate::proofs::Padded::padded_five))]
-fn five_digits(number: u64) -> [u8; 5]
+fn five_digits(number: u64) -> [u8; 8]
     requires { number < 100000 }
-    ensures { result ≡ printed.padded number }
+    ensures { result ≡ ((32 ∷ 32 ∷ []) ++ printed.padded number) ++ 32 ∷ [] }
 {
     [
+        b' ',
+        b' ',
         b'0' + (number / 10000) as u8,
         b'0' + (number / 1000 % 10) as u8,
         b'0' + (number / 100 % 10) as u8,
         b'0' + (number / 10 % 10) as u8,
         b'0' + (number % 10) as u8,
+        b' ',
     ]
 }
 
 /// Puts the decimal digits of a number after a chunk, at least five.
-pub(crate) fn put_padded(
-    out: &mut Vec<u8>,
-    chunk: &mut Chunk,
-    number: u64,
-) -> Result<(), AllocError>
+fn put_padded(out: &mut Vec<u8>, chunk: &mut Chunk, number: u64) -> Result<(), AllocError>
     ensures { OnOk result (out.new.items ++ chunk.new.items ≡ (out.old.items ++ chunk.old.items) ++ printed.padded number) }
 {
-    if number < 100000 {
-        return put(out, chunk, &five_digits(number));
-    }
     let mut buffer = Buffer::new();
     let digits = buffer.format(number).as_bytes();
     put(out, chunk, zeros(5usize.saturating_sub(digits.len())))?;
     put(out, chunk, digits)
+}
+
+/// Puts the column of an offset after a chunk: two blanks, its decimal digits, at least five, and a blank.
+pub(crate) fn put_column(
+    out: &mut Vec<u8>,
+    chunk: &mut Chunk,
+    offset: u64,
+) -> Result<(), AllocError>
+    ensures { OnOk result (out.new.items ++ chunk.new.items
+        ≡ (out.old.items ++ chunk.old.items) ++ (((32 ∷ 32 ∷ []) ++ printed.padded offset) ++ 32 ∷ [])) }
+{
+    if offset < 100000 {
+        return put_eight(out, chunk, &five_digits(offset));
+    }
+    put(out, chunk, b"  ")?;
+    put_padded(out, chunk, offset)?;
+    put_byte(out, chunk, b' ')
 }
 
 fn hex_digit(value: u8) -> u8

@@ -1,6 +1,6 @@
 //! The lines of each script of a file.
 
-ghost use Rattle.std.specs.Prelude.{◌≡◌, ◌+◌, ◌<◌, ◌++◌, map, option_map, OnOk};
+ghost use Rattle.std.specs.Prelude.{◌≡◌, ◌+◌, ◌<◌, ◌++◌, codes, map, option_map, OnOk};
 ghost use Rattle.std.specs.Fmt.{decimal};
 ghost use Rattle.stencil_data.specs.StandsFor.{named_closed, named_record};
 ghost use Rattle.script_image.specs.Listed.{listed_entry, listed_script};
@@ -131,6 +131,27 @@ fn put_further_closed(
     Ok(())
 }
 
+/// Puts what the line of a function that is not compiled tells of it after its name, to the end of the line. Most functions have none
+/// in them and close over no name.
+fn put_inside(
+    out: &mut Vec<u8>,
+    chunk: &mut Chunk,
+    texts: &[Text],
+    lazy: &LazyRecord,
+) -> Result<(), AllocError>
+    ensures { OnOk result (out.new.items ++ chunk.new.items ≡ (out.old.items ++ chunk.old.items) ++ codes " inner " ++ list_text (map decimal lazy.now.inner)
+        ++ codes " closed " ++ list_text (map lines.closed_text (map (named_closed texts.now) lazy.now.closed)) ++ codes "\n") }
+{
+    if lazy.inner.is_empty() && lazy.closed.is_empty() {
+        return put(out, chunk, b" inner - closed -\n");
+    }
+    put(out, chunk, b" inner ")?;
+    put_numbers(out, chunk, &lazy.inner)?;
+    put(out, chunk, b" closed ")?;
+    put_closed(out, chunk, texts, &lazy.closed)?;
+    put_byte(out, chunk, b'\n')
+}
+
 /// Puts the line of the function of this number, which is not compiled, after a chunk.
 fn put_record(
     out: &mut Vec<u8>,
@@ -144,11 +165,7 @@ fn put_record(
     put_script(out, chunk, number, "lazy", lazy.extent)?;
     put_byte(out, chunk, b' ')?;
     put_name(out, chunk, texts, lazy.name)?;
-    put(out, chunk, b" inner ")?;
-    put_numbers(out, chunk, &lazy.inner)?;
-    put(out, chunk, b" closed ")?;
-    put_closed(out, chunk, texts, &lazy.closed)?;
-    put_byte(out, chunk, b'\n')
+    put_inside(out, chunk, texts, lazy)
 }
 
 /// Appends the line of the function of this number, which is not compiled.

@@ -1,14 +1,16 @@
 -- The part of a text between two offsets.
 use Rattle.std.proofs.Common.{◌≡◌, ℕ, ◌+◌, ◌-◌, ◌<◌, ◌≤◌, zero, suc, List, [], ◌∷◌, ◌++◌, length, take, drop, get_or, Bool, true, false, cond, refl, sym, ◌∙◌, ap, subst, arith, take-append-drop, length-drop, append-nil, inl, inr}
-use Rattle.std.specs.Prelude.{filter, nat_lt, nat_le, ◌&&◌}
+use Rattle.std.specs.Prelude.{filter, nat_lt, nat_le, ◌&&◌, ◌^◌}
 use Rattle.std.specs.List.Sorted.{IsPartitionPoint, IsNonDecreasingBy}
+use Rattle.std.specs.List.{All, AllByRecursion}
 use Rattle.std.proofs.lemmas.Bool.{cases_Bool, ltb-false, ltb-true, leb-true, leb-false}
 use Rattle.std.proofs.lemmas.List.{get_or-drop}
-use Rattle.std.proofs.lemmas.List.Elements.{filter-append}
+use Rattle.std.proofs.lemmas.List.Elements.{filter-append, All-from_recursion}
 use Rattle.unit_text.specs.declared.Point.{Point}
 use Rattle.unit_text.specs.Points.{LieEndToEnd}
 use Rattle.script_scanner.specs.Order.{AreInOrder}
 use Rattle.script_scanner.specs.Tokens.{part}
+use Rattle.script_scanner.proofs.Lists.{and_right}
 
 -- points in order begin at rising offsets
 begins_from : (at : ℕ) (points : List Point) (i : ℕ) (d : Point) → LieEndToEnd at points → i < length points → at ≤ (get_or points i d).start
@@ -97,3 +99,22 @@ part_is points others front from to m n behind is first second within = is ∙ s
     whole = ap (filter (in_part from to)) (sym (take-append-drop m points)) ∙ filter-append (in_part from to) (take m points) (drop m points) ∙ ap (λ (xs : List Point). xs ++ filter (in_part from to) (drop m points)) before
         ∙ ap (filter (in_part from to)) (sym behind) ∙ ap (filter (in_part from to)) (sym (take-append-drop n others)) ∙ filter-append (in_part from to) (take n others) (drop n others)
         ∙ ap (λ (xs : List Point). filter (in_part from to) (take n others) ++ xs) after ∙ append-nil (filter (in_part from to) (take n others)) ∙ inside
+
+-- the points of a part begin before its end
+begin_before : (from to : ℕ) (points : List Point) → AllByRecursion (λ (p : Point). p.start < to) (part from to points)
+begin_before from to [] = tt
+begin_before from to (p ∷ ps) =
+    let Below : Bool → Type 0 = λ b. AllByRecursion (λ (p : Point). p.start < to) (cond b (p ∷ part from to ps) (part from to ps)) in
+    elim (cases_Bool (in_part from to p)) as (λ _. Below (in_part from to p)) [
+      | inl y ↦ subst Below (sym y) (ltb-true p.start to (and_right (nat_le from p.start) (nat_lt p.start to) y), begin_before from to ps)
+      | inr n ↦ subst Below (sym n) (begin_before from to ps)
+    ]
+
+pub part_is_small : (from to : ℕ) (points text : List Point) → text ≡ part from to points → to ≤ 16777215 → All (λ (p : Point). p.start < 2 ^ 24) text
+part_is_small from to points text is fits =
+    subst (λ (ps : List Point). All (λ (p : Point). p.start < 2 ^ 24) ps) (sym is)
+    (All-from_recursion (λ (p : Point). p.start < 2 ^ 24) (part from to points) (smaller (part from to points) (begin_before from to points)))
+  where
+    smaller : (points : List Point) → AllByRecursion (λ (p : Point). p.start < to) points → AllByRecursion (λ (p : Point). p.start < 2 ^ 24) points
+    smaller [] h = tt
+    smaller (p ∷ ps) h = let lt : p.start < to = h.0 in (omega (arith, lt, fits), smaller ps h.1)

@@ -6,17 +6,18 @@ ghost use Rattle.script_scanner.specs.Numbers.{numeral_at, is_spoiled_by, zero_l
 
 use crate::names::is_name_start;
 use crate::sources::Source;
+use script_grammar::compact::TokenValue;
 
 /// The greatest value of a literal: 2^53 - 1.
 const MAX_VALUE: u64 = 9_007_199_254_740_991;
 
 /// A numeric literal.
-#[derive(Clone, Copy, Debug, PartialEq, Eq)]
+#[derive(Clone, Copy, Debug)]
 pub struct Numeral {
     /// How many code points it takes.
     pub length: usize,
     /// Its value, if that is at most 2^53 - 1.
-    pub value: Option<u64>,
+    pub value: Option<TokenValue>,
     /// Whether it has no letter for its base.
     pub is_decimal: bool,
 }
@@ -88,7 +89,8 @@ fn with_digit(value: u64, radix: u32, code: char) -> u64
 pub fn digits_value<T: Source>(digits: T, radix: u32) -> Option<u64>
     requires low { 2 ≤ radix }
     requires high { radix ≤ 36 }
-    ensures { result ≡ digits_value radix (map code_of (T.points digits)) }
+    ensures value { result ≡ digits_value radix (map code_of (T.points digits)) }
+    ensures small { IfSome result (λ value. value ≤ 9007199254740991) }
 {
     let mut value = 0;
     for at in 0..digits.count() {
@@ -98,6 +100,19 @@ pub fn digits_value<T: Source>(digits: T, radix: u32) -> Option<u64>
         }
     }
     Some(value)
+}
+
+/// The value of a literal, as a token has it.
+#[inline]
+fn whole_of<T: Source>(digits: T, radix: u32) -> Option<TokenValue>
+    requires low { 2 ≤ radix }
+    requires high { radix ≤ 36 }
+    ensures { result ≡ digits_value radix (map code_of (T.points digits)) }
+{
+    match digits_value(digits, radix) {
+        None => None,
+        Some(value) => Some(TokenValue::new(value)),
+    }
 }
 
 /// The base that a letter after a leading `0` gives.
@@ -122,7 +137,7 @@ fn zero_literal() -> Numeral
 {
     Numeral {
         length: 1,
-        value: Some(0),
+        value: Some(TokenValue::new(0)),
         is_decimal: true,
     }
 }
@@ -145,7 +160,7 @@ fn with_radix<T: Source>(radix: u32, rest: T) -> Numeral
             let more = more_digits(others, radix);
             Numeral {
                 length: 3 + more,
-                value: digits_value(rest.front(1 + more), radix),
+                value: whole_of(rest.front(1 + more), radix),
                 is_decimal: false,
             }
         }
@@ -184,7 +199,7 @@ pub fn numeral_at<T: Source>(rest: T) -> Numeral
             let more = more_digits(others, 10);
             Numeral {
                 length: 1 + more,
-                value: digits_value(rest.front(1 + more), 10),
+                value: whole_of(rest.front(1 + more), 10),
                 is_decimal: true,
             }
         }

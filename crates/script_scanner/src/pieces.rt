@@ -14,22 +14,23 @@ use crate::numbers::{is_spoiled_by, numeral_at};
 use crate::parts::{Ending, push_code, read_body};
 use crate::sources::Source;
 use crate::words::word_at;
+use script_grammar::compact::TokenValue;
 use script_grammar::token::Kind;
 use std::alloc::AllocError;
 
 /// What a token has beside its kind.
-#[derive(Clone, Copy, Debug, PartialEq, Eq)]
+#[derive(Clone, Copy, Debug)]
 pub enum Content {
     /// The units in the scanner's buffer.
     Units,
     /// A number.
-    Number(u64),
+    Number(TokenValue),
     /// Nothing.
     Nothing,
 }
 
 /// A token at the front of a text.
-#[derive(Clone, Copy, Debug, PartialEq, Eq)]
+#[derive(Clone, Copy, Debug)]
 pub struct FoundToken {
     /// Its kind.
     pub kind: Kind,

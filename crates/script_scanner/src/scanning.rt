@@ -19,19 +19,20 @@ use crate::braces::Brace;
 use crate::fronts::{Front, front_at};
 use crate::known::{KnownToken, known_name, known_string};
 use crate::pieces::{Content, FoundToken, token_at};
-use crate::sources::{ByteSource, Source};
+use crate::sources::{ByteSource, PointSource, Source, points_before, points_behind};
 use parser_atoms::Atoms;
-use script_grammar::token::{Kind, Token, mark};
+use script_grammar::compact::{CompactToken, Offset, TokenValue};
+use script_grammar::token::{Kind, mark};
 use std::alloc::{AllocError, Global};
 use unit_text::Point;
 
 /// The offset at which points begin, of a part of a text that ends at `to`.
-fn place<T: Source>(to: u32, rest: T) -> u32
+fn place<T: Source>(to: Offset, rest: T) -> Offset
     ensures { result ≡ place to (T.points rest) }
 {
     match rest.split_first() {
         None => to,
-        Some((first, _)) => first.start,
+        Some((first, _)) => Offset::new(first.start),
     }
 }
 
@@ -89,7 +90,7 @@ fn value_of(
     content: Content,
     units: &[u16],
     atoms: &mut Atoms,
-) -> Result<u64, AllocError>
+) -> Result<TokenValue, AllocError>
     requires { length atoms.old < 2 ^ 32 - 1 }
     ensures value { IfOk result (TakesValue content units.now atoms.old atoms.new) }
     ensures err { OnErr result (atoms.new ≡ atoms.old) }
@@ -97,39 +98,46 @@ fn value_of(
     match content {
         Content::Units => {
             let atom = atoms.intern(alloc, units)?;
-            Ok(u64::from(atom))
+            Ok(TokenValue::new(u64::from(atom)))
         }
         Content::Number(value) => Ok(value),
-        Content::Nothing => Ok(0),
+        Content::Nothing => Ok(TokenValue::new(0)),
     }
 }
 
 /// The last token.
-fn last_token<T: Source>(rest: T, to: u32, after_line: bool) -> Token
+fn last_token<T: Source>(rest: T, to: Offset, after_line: bool) -> CompactToken
     ensures { (texts : List (List ℕ)) → StandsFor texts result (last_token to after_line (T.points rest)) }
 {
     match rest.split_first() {
-        None => Token {
-            kind: Kind::End,
-            value: 0,
-            start: to,
-            end: to,
-            after_line,
-        },
-        Some((first, _)) => Token {
-            kind: Kind::Bad,
-            value: 0,
-            start: first.start,
-            end: first.start,
-            after_line,
-        },
+        None => CompactToken::new(Kind::End, after_line, TokenValue::new(0), to, to),
+        Some((first, _)) => {
+            let start = Offset::new(first.start);
+            CompactToken::new(Kind::Bad, after_line, TokenValue::new(0), start, start)
+        }
     }
+}
+
+/// Puts a token after those that are there. It is called, and stands in no loop: there it would be too long.
+#[inline(never)]
+fn push_token(
+    tokens: &mut Vec<CompactToken>,
+    kind: Kind,
+    after_line: bool,
+    value: TokenValue,
+    start: Offset,
+    end: Offset,
+) -> Result<(), AllocError>
+    ensures { OnOk result (tokens.new.items ≡ tokens.old.items ++ record { kind = kind; after_line = after_line; value = value; start = start; end = end } ∷ []) }
+{
+    tokens.push(CompactToken::new(kind, after_line, value, start, end))?;
+    Ok(())
 }
 
 /// A scan: the tokens so far and what the next one depends on.
 #[derive(Drop)]
 struct Scanner {
-    tokens: Vec<Token>,
+    tokens: Vec<CompactToken>,
     braces: Vec<Brace>,
     /// Whether a line end stands after the last token.
     after_line: bool,
@@ -157,7 +165,7 @@ impl Scanner {
         alloc: Global,
         found: FoundToken,
         rest: T,
-        to: u32,
+        to: Offset,
         atoms: &mut Atoms,
     ) -> Result<usize, AllocError>
         requires few { length atoms.old < 2 ^ 32 - 1 }
@@ -167,20 +175,21 @@ impl Scanner {
         ensures keeps { Keeps atoms.old atoms.new }
     {
         let value = value_of(alloc, found.content, self.units.as_slice(), atoms)?;
-        self.tokens.push(Token {
-            kind: found.kind,
+        push_token(
+            &mut self.tokens,
+            found.kind,
+            self.after_line,
             value,
-            start: place(to, rest),
-            end: place(to, rest.behind(found.length)),
-            after_line: self.after_line,
-        })?;
+            place(to, rest),
+            place(to, rest.behind(found.length)),
+        )?;
         update_braces(&mut self.braces, found.kind)?;
         self.after_line = false;
         Ok(found.length)
     }
 
     /// Takes the last token.
-    fn finish<T: Source>(&mut self, rest: T, to: u32) -> Result<usize, AllocError>
+    fn finish<T: Source>(&mut self, rest: T, to: Offset) -> Result<usize, AllocError>
         ensures taken { IfOk result (λ taken. taken ≡ 0) }
         ensures value { OnOk result (EndsWith (last_token to self.old.after_line (T.points rest)) self.old.tokens.items self.new.tokens.items) }
     {
@@ -194,19 +203,20 @@ impl Scanner {
         &mut self,
         known: KnownToken,
         rest: T,
-        to: u32,
+        to: Offset,
     ) -> Result<usize, AllocError>
         requires { known.length ≤ length (T.points rest) }
         ensures taken { IfOk result (λ taken. taken ≡ known.length) }
         ensures value { OnOk result (TakesKnown to (T.points rest) known self.old self.new) }
     {
-        self.tokens.push(Token {
-            kind: known.kind,
-            value: u64::from(known.atom),
-            start: place(to, rest),
-            end: place(to, rest.behind(known.length)),
-            after_line: self.after_line,
-        })?;
+        push_token(
+            &mut self.tokens,
+            known.kind,
+            self.after_line,
+            TokenValue::new(u64::from(known.atom)),
+            place(to, rest),
+            place(to, rest.behind(known.length)),
+        )?;
         self.after_line = false;
         Ok(known.length)
     }
@@ -217,7 +227,7 @@ impl Scanner {
         &mut self,
         alloc: Global,
         rest: T,
-        to: u32,
+        to: Offset,
         atoms: &mut Atoms,
     ) -> Result<usize, AllocError>
         requires few { length atoms.old < 2 ^ 32 - 1 }
@@ -249,7 +259,7 @@ impl Scanner {
         &mut self,
         alloc: Global,
         rest: T,
-        to: u32,
+        to: Offset,
         atoms: &mut Atoms,
     ) -> Result<usize, AllocError>
         requires few { length atoms.old < 2 ^ 32 - 1 }
@@ -279,7 +289,7 @@ impl Scanner {
         alloc: Global,
         quote: char,
         rest: T,
-        to: u32,
+        to: Offset,
         atoms: &mut Atoms,
     ) -> Result<usize, AllocError>
         requires few { length atoms.old < 2 ^ 32 - 1 }
@@ -304,18 +314,19 @@ impl Scanner {
 
     /// Takes the mark at the front, which takes one code point: so many it answers.
     #[inline]
-    fn take_mark<T: Source>(&mut self, index: u8, rest: T, to: u32) -> Result<usize, AllocError>
+    fn take_mark<T: Source>(&mut self, index: u8, rest: T, to: Offset) -> Result<usize, AllocError>
         requires { 0 < length (T.points rest) }
         ensures taken { IfOk result (λ taken. taken ≡ 1) }
         ensures value { (texts : List (List ℕ)) → OnOk result (TakesToken to (T.points rest) (found_mark index) self.old self.new texts texts) }
     {
-        self.tokens.push(Token {
-            kind: Kind::Mark(index),
-            value: 0,
-            start: place(to, rest),
-            end: place(to, rest.behind(1)),
-            after_line: self.after_line,
-        })?;
+        push_token(
+            &mut self.tokens,
+            Kind::Mark(index),
+            self.after_line,
+            TokenValue::new(0),
+            place(to, rest),
+            place(to, rest.behind(1)),
+        )?;
         update_braces(&mut self.braces, Kind::Mark(index))?;
         self.after_line = false;
         Ok(1)
@@ -327,7 +338,7 @@ impl Scanner {
         &mut self,
         alloc: Global,
         rest: T,
-        to: u32,
+        to: Offset,
         atoms: &mut Atoms,
     ) -> Result<usize, AllocError>
         requires few { length atoms.old < 2 ^ 32 - 1 }
@@ -352,7 +363,7 @@ impl Scanner {
         &mut self,
         alloc: Global,
         rest: T,
-        to: u32,
+        to: Offset,
         atoms: &mut Atoms,
     ) -> Result<usize, AllocError>
         requires { length atoms.old < 2 ^ 32 - 1 }
@@ -379,7 +390,7 @@ impl Scanner {
         &mut self,
         alloc: Global,
         rest: T,
-        to: u32,
+        to: Offset,
         atoms: &mut Atoms,
     ) -> Result<usize, AllocError>
         requires { length atoms.old < 2 ^ 32 - 1 }
@@ -420,7 +431,7 @@ impl Scanner {
         &mut self,
         alloc: Global,
         text: T,
-        to: u32,
+        to: Offset,
         atoms: &mut Atoms,
     ) -> Result<(), AllocError>
         requires few { length (T.points text) + length atoms.old < 2 ^ 32 - 1 }
@@ -449,9 +460,9 @@ impl Scanner {
 fn scan_text<T: Source>(
     alloc: Global,
     text: T,
-    to: u32,
+    to: Offset,
     atoms: &mut Atoms,
-) -> Result<Vec<Token>, AllocError>
+) -> Result<Vec<CompactToken>, AllocError>
     requires { length (T.points text) + length atoms.old < 2 ^ 32 - 1 }
     ensures stand { IfOk result (λ made. StandFor atoms.new made.items (tokens_within (suc (length (T.points text))) to [] false (T.points text))) }
     ensures last { IfOk result (λ made. HasOneLast made.items) }
@@ -484,8 +495,8 @@ fn part(points: &[Point], from: u32, to: u32) -> &[Point]
     ensures value { result.now ≡ part from to points.now }
     ensures within { length result.now ≤ length points.now }
 {
-    let others = points.behind(count_before(points, from));
-    others.front(count_before(others, to))
+    let others = points_behind(points, count_before(points, from));
+    points_before(others, count_before(others, to))
 }
 
 /// How many points at the front of a part from this offset on are its first line, where that is passed over.
@@ -503,7 +514,7 @@ fn passed_over<T: Source>(from: u32, text: T) -> usize
 /// The tokens of the part of a text between two offsets, read beginning with no open brace; the last is End or Bad.
 ///
 /// The texts of names, words, strings and template parts are interned in `atoms`. Time is linear in the points of the
-/// part; memory is 24 bytes a token, a byte an open brace, the units of the longest text and what new texts take.
+/// part; memory is 16 bytes a token, a byte an open brace, the units of the longest text and what new texts take.
 /// After an error `atoms` may have more texts.
 pub fn scan(
     alloc: Global,
@@ -511,16 +522,18 @@ pub fn scan(
     from: u32,
     to: u32,
     atoms: &mut Atoms,
-) -> Result<Vec<Token>, AllocError>
+) -> Result<Vec<CompactToken>, AllocError>
     requires in_order { AreInOrder points.now }
+    requires fits { to ≤ 16777215 }
     requires few { length points.now + length atoms.old < 2 ^ 32 - 1 }
     ensures tokens { IfOk result (λ made. StandFor atoms.new made.items (tokens points.now from to)) }
     ensures last { IfOk result (λ made. HasOneLast made.items) }
     ensures gains { OnOk result (GainsOnly atoms.old atoms.new (tokens points.now from to)) }
     ensures keeps { Keeps atoms.old atoms.new }
 {
-    let text = part(points, from, to);
-    let made = scan_text(alloc, text.behind(passed_over(from, text)), to, atoms)?;
+    let text = PointSource::new(part(points, from, to));
+    let rest = text.behind(passed_over(from, text));
+    let made = scan_text(alloc, rest, Offset::new(to), atoms)?;
     Ok(made)
 }
 
@@ -532,9 +545,9 @@ pub fn scan_ascii(
     bytes: &[u8],
     start: u32,
     atoms: &mut Atoms,
-) -> Result<Vec<Token>, AllocError>
+) -> Result<Vec<CompactToken>, AllocError>
     requires ascii { IsAscii bytes.now }
-    requires fits { start + length bytes.now ≤ 4294967295 }
+    requires fits { start + length bytes.now ≤ 16777215 }
     requires few { length bytes.now + length atoms.old < 2 ^ 32 - 1 }
     ensures tokens { IfOk result (λ made. StandFor atoms.new made.items
         (tokens (points_from start (chars bytes.now)) start (start + length bytes.now))) }
@@ -544,6 +557,7 @@ pub fn scan_ascii(
 {
     let text = ByteSource::new(bytes, start);
     let to = start + bytes.len() as u32;
-    let made = scan_text(alloc, text.behind(passed_over(start, text)), to, atoms)?;
+    let rest = text.behind(passed_over(start, text));
+    let made = scan_text(alloc, rest, Offset::new(to), atoms)?;
     Ok(made)
 }

@@ -1,5 +1,5 @@
 //! What stands for a list of code points: such a list, or the bytes of a text of ASCII.
-ghost use Rattle.std.specs.Prelude.{◌≡◌, ◌≤◌, ◌<◌, ◌+◌, ◌∷◌, ℕ, List, length, take, drop, MatchOption};
+ghost use Rattle.std.specs.Prelude.{◌≡◌, ◌≤◌, ◌<◌, ◌+◌, ◌^◌, ◌∷◌, ℕ, List, length, take, drop, All, IfSome, MatchOption};
 ghost use Rattle.std.specs.List.{IsFirstAndRest};
 ghost use Rattle.unit_text.specs.declared.Point.{Point};
 ghost use Rattle.script_scanner.specs.Bytes.{byte_points};
@@ -21,6 +21,7 @@ pub trait Source: Copy {
     /// The first point and those after it.
     fn split_first(self) -> Option<(Point, Self)>
         ensures cases { MatchOption result (length (points self) ≡ 0) (λ p. IsFirstAndRest (points self) p.0 (points p.1)) }
+        ensures small { IfSome result (λ p. p.0.start < 2 ^ 24) }
         ensures few { length (points self) ≤ 9223372036854775807 };
 
     /// The point at a place.
@@ -39,36 +40,75 @@ pub trait Source: Copy {
         ensures { points result ≡ take count (points self) };
 }
 
-impl<'a> Source for &'a [Point] {
-    ghost points = { λ it. it.now };
+/// A list of points that begin within the first 16,777,215 bytes of their file.
+#[derive(Clone, Copy)]
+pub struct PointSource<'a> {
+    points: &'a [Point],
+    ghost small: { All (λ point. point.start < 2 ^ 24) points.now },
+}
+
+impl<'a> PointSource<'a> {
+    /// These points.
+    pub fn new(points: &'a [Point]) -> PointSource<'a>
+        requires { All (λ point. point.start < 2 ^ 24) points.now }
+        ensures { result.points.now ≡ points.now }
+    {
+        PointSource { points }
+    }
+}
+
+/// The points from a place on.
+#[inline]
+pub fn points_behind(points: &[Point], at: usize) -> &[Point]
+    requires { at ≤ length points.now }
+    ensures { result.now ≡ drop at points.now }
+{
+    &points[at..]
+}
+
+/// So many points at the front.
+#[inline]
+pub fn points_before(points: &[Point], count: usize) -> &[Point]
+    requires { count ≤ length points.now }
+    ensures { result.now ≡ take count points.now }
+{
+    &points[..count]
+}
+
+impl<'a> Source for PointSource<'a> {
+    ghost points = { λ it. it.points.now };
 
     #[inline]
     fn count(self) -> usize {
-        self.len()
+        self.points.len()
     }
 
     #[inline]
     fn split_first(self) -> Option<(Point, Self)> {
-        match <[Point]>::split_first(self) {
+        match self.points.split_first() {
             None => None,
-            Some((first, others)) => Some((*first, others)),
+            Some((first, others)) => Some((*first, PointSource { points: others })),
         }
     }
 
     #[inline]
     #[tactic(auto, using(crate::proofs::Lists::read_at))]
     fn point_at(self, at: usize) -> Point {
-        self[at]
+        self.points[at]
     }
 
     #[inline]
     fn behind(self, at: usize) -> Self {
-        &self[at..]
+        PointSource {
+            points: points_behind(self.points, at),
+        }
     }
 
     #[inline]
     fn front(self, count: usize) -> Self {
-        &self[..count]
+        PointSource {
+            points: points_before(self.points, count),
+        }
     }
 }
 
@@ -77,13 +117,13 @@ impl<'a> Source for &'a [Point] {
 pub struct ByteSource<'a> {
     bytes: &'a [u8],
     start: u32,
-    ghost fits: { start + length bytes.now ≤ 4294967295 },
+    ghost fits: { start + length bytes.now ≤ 16777215 },
 }
 
 impl<'a> ByteSource<'a> {
     /// The bytes that stand at this offset.
     pub fn new(bytes: &'a [u8], start: u32) -> ByteSource<'a>
-        requires { start + length bytes.now ≤ 4294967295 }
+        requires { start + length bytes.now ≤ 16777215 }
         ensures bytes { result.bytes.now ≡ bytes.now }
         ensures start { result.start ≡ start }
     {

@@ -10,7 +10,7 @@
 //!
 //! The main contract is that of [`churn`]: the number of instructions that the last round counted, with those of the script's own
 //! part, is that of the script with all its functions compiled (`HasInstructions` of `specs/Counts.antt`), whatever was discarded
-//! while it was asked for.
+//! while it was asked for. [`visit_in_rounds`] is its inner part, for any number of rounds: its number is that of the functions alone.
 #![tactic(auto)]
 
 mod count;
@@ -19,8 +19,8 @@ mod order;
 mod round;
 mod rounds;
 mod script;
-#[cfg(test)]
-mod tests;
 mod visits;
 
+pub use rounds::visit_in_rounds;
 pub use script::{Churned, churn};
+pub use visits::RoundSum;

@@ -15,7 +15,7 @@ use std::thread::Threads;
 
 /// Visits each function of the script of these bytes in this many rounds. The number of instructions is that of the last round,
 /// that of functions compiled is over all of them. Nothing else is kept of a round, and the board holds each function once.
-pub(crate) fn visit_in_rounds<R: Threads + Wait + Sync, G: Gate>(
+pub fn visit_in_rounds<R: Threads + Wait + Sync, G: Gate>(
     rt: &R,
     alloc: Global,
     bytes: &[u8],

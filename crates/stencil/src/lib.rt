@@ -1,8 +1,8 @@
 //! The library for programs that embed the compiler: one import, with what such a program asks of a text and of code.
 //!
 //! It stands on the crates of the compiler, whose calls it puts together, and on session_specs, whose definitions say what the command
-//! line program answers: so the library and the program agree on every text. Nothing of this repository but the examples
-//! (`example_check`, `example_code`, `example_lazy`, `example_image`) stands on it; docs/embedding.md leads through them.
+//! line program answers: so the library and the program agree on every text. The examples stand on it, through which docs/embedding.md
+//! leads, the library for C and the program for people.
 //!
 //! | You want | Call |
 //! |---|---|

@@ -1,4 +1,4 @@
-//! Tests of the parts of the companion: pages, differences of scripts, places in a text, and colours.
+//! Tests of the parts of the companion: pages, how few edits are, places in a text, and colours.
 //!
 //! They stand in a crate of their own, since a crate with tests is proved twice. They call public items alone.
 #![tactic(auto)]
@@ -6,12 +6,8 @@
 #[cfg(test)]
 mod colours;
 #[cfg(test)]
-mod diff;
-#[cfg(test)]
 mod edits;
 #[cfg(test)]
 mod page;
-#[cfg(test)]
-mod pairs;
 #[cfg(test)]
 mod places;

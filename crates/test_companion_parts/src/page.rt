@@ -45,6 +45,17 @@ fn count(page: &[u8], piece: &[u8]) -> usize {
         .count()
 }
 
+/// How often pieces stand in the page of hostile names.
+const OF_HOSTILE_NAMES: [(&[u8], usize); 4] = [
+    (b"</script>", 1),
+    (b"<img", 0),
+    (
+        b"&lt;img src=x onerror=&quot;alert(&#39;a&amp;b&#39;)&quot;&gt;",
+        2,
+    ),
+    (b"&lt;/script&gt;", 3),
+];
+
 #[test]
 fn no_tag_of_a_text_is_left(rt: HostRuntime) -> Result<(), Fail> {
     let alloc = rt.alloc();
@@ -70,18 +81,23 @@ fn no_tag_of_a_text_is_left(rt: HostRuntime) -> Result<(), Fail> {
     };
     append_refused(alloc, &mut page, 1, refusal)?;
     append_end(&mut page)?;
-    assert_eq!(rt; count(&page, b"</script>"), 1);
-    assert_eq!(rt; count(&page, b"<img"), 0);
-    assert_eq!(rt;
-        count(
-            &page,
-            b"&lt;img src=x onerror=&quot;alert(&#39;a&amp;b&#39;)&quot;&gt;"
-        ),
-        2
-    );
-    assert_eq!(rt; count(&page, b"&lt;/script&gt;"), 3);
+    for (piece, times) in OF_HOSTILE_NAMES {
+        assert!(rt; count(&page, piece) == times);
+    }
     Ok(())
 }
+
+/// The same of the page of a script with a hidden function.
+const OF_A_HIDDEN_FUNCTION: [(&[u8], usize); 5] = [
+    (b"href=\"#f3n0\"", 2),
+    (b"href=\"#f3n1\"", 0),
+    (b"<pre id=\"f3n70\">script 70 function 0..0 -\n</pre>", 1),
+    (b"file a.js", 0),
+    (b"Counts", 0),
+];
+
+/// How elements begin and end.
+const ELEMENTS: [(&[u8], &[u8]); 2] = [(b"<ul", b"</ul>"), (b"<li>", b"</li>")];
 
 #[test]
 fn what_is_hidden_is_left_out(rt: HostRuntime) -> Result<(), Fail> {
@@ -98,18 +114,11 @@ fn what_is_hidden_is_left_out(rt: HostRuntime) -> Result<(), Fail> {
         scopes: b"",
     };
     append_script(alloc, &mut page, 3, &shown)?;
-    assert_eq!(rt; count(&page, b"href=\"#f3n0\""), 2);
-    assert_eq!(rt; count(&page, b"href=\"#f3n1\""), 0);
-    assert_eq!(rt;
-        count(
-            &page,
-            b"<pre id=\"f3n70\">script 70 function 0..0 -\n</pre>"
-        ),
-        1
-    );
-    assert_eq!(rt; count(&page, b"file a.js"), 0);
-    assert_eq!(rt; count(&page, b"Counts"), 0);
-    assert_eq!(rt; count(&page, b"<ul"), count(&page, b"</ul>"));
-    assert_eq!(rt; count(&page, b"<li>"), count(&page, b"</li>"));
+    for (piece, times) in OF_A_HIDDEN_FUNCTION {
+        assert!(rt; count(&page, piece) == times);
+    }
+    for (start, end) in ELEMENTS {
+        assert!(rt; count(&page, start) == count(&page, end));
+    }
     Ok(())
 }

@@ -37,22 +37,35 @@ fn what_is_shown(rt: HostRuntime) -> Result<(), Fail> {
     Ok(())
 }
 
+/// Texts, an offset in each, what is shown of its line, and where the caret is.
+const EXCERPTS: [(&[u8], usize, &str, usize); 2] = [
+    (b"one\n\ta \xe2\x80\xae b\r\ntwo", 11, " a \\u{202e} b", 12),
+    (
+        b"a\xd8\x9c\xe2\x80\x8e\xe2\x80\x8fb",
+        6,
+        "a\\u{61c}\\u{200e}\\u{200f}b",
+        16,
+    ),
+];
+
 #[test]
 fn excerpts(rt: HostRuntime) -> Result<(), Fail> {
-    let alloc = rt.alloc();
-    let short = excerpt_at(alloc, b"one\n\ta \xe2\x80\xae b\r\ntwo", 11)?;
-    assert!(rt; short.shown.as_str() == " a \\u{202e} b");
-    assert!(rt; short.caret == 12);
-    let marks = excerpt_at(alloc, b"a\xd8\x9c\xe2\x80\x8e\xe2\x80\x8fb", 6)?;
-    assert!(rt; marks.shown.as_str() == "a\\u{61c}\\u{200e}\\u{200f}b");
-    assert!(rt; marks.caret == 16);
-    let mut long = Vec::new(alloc);
-    for _ in 0..1000 {
-        long.push(b'x')?;
+    for (text, offset, shown, caret) in EXCERPTS {
+        let excerpt = excerpt_at(rt.alloc(), text, offset)?;
+        assert!(rt; excerpt.shown.as_str() == shown && excerpt.caret == caret);
     }
-    let cut = excerpt_at(alloc, &long, 500)?;
-    assert!(rt; cut.caret == 41 && cut.shown.as_str().chars().count() == 82);
-    let end = excerpt_at(alloc, &long, 1000)?;
-    assert!(rt; end.caret == 81 && end.shown.as_str().chars().count() == 81);
+    Ok(())
+}
+
+/// Offsets in a line of 1,000 characters, with how many are shown of it and where the caret is.
+const CUTS: [(usize, usize, usize); 2] = [(500, 82, 41), (1000, 81, 81)];
+
+#[test]
+fn excerpts_of_a_long_line_are_cut(rt: HostRuntime) -> Result<(), Fail> {
+    let line = vec![in rt.alloc(); b'x'; 1000]?;
+    for (offset, count, caret) in CUTS {
+        let excerpt = excerpt_at(rt.alloc(), &line, offset)?;
+        assert!(rt; excerpt.shown.as_str().chars().count() == count && excerpt.caret == caret);
+    }
     Ok(())
 }

@@ -1,73 +1,61 @@
+//! Partners of brackets and of parts of templates, and the first bracket that has none.
+
 use script_grammar::brackets::Brackets;
-use script_grammar::token::{Kind, Token, mark};
+use script_grammar::compact::{CompactToken, Offset, TokenValue};
+use script_grammar::token::{Kind, mark};
 use std::test::Fail;
 
-fn token(kind: Kind) -> Token {
-    Token {
-        kind,
-        value: 0,
-        start: 0,
-        end: 0,
-        after_line: false,
+/// `f ( { } [ ] )`, then the parts of a template around `( )`, then `( [ ) ]`.
+const KINDS: [Kind; 17] = [
+    Kind::Name,
+    Kind::Mark(mark::OPEN_PAREN),
+    Kind::Mark(mark::OPEN_BRACE),
+    Kind::Mark(mark::CLOSE_BRACE),
+    Kind::Mark(mark::OPEN_BRACKET),
+    Kind::Mark(mark::CLOSE_BRACKET),
+    Kind::Mark(mark::CLOSE_PAREN),
+    Kind::TemplateHead,
+    Kind::Mark(mark::OPEN_PAREN),
+    Kind::Mark(mark::CLOSE_PAREN),
+    Kind::TemplateMiddle,
+    Kind::TemplateTail,
+    Kind::Mark(mark::OPEN_PAREN),
+    Kind::Mark(mark::OPEN_BRACKET),
+    Kind::Mark(mark::CLOSE_PAREN),
+    Kind::Mark(mark::CLOSE_BRACKET),
+    Kind::End,
+];
+
+/// Tokens of them, each with its partner.
+const PARTNERS: [(u32, Option<u32>); 10] = [
+    (0, None),
+    (1, Some(6)),
+    (3, Some(2)),
+    (4, Some(5)),
+    (7, Some(10)),
+    (10, Some(11)),
+    (11, Some(10)),
+    (12, None),
+    (15, None),
+    (18, None),
+];
+
+fn token(kind: Kind) -> CompactToken {
+    CompactToken::new(kind, false, TokenValue::new(0), Offset::new(0), Offset::new(0))
+}
+
+#[test]
+fn brackets_have_partners_up_to_a_misfit(rt: HostRuntime) -> Result<(), Fail> {
+    let mut tokens = [token(Kind::End); 17];
+    for (place, kind) in KINDS.iter().enumerate() {
+        if place < 17 {
+            tokens[place] = token(*kind);
+        }
     }
-}
-
-#[test]
-fn nested_brackets_match(rt: HostRuntime) -> Result<(), Fail> {
-    // f ( { } [ ] )
-    let tokens = [
-        token(Kind::Name),
-        token(Kind::Mark(mark::OPEN_PAREN)),
-        token(Kind::Mark(mark::OPEN_BRACE)),
-        token(Kind::Mark(mark::CLOSE_BRACE)),
-        token(Kind::Mark(mark::OPEN_BRACKET)),
-        token(Kind::Mark(mark::CLOSE_BRACKET)),
-        token(Kind::Mark(mark::CLOSE_PAREN)),
-        token(Kind::End),
-    ];
     let brackets = Brackets::of(rt.alloc(), &tokens)?;
-    assert_eq!(rt; brackets.partner(0), None);
-    assert_eq!(rt; brackets.partner(1), Some(6));
-    assert_eq!(rt; brackets.partner(3), Some(2));
-    assert_eq!(rt; brackets.partner(4), Some(5));
-    assert_eq!(rt; brackets.partner(8), None);
-    assert_eq!(rt; brackets.stop(), 7);
-    Ok(())
-}
-
-#[test]
-fn a_misfit_stops(rt: HostRuntime) -> Result<(), Fail> {
-    // ( [ ) ]
-    let tokens = [
-        token(Kind::Mark(mark::OPEN_PAREN)),
-        token(Kind::Mark(mark::OPEN_BRACKET)),
-        token(Kind::Mark(mark::CLOSE_PAREN)),
-        token(Kind::Mark(mark::CLOSE_BRACKET)),
-        token(Kind::End),
-    ];
-    let brackets = Brackets::of(rt.alloc(), &tokens)?;
-    assert_eq!(rt; brackets.partner(0), None);
-    assert_eq!(rt; brackets.partner(3), None);
-    assert_eq!(rt; brackets.stop(), 2);
-    Ok(())
-}
-
-#[test]
-fn template_parts_match(rt: HostRuntime) -> Result<(), Fail> {
-    // `${ ( ) }${ }` )
-    let tokens = [
-        token(Kind::TemplateHead),
-        token(Kind::Mark(mark::OPEN_PAREN)),
-        token(Kind::Mark(mark::CLOSE_PAREN)),
-        token(Kind::TemplateMiddle),
-        token(Kind::TemplateTail),
-        token(Kind::Mark(mark::CLOSE_PAREN)),
-        token(Kind::End),
-    ];
-    let brackets = Brackets::of(rt.alloc(), &tokens)?;
-    assert_eq!(rt; brackets.partner(0), Some(3));
-    assert_eq!(rt; brackets.partner(3), Some(4));
-    assert_eq!(rt; brackets.partner(4), Some(3));
-    assert_eq!(rt; brackets.stop(), 5);
+    for (number, partner) in PARTNERS {
+        assert!(rt; brackets.partner(number) == partner);
+    }
+    assert!(rt; brackets.stop() == 14);
     Ok(())
 }

@@ -1,4 +1,4 @@
-//! Tests of the parts by which a script is read: code points, atoms, brackets, the scanner, and the handlers that keep trees and functions.
+//! Tests of the parts by which a script is read: code points, atoms, brackets, the scanner, and handlers.
 //!
 //! They stand in a crate of their own, since a crate with tests is proved twice. They call public items alone.
 #![tactic(auto)]

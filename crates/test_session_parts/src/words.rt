@@ -1,23 +1,16 @@
-//! Words of commands, and words that are none.
+//! Words of commands.
 
-use session_words::{Command, Options, Order, Want, WordsFault, read_words};
+use session_words::{Command, Options, Order, Want, read_words};
 use std::alloc::{AllocError, Global};
 use std::test::Fail;
 
-fn words_of(alloc: Global, line: &[&str]) -> Result<Vec<String>, AllocError> {
+/// The words of a line.
+fn words_of(alloc: Global, line: &str) -> Result<Vec<String>, AllocError> {
     let mut words = Vec::new(alloc);
-    for word in line {
+    for word in line.split(' ') {
         words.push(String::from_str(alloc, word)?)?;
     }
     Ok(words)
-}
-
-fn is_bad(alloc: Global, line: &[&str]) -> Result<bool, AllocError> {
-    let words = words_of(alloc, line)?;
-    match read_words(alloc, &words) {
-        Err(WordsFault::BadWords) => Ok(true),
-        _ => Ok(false),
-    }
 }
 
 fn wants(want: &Want, numbers: &[u32]) -> bool {
@@ -44,18 +37,10 @@ fn is_large_scopes(options: &Options) -> bool {
 
 #[test]
 fn options_are_read(rt: HostRuntime) -> Result<(), Fail> {
-    let line = [
-        "scopes",
-        "--order",
-        "large",
-        "--want",
-        "2,1",
-        "--workers",
-        "16",
-        "a.js",
-        "b",
-    ];
-    let words = words_of(rt.alloc(), line.as_slice())?;
+    let words = words_of(
+        rt.alloc(),
+        "scopes --order large --want 2,1 --workers 16 a.js b",
+    )?;
     let options = read_words(rt.alloc(), &words)?;
     assert!(rt; is_large_scopes(&options));
     Ok(())
@@ -63,7 +48,7 @@ fn options_are_read(rt: HostRuntime) -> Result<(), Fail> {
 
 #[test]
 fn generated_texts_are_asked_for(rt: HostRuntime) -> Result<(), Fail> {
-    let words = words_of(rt.alloc(), ["trial", "4294967295", "7"].as_slice())?;
+    let words = words_of(rt.alloc(), "trial 4294967295 7")?;
     match read_words(rt.alloc(), &words) {
         Ok(
             Options::Trial {
@@ -72,32 +57,9 @@ fn generated_texts_are_asked_for(rt: HostRuntime) -> Result<(), Fail> {
                 workers,
             },
         ) => {
-            assert_eq!(rt; number, 4294967295);
-            assert_eq!(rt; size, 7);
-            assert_eq!(rt; workers, 4);
+            assert!(rt; number == 4294967295 && size == 7 && workers == 4);
         }
         _ => assert!(rt; false, "the words are a command"),
     }
-    Ok(())
-}
-
-#[test]
-fn words_without_a_form_are_bad(rt: HostRuntime) -> Result<(), Fail> {
-    let alloc = rt.alloc();
-    assert!(rt; is_bad(alloc, [].as_slice())?);
-    assert!(rt; is_bad(alloc, ["code"].as_slice())?);
-    assert!(rt; is_bad(alloc, ["code", "--want", "0", "a.js"].as_slice())?);
-    assert!(rt; is_bad(alloc, ["code", "--workers", "17", "a.js"].as_slice())?);
-    assert!(rt;
-        is_bad(
-            alloc,
-            ["code", "--want", "all", "--want", "all", "a.js"].as_slice()
-        )?
-    );
-    assert!(rt; is_bad(alloc, ["code", "a.js", "-x"].as_slice())?);
-    assert!(rt; is_bad(alloc, ["code", "a.js", "--want", "all"].as_slice())?);
-    assert!(rt; is_bad(alloc, ["trial", "1", "0"].as_slice())?);
-    assert!(rt; is_bad(alloc, ["trial", "99999999999999999999", "1"].as_slice())?);
-    assert!(rt; !is_bad(alloc, ["save", "a.js"].as_slice())?);
     Ok(())
 }

@@ -1,21 +1,13 @@
-//! A script with a function in a function, merged in both orders.
+//! A script with a function in a function, merged in both orders, and listed.
 
-use bytecode_buf::decode_at;
+use script_image::{code_text, scope_text};
 use std::alloc::{AllocError, Global};
 use std::test::Fail;
 use stencil_data::{
-    BindKind, Binding, ClosedName, Entry, Extent, FuncKind, FunctionStencil, InitialParts,
-    LazyRecord, MergedStencil, ScopeData, ScopeKind, Slot, Text,
+    BindKind, Binding, ClosedName, Extent, FuncKind, FunctionStencil, InitialParts, LazyRecord,
+    ScopeData, ScopeKind, Slot, Text,
 };
 use stencil_merge::Merger;
-
-const A: u64 = 0x61;
-
-const F: u64 = 0x66;
-
-const G: u64 = 0x67;
-
-const Y: u64 = 0x79;
 
 fn extent(start: u32, end: u32) -> Extent {
     Extent { start, end }
@@ -134,123 +126,95 @@ fn begun(alloc: Global) -> Result<Merger, AllocError> {
     Merger::new(alloc, &parts)
 }
 
-// The operand at an offset, or 1000.
-fn operand(code: &[u8], at: usize) -> u64 {
-    match decode_at(code, at) {
-        Some(instr) => instr.a,
-        None => 1000,
-    }
+/// Adds the first function.
+fn add_outer(alloc: Global, merger: &mut Merger) -> Result<(), AllocError> {
+    add(alloc, merger, &outer(alloc)?, 1, &[0x79, 0x66, 0x61])
 }
 
-// The unit of the text of an atom, or 0.
-fn unit(merged: &MergedStencil, atom: u64) -> u64 {
-    match merged.texts.get(atom as usize) {
-        Some(text) => u64::from(text.units().first().copied().unwrap_or(0)),
-        None => 0,
-    }
+/// Adds the function in it, under this number.
+fn add_inner(alloc: Global, merger: &mut Merger, number: u32) -> Result<(), AllocError> {
+    add(alloc, merger, &inner(alloc)?, number, &[0x67, 0x79])
 }
 
-fn named(merged: &MergedStencil, name: Option<u32>) -> u64 {
-    match name {
-        Some(atom) => unit(merged, u64::from(atom)),
-        None => 0,
-    }
+/// The code of what was merged, and then its scopes.
+fn listed(alloc: Global, merger: Merger) -> Result<Vec<u8>, AllocError> {
+    let merged = merger.finish();
+    let mut out = Vec::new(alloc);
+    code_text(&mut out, &merged)?;
+    scope_text(&mut out, &merged)?;
+    Ok(out)
 }
 
-fn bound(merged: &MergedStencil, part: &FunctionStencil) -> u64 {
-    match part.scopes.first() {
-        Some(scope) => named(merged, scope.bindings.first().map(|binding| binding.atom)),
-        None => 0,
-    }
-}
-
-// Of a function: its name, the name that it binds, what its code names first, and the number that its third instruction has.
-fn shown(merged: &MergedStencil, part: &FunctionStencil) -> [u64; 4] {
-    let code = &part.code;
-    [
-        named(merged, part.name),
-        bound(merged, part),
-        unit(merged, operand(code, 0)),
-        operand(code, 10),
-    ]
-}
-
-// The same of a compiled function, and of a lazy one its name.
-fn shown_at(merged: &MergedStencil, at: usize) -> [u64; 4] {
-    match merged.entries.get(at) {
-        Some(entry) => shown_entry(merged, entry, at),
-        None => [0; 4],
-    }
-}
-
-fn shown_entry(merged: &MergedStencil, entry: &Entry, at: usize) -> [u64; 4] {
-    match entry {
-        Entry::Compiled(part) => shown(merged, part),
-        Entry::Lazy => [record_name(merged, at), 0, 0, 0],
-    }
-}
-
-fn record_name(merged: &MergedStencil, at: usize) -> u64 {
-    match merged.records.get(at) {
-        Some(lazy) => named(merged, lazy.name),
-        None => 0,
-    }
-}
-
-// Whether the script is shown, and its three functions, of which the first two were added.
-fn has_both(merged: &MergedStencil) -> bool {
-    let top = &merged.top;
-    shown(merged, top)[2] == A
-        && operand(&top.code, 5) == 3
-        && shown_at(merged, 0) == [F, Y, Y, 2]
-        && shown_at(merged, 1) == [G, G, Y, 1000]
-        && shown_at(merged, 2) == [A, 0, 0, 0]
-}
+const BOTH: &[u8] = b"script 0 top 0..60
+  00000 GetGName \"a\"
+  00005 Lambda 3
+  00010 RetRval
+script 1 function 10..30 \"f\"
+  00000 GetGName \"y\"
+  00005 String \"a\"
+  00010 Lambda 2
+  00015 Return
+script 2 function 15..20 \"g\"
+  00000 GetGName \"y\"
+  00005 Return
+script 3 lazy 40..50 \"a\" inner - closed 0:\"a\"
+script 0 top 0..60
+  scope 0 Function parent - env 1
+    \"a\" let env 0
+script 1 function 10..30 \"f\"
+  scope 0 Function parent - env 1
+    \"y\" let env 0
+script 2 function 15..20 \"g\"
+  scope 0 Function parent - env 1
+    \"g\" let env 0
+script 3 lazy 40..50 \"a\" inner - closed 0:\"a\"
+";
 
 #[test]
 fn either_order(rt: HostRuntime) -> Result<(), Fail> {
     let alloc = rt.alloc();
     let mut one = begun(alloc)?;
-    add(alloc, &mut one, &outer(alloc)?, 1, &[0x79, 0x66, 0x61])?;
-    add(alloc, &mut one, &inner(alloc)?, 2, &[0x67, 0x79])?;
-    assert!(rt; has_both(&one.finish()));
+    add_outer(alloc, &mut one)?;
+    add_inner(alloc, &mut one, 2)?;
+    assert!(rt; listed(alloc, one)?.as_slice() == BOTH);
     let mut two = begun(alloc)?;
-    add(alloc, &mut two, &inner(alloc)?, 2, &[0x67, 0x79])?;
-    add(alloc, &mut two, &outer(alloc)?, 1, &[0x79, 0x66, 0x61])?;
-    assert!(rt; has_both(&two.finish()));
+    add_inner(alloc, &mut two, 2)?;
+    add_outer(alloc, &mut two)?;
+    assert!(rt; listed(alloc, two)?.as_slice() == BOTH);
     Ok(())
 }
 
+const FIRST: &[u8] = b"script 0 top 0..60
+  00000 GetGName \"a\"
+  00005 Lambda 3
+  00010 RetRval
+script 1 function 10..30 \"f\"
+  00000 GetGName \"y\"
+  00005 String \"a\"
+  00010 Lambda 2
+  00015 Return
+script 2 lazy 15..20 \"a\" inner - closed 0:\"a\"
+script 3 lazy 40..50 \"a\" inner - closed 0:\"a\"
+script 0 top 0..60
+  scope 0 Function parent - env 1
+    \"a\" let env 0
+script 1 function 10..30 \"f\"
+  scope 0 Function parent - env 1
+    \"y\" let env 0
+script 2 lazy 15..20 \"a\" inner - closed 0:\"a\"
+script 3 lazy 40..50 \"a\" inner - closed 0:\"a\"
+";
+
+// What is added as the first function again changes nothing.
 #[test]
 fn added_twice(rt: HostRuntime) -> Result<(), Fail> {
     let alloc = rt.alloc();
     let mut merger = begun(alloc)?;
-    assert_eq!(rt; merger.text_count(), 2, "equal texts are one");
-    add(alloc, &mut merger, &outer(alloc)?, 1, &[0x79, 0x66, 0x61])?;
-    assert_eq!(rt; merger.text_count(), 3);
-    add(alloc, &mut merger, &inner(alloc)?, 1, &[0x67, 0x79])?;
-    assert_eq!(rt; merger.text_count(), 3, "nothing changes");
-    let merged = merger.finish();
-    assert!(rt; shown_at(&merged, 0) == [F, Y, Y, 2]);
-    assert!(rt; shown_at(&merged, 1) == [A, 0, 0, 0]);
-    Ok(())
-}
-
-#[test]
-fn empty_script(rt: HostRuntime) -> Result<(), Fail> {
-    let alloc = rt.alloc();
-    let parts = InitialParts {
-        texts: Vec::new(alloc),
-        top: function(alloc, extent(0, 0), None, &[100], &[])?,
-        records: Vec::new(alloc),
-    };
-    let merger = Merger::new(alloc, &parts)?;
-    assert_eq!(rt; merger.function_count(), 0);
-    let merged = merger.finish();
-    assert_eq!(rt; merged.texts.len(), 0);
-    assert_eq!(rt; merged.entries.len(), 0);
-    let top = &merged.top;
-    let code = &top.code;
-    assert_eq!(rt; code.as_slice(), [100].as_slice());
+    let begun = merger.text_count();
+    add_outer(alloc, &mut merger)?;
+    let once = merger.text_count();
+    add_inner(alloc, &mut merger, 1)?;
+    assert!(rt; (begun, once, merger.text_count()) == (2, 3, 3));
+    assert!(rt; listed(alloc, merger)?.as_slice() == FIRST);
     Ok(())
 }

@@ -22,25 +22,16 @@ fn four_texts(alloc: Global, keys: RandomState) -> Result<TextList, AllocError>
 }
 
 #[test]
-fn equal_texts_have_one_atom(rt: HostRuntime) -> Result<(), Fail> {
+fn equal_texts_have_one_atom_which_gives_the_text(rt: HostRuntime) -> Result<(), Fail> {
     let list = four_texts(rt.alloc(), RandomState::new(&rt)?)?;
     let (table, mut desk) = AtomTable::new(rt.alloc(), list)?;
     let x = table.intern(&mut desk, 0);
-    let y = table.intern(&mut desk, 1);
     let again = table.intern(&mut desk, 2);
     let empty = table.intern(&mut desk, 3);
-    assert!(rt; x == again && x != y && x != empty && y != empty);
-    Ok(())
-}
-
-#[test]
-fn an_atom_gives_its_text(rt: HostRuntime) -> Result<(), Fail> {
-    let list = four_texts(rt.alloc(), RandomState::new(&rt)?)?;
-    let (table, mut desk) = AtomTable::new(rt.alloc(), list)?;
     let y = table.intern(&mut desk, 1);
     let number = table.text_no(&mut desk, y);
-    assert!(rt; number == 1);
-    assert!(rt; table.list().text(number).units() == [121].as_slice());
+    assert!(rt; x == again && x != y && x != empty && y != empty);
+    assert!(rt; number == 1 && table.list().text(number).units() == [121].as_slice());
     Ok(())
 }
 
@@ -67,7 +58,6 @@ fn in_two_threads<R: Threads + Sync>(
     requires first { first < length table.now.list.texts }
     requires second { second < length table.now.list.texts }
     ensures table { IfOk result (λ met. met.0.table ≡ table.now) }
-    ensures same { slice_index_or table.now.list.texts first [] ≡ slice_index_or table.now.list.texts second [] → IfOk result (λ met. met.1 ≡ met.2) }
     ensures first { IfOk result (λ met. SeesAtom met.0 met.1) }
 {
     let other = table.split(&mut desk)?;

@@ -6,11 +6,10 @@ ghost use Rattle.compile_initial.specs.Initial.{IsInitialOf};
 ghost use Rattle.stencil_board.specs.Files.{IsFilled, file_at};
 ghost use Rattle.stencil_board.specs.Passes.{BelongsTo, IsBoard, IsNumberOf};
 
-use compile_first_pass::{FirstPass, first_pass};
-use compile_initial::{InitialStencil, initial};
+use crate::scripts::initial_of;
+use compile_initial::InitialStencil;
 use compile_tally::Sheet;
 use lazy_compile::Delazified;
-use parse_skim_handler::Skimming;
 use std::alloc::{AllocError, Global};
 use std::marker::Brand;
 use std::sync::Arc;
@@ -134,16 +133,11 @@ fn small_script(alloc: Global, text: &[u8]) -> Result<InitialStencil, Fail>
     ensures initial { IfOk result (IsInitialOf text.now) }
     ensures two { IfOk result (λ made. length made.parts.records ≡ 2) }
 {
-    match first_pass(alloc, Skimming::new(alloc), text)? {
-        FirstPass::Script(script) => {
-            let before = initial(alloc, script, text.len() as u32)?;
-            if count_of(&before.parts) != 2 {
-                return Err(Fail::from("not two functions"));
-            }
-            Ok(before)
-        }
-        FirstPass::Refused(_) => Err(Fail::from("refused")),
+    let before = initial_of(alloc, text)?;
+    if count_of(&before.parts) != 2 {
+        return Err(Fail::from("not two functions"));
     }
+    Ok(before)
 }
 
 fn count_of(parts: &InitialParts) -> usize

@@ -1,13 +1,10 @@
 //! The functions of a small script, requested, discarded and requested again.
 
-ghost use Rattle.std.specs.Prelude.{◌≡◌, ◌≤◌, length, IfOk};
 ghost use Rattle.compile_initial.specs.Initial.{IsInitialOf};
 ghost use Rattle.lazy_function.specs.Numbered.{IsNumberIn};
 
-use compile_first_pass::{FirstPass, first_pass};
-use compile_initial::{InitialStencil, initial};
+use crate::scripts::initial_of;
 use compile_tally::Sheet;
-use parse_skim_handler::Skimming;
 use relazy_board::RelazyBoard;
 use std::alloc::{AllocError, Global};
 use std::test::Fail;
@@ -17,19 +14,6 @@ const NESTED: &[u8] = b"function f(x){ return () => () => x }";
 
 /// Where they start.
 const STARTS: [u32; 3] = [10, 22, 28];
-
-fn initial_of(alloc: Global, bytes: &[u8]) -> Result<InitialStencil, Fail>
-    requires { length bytes.now ≤ 16777215 }
-    ensures { IfOk result (IsInitialOf bytes.now) }
-{
-    match first_pass(alloc, Skimming::new(alloc), bytes)? {
-        FirstPass::Script(script) => {
-            let made = initial(alloc, script, bytes.len() as u32)?;
-            Ok(made)
-        }
-        FirstPass::Refused(_) => Err(Fail::from("refused")),
-    }
-}
 
 /// Reads a function once: where it starts, and how many functions were compiled for that.
 fn read_once(alloc: Global, board: &RelazyBoard<'_>, number: u32) -> Result<(u32, u64), AllocError>

@@ -1,33 +1,15 @@
 //! A small script whose functions are compiled again and again.
 
-ghost use Rattle.std.specs.Prelude.{◌≤◌, length, IfOk};
-ghost use Rattle.compile_initial.specs.Initial.{IsInitialOf};
-
-use compile_first_pass::{FirstPass, first_pass};
-use compile_initial::{InitialStencil, initial};
-use helper_tasks::{MeetGate, OpenGate};
-use parse_skim_handler::Skimming;
-use session_churn::churn;
-use std::alloc::Global;
+use crate::scripts::initial_of;
+use helper_tasks::OpenGate;
+use session_churn::{churn, visit_in_rounds};
 use std::test::Fail;
 
 const PAIR: &[u8] =
     b"function f0(a, b) { return a + b * 0; }\nfunction f1(a, b) { return a + b * 1; }\n";
 
-// What the script of these bytes is before any of its functions is compiled.
-fn initial_of(alloc: Global, bytes: &[u8]) -> Result<InitialStencil, Fail>
-    requires { length bytes.now ≤ 16777215 }
-    ensures { IfOk result (IsInitialOf bytes.now) }
-{
-    let pass = first_pass(alloc, Skimming::new(alloc), bytes)?;
-    match pass {
-        FirstPass::Script(script) => {
-            let before = initial(alloc, script, bytes.len() as u32)?;
-            Ok(before)
-        }
-        FirstPass::Refused(_) => Err(Fail::from("refused")),
-    }
-}
+// Three functions, each in the one before, and another one.
+const NESTED: &[u8] = b"function f(x) { return () => () => x }\nfunction g(y) { return y; }\n";
 
 #[test]
 fn counts_a_script_whole(rt: HostRuntime) -> Result<(), Fail> {
@@ -35,21 +17,8 @@ fn counts_a_script_whole(rt: HostRuntime) -> Result<(), Fail> {
     let before = initial_of(alloc, PAIR)?;
     assert_eq!(rt; before.parts.records.len(), 2);
     let churned = churn(&rt, alloc, PAIR, &before, 1, &OpenGate)?;
-    assert_eq!(rt; churned.instructions, 16);
-    // Both in the first round; in each later one the first again, which was discarded.
-    assert_eq!(rt; churned.compiled, 4);
-    Ok(())
-}
-
-#[test]
-fn counts_the_same_by_several_workers(rt: HostRuntime) -> Result<(), Fail> {
-    let alloc = rt.alloc();
-    let before = initial_of(alloc, PAIR)?;
-    assert_eq!(rt; before.parts.records.len(), 2);
-    // Whether they do meet depends on the schedule, so it is not asked.
-    let gate = MeetGate::new(0, 2, 100_000_000);
-    let churned = churn(&rt, alloc, PAIR, &before, 2, &gate)?;
-    assert_eq!(rt; churned.instructions, 16);
+    // Both are compiled in the first round; in each later one the first again, which was discarded.
+    assert!(rt; churned.instructions == 16 && churned.compiled == 4);
     Ok(())
 }
 
@@ -59,7 +28,28 @@ fn counts_a_script_without_functions(rt: HostRuntime) -> Result<(), Fail> {
     let before = initial_of(alloc, b"1 + 2;")?;
     assert_eq!(rt; before.parts.records.len(), 0);
     let churned = churn(&rt, alloc, b"1 + 2;", &before, 16, &OpenGate)?;
-    assert_eq!(rt; churned.instructions, 6);
-    assert_eq!(rt; churned.compiled, 0);
+    assert!(rt; churned.instructions == 6 && churned.compiled == 0);
+    Ok(())
+}
+
+#[test]
+fn counts_after_many_rounds(rt: HostRuntime) -> Result<(), Fail> {
+    let alloc = rt.alloc();
+    let before = initial_of(alloc, PAIR)?;
+    assert_eq!(rt; before.parts.records.len(), 2);
+    let three = visit_in_rounds(&rt, alloc, PAIR, &before, 1, &OpenGate, 3)?;
+    let many = visit_in_rounds(&rt, alloc, PAIR, &before, 1, &OpenGate, 1000)?;
+    assert!(rt; many.instructions == three.instructions && many.compiled == 1001);
+    Ok(())
+}
+
+#[test]
+fn counts_the_same_by_four_workers_in_many_rounds(rt: HostRuntime) -> Result<(), Fail> {
+    let alloc = rt.alloc();
+    let before = initial_of(alloc, NESTED)?;
+    assert_eq!(rt; before.parts.records.len(), 4);
+    let one = visit_in_rounds(&rt, alloc, NESTED, &before, 1, &OpenGate, 1)?;
+    let many = visit_in_rounds(&rt, alloc, NESTED, &before, 4, &OpenGate, 2000)?;
+    assert!(rt; many.instructions == one.instructions);
     Ok(())
 }

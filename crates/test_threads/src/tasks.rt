@@ -117,18 +117,9 @@ fn are_right<R: Threads + Wait + Sync>(
 #[test]
 fn squares_stand_in_their_places(rt: HostRuntime) -> Result<(), Fail> {
     for count in [0, 1, 7, 64, 10_000] {
-        assert!(rt;
-            are_right(&rt, rt.alloc(), 1, count)?,
-            "one worker, {count} tasks"
-        );
-        assert!(rt;
-            are_right(&rt, rt.alloc(), 2, count)?,
-            "two workers, {count} tasks"
-        );
-        assert!(rt;
-            are_right(&rt, rt.alloc(), 16, count)?,
-            "16 workers, {count} tasks"
-        );
+        assert!(rt; are_right(&rt, rt.alloc(), 1, count)?);
+        assert!(rt; are_right(&rt, rt.alloc(), 2, count)?);
+        assert!(rt; are_right(&rt, rt.alloc(), 16, count)?);
     }
     Ok(())
 }
@@ -152,8 +143,7 @@ fn two_workers_meet(rt: HostRuntime) -> Result<(), Fail> {
     };
     let gate = MeetGate::new(0, 2, 100_000_000);
     let (outs, tasks) = run_squares(&rt, rt.alloc(), 2, &job, &gate)?;
-    assert_eq!(rt; (outs.len(), tasks.len()), (64, 64));
-    assert!(rt; gate.met());
+    assert!(rt; outs.len() == 64 && tasks.len() == 64 && gate.met());
     Ok(())
 }
 
@@ -163,16 +153,16 @@ fn calls_of_the_gate(rt: HostRuntime) -> Result<(), Fail> {
     assert!(rt; none_needed.met());
     let second_of_two = MeetGate::new(1, 1, 0);
     second_of_two.hold(7);
-    assert!(rt; !second_of_two.met());
+    let one = second_of_two.met();
     second_of_two.hold(7);
-    assert!(rt; second_of_two.met());
+    let two = second_of_two.met();
     second_of_two.hold(7);
-    assert!(rt; second_of_two.met());
+    assert!(rt; !one && two && second_of_two.met());
     let alone = MeetGate::new(0, 2, 1000);
     alone.hold(0);
-    assert!(rt; !alone.met());
+    let one = alone.met();
     alone.hold(1);
-    assert!(rt; !alone.met());
+    assert!(rt; !one && !alone.met());
     OpenGate.hold(0);
     Ok(())
 }

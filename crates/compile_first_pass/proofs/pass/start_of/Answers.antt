@@ -8,4 +8,4 @@ returns-in-None c = λ get set texts. starts_none get set texts c.args.tokens.no
 
 pub returns-in-Some : goal.returns-in-Some
 returns-in-Some c = λ get set texts.
-    ap (λ (t : Token). t.start) c.in-Some.ensures.lookup.1 ∙ starts_at get set texts c.args.tokens.now c.args.token c.in-Some.token.now c.in-Some.ensures.lookup.3.0
+    c.start.ensures ∙ ap (λ (t : Token). t.start) c.in-Some.ensures.lookup.1 ∙ starts_at get set texts c.args.tokens.now c.args.token c.in-Some.token.now c.in-Some.ensures.lookup.3.0

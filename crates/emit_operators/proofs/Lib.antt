@@ -1,0 +1,2 @@
+mod OperatorRows
+pub mod Plain

@@ -41,7 +41,13 @@ const PARTNERS: [(u32, Option<u32>); 10] = [
 ];
 
 fn token(kind: Kind) -> CompactToken {
-    CompactToken::new(kind, false, TokenValue::new(0), Offset::new(0), Offset::new(0))
+    CompactToken::new(
+        kind,
+        false,
+        TokenValue::new(0),
+        Offset::new(0),
+        Offset::new(0),
+    )
 }
 
 #[test]

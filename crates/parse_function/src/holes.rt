@@ -21,6 +21,7 @@ use script_grammar::token::{Kind, mark};
 use script_scanner::{scan, scan_ascii};
 use std::alloc::{AllocError, Global};
 use stencil_data::Extent;
+use unit_text::is_ascii;
 
 /// What stands between the braces of a function's body: the bytes `from..to` of the file.
 #[derive(Debug, Clone, Copy)]
@@ -205,7 +206,7 @@ fn tokens_of(
     ensures few { IfOk result (λ found. IfSome found (λ tokens. length tokens.items < 2 ^ 32)) }
 {
     let bytes = part_of(file, inner.start, to);
-    if bytes.is_ascii() {
+    if is_ascii(bytes) {
         let tokens = ascii_tokens(alloc, file, inner, to)?;
         return Ok(Some(tokens));
     }

@@ -11,7 +11,7 @@ ghost use Rattle.parse_function.specs.Without.{IsPart, AreParts, points_between,
 use crate::holes::Hole;
 use std::alloc::{AllocError, Global};
 use stencil_data::Extent;
-use unit_text::{DecodeFault, Point, decode};
+use unit_text::{DecodeFault, Point, decode, is_ascii};
 
 /// The code points of an extent of a file, with one space in place of what stands in each hole.
 pub(crate) fn without(
@@ -48,7 +48,7 @@ fn add_part(
     ensures { OnOk result (points.new.items ≡ points.old.items ++ points_between file.now from to) }
 {
     let bytes = &file[from as usize..to as usize];
-    if bytes.is_ascii() {
+    if is_ascii(bytes) {
         push_ascii(points, bytes, from)?;
         return Ok(());
     }

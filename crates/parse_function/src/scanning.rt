@@ -16,6 +16,7 @@ use script_grammar::compact::CompactToken;
 use script_scanner::{scan, scan_ascii};
 use std::alloc::{AllocError, Global};
 use stencil_data::Extent;
+use unit_text::is_ascii;
 
 /// The tokens of an extent of a file, with one space in place of what stands in each hole. Where what is left is of ASCII alone, as of
 /// most functions, it is read without a list of its points: as it stands in the file where there is no hole, else put together.
@@ -38,13 +39,13 @@ pub(crate) fn tokens_without(
 {
     if holes.is_empty() {
         let bytes = part_of(file, extent);
-        if bytes.is_ascii() {
+        if is_ascii(bytes) {
             let tokens = scan_ascii(alloc, bytes, extent.start, atoms)?;
             return Ok(tokens);
         }
     } else {
         let bytes = glued_bytes(alloc, file, extent, holes)?;
-        if bytes.is_ascii() {
+        if is_ascii(&bytes) {
             let mut tokens = scan_ascii(alloc, &bytes, extent.start, atoms)?;
             move_tokens(&mut tokens, extent.start, holes);
             return Ok(tokens);

@@ -17,7 +17,7 @@ use script_scanner::{scan, scan_ascii};
 use std::alloc::Global;
 use stencil_data::Text;
 use track_atoms::known_words;
-use unit_text::{DecodeFault, decode};
+use unit_text::{DecodeFault, decode, is_ascii};
 
 /// The tokens of a file, which of them match as brackets, and the texts that their atoms index; `known` has the atoms of the known words.
 #[derive(Drop)]
@@ -65,7 +65,7 @@ fn scan_file(
     ensures keeps { OnOk result (Keeps atoms.old atoms.new) }
     ensures fault { IfErr result (IsFaultOf bytes.now) }
 {
-    if bytes.is_ascii() {
+    if is_ascii(bytes) {
         let tokens = scan_ascii(alloc, bytes, 0, atoms)?;
         return Ok(tokens);
     }

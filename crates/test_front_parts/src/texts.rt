@@ -1,7 +1,7 @@
 //! Code points with their places, and the units of a code point.
 
 use std::test::Fail;
-use unit_text::{Point, decode, units_of};
+use unit_text::{Point, decode, is_ascii, units_of};
 
 /// The points of `aé`, U+2028 and U+1F600, which are spelled by one to four bytes.
 const POINTS: [Point; 4] = [
@@ -48,4 +48,17 @@ fn units(rt: HostRuntime) {
     for (code, units, count) in UNITS {
         assert!(rt; units_of(code) == (units, count));
     }
+}
+
+#[test]
+fn bytes_of_ascii(rt: HostRuntime) {
+    let mut bytes = [b'a'; 200];
+    assert!(rt; is_ascii(&bytes));
+    assert!(rt; is_ascii(&bytes[..0]));
+    for at in 0..bytes.len() {
+        bytes[at] = 0x80;
+        assert!(rt; !is_ascii(&bytes));
+        bytes[at] = 0x7F;
+    }
+    assert!(rt; is_ascii(&bytes));
 }

@@ -1,2 +1,3 @@
 -- Lemmas on the points of a text.
 pub mod Decoding
+mod Blocks

@@ -1,9 +1,11 @@
 //! Code points of a source text with their places, and the 16-bit units of a code point.
 //!
-//! The lowest crate of the pipeline: what reads a file that is not of ASCII alone hands its bytes to [`decode`], and the
-//! scanner reads the points. `decode` answers exactly the code points that the bytes spell in UTF-8, or the
+//! The lowest crate of the pipeline: what reads a file that is not of ASCII alone, as [`is_ascii`] tells, hands its bytes to [`decode`],
+//! and the scanner reads the points. `decode` answers exactly the code points that the bytes spell in UTF-8, or the
 //! length of their longest well-formed front; [`units_of`] answers the UTF-16 units of a code point.
 #![tactic(auto)]
+
+mod ascii;
 
 ghost use Rattle.std.specs.Prelude.{◌≡◌, ◌≤◌, IfOk, IfErr, OnOk, length, take, map};
 ghost use Rattle.std.specs.Str.{IsAscii, IsUtf8, chars, encode_utf8_all};
@@ -12,6 +14,7 @@ ghost use Rattle.unit_text.specs.Faults.{IsFaultOf};
 ghost use Rattle.unit_text.specs.Units.{code_units};
 ghost use Rattle.unit_text.specs.declared.DecodeFault.TheVariants.{NoMemory};
 
+pub use ascii::is_ascii;
 use std::alloc::{AllocError, AllocFailed, Global};
 
 /// A code point of a source text, with the offsets of its first byte and of the byte after it.
@@ -86,7 +89,7 @@ fn points_of(alloc: Global, text: &str) -> Result<Vec<Point>, AllocError>
     requires { length text.now ≤ 16777215 }
     ensures { IfOk result (λ ps. ps.items ≡ points_from 0 (chars text.now)) }
 {
-    if text.is_ascii() {
+    if is_ascii(text.as_bytes()) {
         ascii_points(alloc, text.as_bytes())
     } else {
         unicode_points(alloc, text)

@@ -36,7 +36,7 @@ fn is_asked(asked: Asked, how: Declare) -> bool
 }
 
 /// The name that an item declares so.
-fn declared(asked: Asked, item: &Item) -> Option<Ident>
+pub fn declared(asked: Asked, item: &Item) -> Option<Ident>
     ensures { result ≡ asked_in asked item.now }
 {
     match item {

@@ -9,12 +9,13 @@ ghost use Rattle.parse_track.specs.EarlyErrors.{smaller, smallest, repeated, lam
 ghost use Rattle.parse_track.specs.Log.{name_of, region_of, kind_of, known_names, Inner};
 ghost use Rattle.parse_track.specs.Rows.{items_at, told_at, told_by, told_outermost, told_of_rows, GainsNames};
 ghost use Rattle.parse_track.specs.Asked.{asks, asked_in, is_declared};
+ghost use Rattle.parse_track.specs.declared.names.Asked.TheVariants as asked;
 ghost use Rattle.parse_track.specs.Rules.{RegionRule, BindsReserved, offset_of, is_inner, first_at, equal_catch_param, equal_param};
 ghost use Rattle.parse_track.specs.Rules.{AreLessened, AreFirstAt, AreFirstOf, DeclaresNothing};
 
 use crate::atom_set::AtomSet;
 use crate::closed::kind_at;
-use crate::names::{Asked, declares_any, direct_names, items_at};
+use crate::names::{Asked, declared, declares_any, direct_names, items_at};
 use crate::offsets::{first_also, first_repeated, first_reserved, lesser};
 use crate::region::{Region, WellKnownAtoms};
 use crate::track::{Item, RegionRow};
@@ -194,23 +195,45 @@ fn first_param(
     first_also(atoms, params, &lexical)
 }
 
+/// The offset of the name that an item declares, where it may not be bound.
+fn reserved_in(known: &WellKnownAtoms, item: &Item) -> Option<u32>
+    ensures { result ≡ smallest (reserved nat_eq (known_names known.now) (map name_of (filter_map (asked_in asked.All) (item.now ∷ [])))) }
+{
+    match declared(Asked::All, item) {
+        None => None,
+        Some(name) => {
+            let names = [name];
+            first_reserved(known, &names)
+        }
+    }
+}
+
+/// The smallest offset of a name that these items declare and that may not be bound.
+fn first_reserved_in(known: &WellKnownAtoms, items: &[Item]) -> Option<u32>
+    ensures { result ≡ smallest (reserved nat_eq (known_names known.now) (map name_of (filter_map (asked_in asked.All) items.now))) }
+{
+    let mut first = None;
+    for item in items {
+        first = lesser(first, reserved_in(known, item));
+    }
+    first
+}
+
 /// The first name that a region binds and that may not be bound.
 fn first_bound_reserved(
-    alloc: Global,
     known: &WellKnownAtoms,
     rows: &[RegionRow],
     room: usize,
     kind: Region,
     region: u32,
-) -> Result<Option<u32>, AllocError>
-    ensures { IfOk result (λ first. first ≡ first_at BindsReserved (known_names known.now) (region_of kind) (told_at room rows.now region)) }
+) -> Option<u32>
+    ensures { result ≡ first_at BindsReserved (known_names known.now) (region_of kind) (told_at room rows.now region) }
 {
-    let own = names_in(alloc, rows, room, region, Asked::All)?;
-    let first = lesser(
+    let items = items_at(rows, room, region);
+    lesser(
         first_reserved_lambda(known, kind),
-        first_reserved(known, &own),
-    );
-    Ok(first)
+        first_reserved_in(known, items),
+    )
 }
 
 /// The smallest offsets at a region itself that declares no name.
@@ -243,7 +266,7 @@ fn offsets_at(
     let twice_param = first_repeated(atoms, &params)?;
     let catch_and_lexical = first_catch(alloc, rows, room, region, atoms)?;
     let param_and_lexical = first_param(alloc, rows, room, region, &params, lexical, atoms)?;
-    let binds_reserved = first_bound_reserved(alloc, known, rows, room, kind, region)?;
+    let binds_reserved = first_bound_reserved(known, rows, room, kind, region);
     Ok(RuleOffsets {
         twice_lexical,
         catch_and_lexical,

@@ -24,11 +24,11 @@ returns c =
       catch_and_lexical = c.in_ok-catch_and_lexical.catch_and_lexical;
       param_and_lexical = c.in_ok-param_and_lexical.param_and_lexical;
       twice_param = c.in_ok-twice_param.twice_param;
-      binds_reserved = c.in_ok-binds_reserved.binds_reserved;
+      binds_reserved = c.first_bound_reserved-binds_reserved.result;
     })
     (λ (r : RegionRule). smallest (rule_of r (known_names c.args.known.now) (region_of c.args.kind) (told_region c.args.room (map row_of c.args.rows.now) c.args.region)))
     (c.in_ok-twice_lexical.ensures ∙ ap (λ (ns : List (Name ℕ)). smallest (repeated nat_eq [] ns)) (ap (map name_of) c.deref.ensures.value ∙ c.in_ok-lexical.ensures))
     c.in_ok-catch_and_lexical.ensures
     c.in_ok-param_and_lexical.ensures
     (c.in_ok-twice_param.ensures ∙ ap (λ (ns : List (Name ℕ)). smallest (repeated nat_eq [] ns)) (ap (map name_of) c.deref-2.ensures.value ∙ c.in_ok-params.ensures))
-    c.in_ok-binds_reserved.ensures
+    c.first_bound_reserved-binds_reserved.ensures

@@ -17,6 +17,7 @@ use Rattle.script_scanner.specs.declared.escapes.Step.{Step}
 use Rattle.script_scanner.specs.declared.escapes.Step.TheVariants.{Add, Close, Break}
 use Rattle.script_scanner.specs.declared.known.KnownToken.{KnownToken}
 use Rattle.script_scanner.specs.declared.parts.Ending.TheVariants as ending
+use Rattle.script_scanner.specs.declared.pieces.FoundToken.{FoundToken}
 use Rattle.script_scanner.specs.declared.scanning.Scanner.{Scanner}
 use Rattle.script_scanner.specs.Advances.{Moves}
 use Rattle.script_scanner.specs.Blanks.{blank_at, first_is}
@@ -26,8 +27,9 @@ use Rattle.script_scanner.specs.Fronts.{BeginsName, IsQuoted}
 use Rattle.script_scanner.specs.Known.{IsKnown, TakesKnown, known_piece}
 use Rattle.script_scanner.specs.Names.{name_length}
 use Rattle.script_scanner.specs.Parts.{Body, behind, body_of, body_within, is_plain, string_step, then_body}
+use Rattle.script_scanner.specs.Reads.{FindsPiece}
 use Rattle.script_scanner.specs.Stands.{is_last}
-use Rattle.script_scanner.specs.Tokens.{Lexed, Piece, Text, front_of, then_tokens, token_at, name_kind, string_piece, place, braces_after}
+use Rattle.script_scanner.specs.Tokens.{Lexed, Piece, Text, front_of, then_tokens, token_at, name_kind, name_piece, string_piece, place, braces_after}
 use Rattle.script_scanner.specs.Words.{word_at, word_index}
 use Rattle.script_scanner.proofs.KindLemmas.{piece_no_last}
 use Rattle.script_scanner.proofs.Lists.{read_at, map_take, map_drop}
@@ -182,3 +184,10 @@ moves_known to rest known before now texts taken is t took bare =
           ∙ ap (λ (n : ℕ). others now.braces.items now.after_line (drop n rest)) (sym took)
           ∙ rest_some taken (others now.braces.items now.after_line (drop taken rest)) (omega (arith, took, is.positive)));
     }
+
+-- a name is the longest token at the front
+pub name_found : (in_template : Bool) (codes : List ℕ) (found : FoundToken) (units : List ℕ) → BeginsName codes → FindsPiece (Some (name_piece codes)) (Some found) units
+    → FindsPiece (token_at in_template codes) (Some found) units
+name_found in_template [] found units begins finds = absurd begins
+name_found in_template (c ∷ codes) found units begins finds =
+    subst (λ (p : Option Piece). FindsPiece p (Some found) units) (sym (token_is_name in_template c codes begins)) finds

@@ -6,8 +6,9 @@ ghost use Rattle.unit_text.specs.Units.{text_units};
 ghost use Rattle.script_scanner.specs.Blanks.{first_is};
 ghost use Rattle.script_scanner.specs.Fronts.{BeginsName, IsQuoted};
 ghost use Rattle.script_scanner.specs.Known.{IsKnown};
+ghost use Rattle.script_scanner.specs.Names.{name_length};
 
-use crate::names::spelled_name;
+use crate::names::Spelled;
 use crate::parts::plain_front;
 use crate::pieces::kind_of_name;
 use crate::sources::Source;
@@ -42,15 +43,16 @@ fn are_units<T: Source>(points: T, units: &[u16]) -> bool
     true
 }
 
-/// The name at the front, where its text stands where the texts' guess is.
+/// The name at the front, of which this is known, where its text stands where the texts' guess is.
 #[inline]
-pub fn known_name<T: Source>(rest: T, atoms: &Atoms) -> Option<KnownToken>
+pub fn known_name<T: Source>(name: Spelled, rest: T, atoms: &Atoms) -> Option<KnownToken>
     requires begins { BeginsName (map code_of (T.points rest)) }
-    requires some { 0 < length (T.points rest) }
+    requires long { name.length ≡ name_length (map code_of (T.points rest)) }
+    requires positive { 0 < name.length }
+    requires within { name.length ≤ length (T.points rest) }
     ensures value { IfSome result (IsKnown atoms.now (map code_of (T.points rest))) }
     ensures within { IfSome result (λ known. known.length ≤ length (T.points rest)) }
 {
-    let name = spelled_name(rest);
     let atom = atoms.guess(name.digest)?;
     let units = atoms.text(atom).units();
     if !are_units(rest.front(name.length), units) {

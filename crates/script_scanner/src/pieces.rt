@@ -4,6 +4,7 @@ ghost use Rattle.unit_text.specs.Points.{code_of};
 ghost use Rattle.unit_text.specs.Units.{text_units};
 ghost use Rattle.script_scanner.specs.Marks.{mark_at};
 ghost use Rattle.script_scanner.specs.Numbers.{numeral_at};
+ghost use Rattle.script_scanner.specs.Names.{name_length};
 ghost use Rattle.script_scanner.specs.Parts.{body_of};
 ghost use Rattle.script_scanner.specs.Tokens.{name_kind, name_piece, number_piece, string_piece, template_piece, mark_piece, token_at};
 ghost use Rattle.script_scanner.specs.Reads.{FindsPiece};
@@ -60,19 +61,24 @@ pub fn kind_of_name(word: Option<u8>) -> Kind
     }
 }
 
-/// The name or word at the front.
-fn name_piece<T: Source>(rest: T, units: &mut Vec<u16>) -> Result<FoundToken, AllocError>
-    requires { 0 < length (T.points rest) }
+/// The name or word at the front, of so many code points.
+pub fn name_piece<T: Source>(
+    rest: T,
+    count: usize,
+    units: &mut Vec<u16>,
+) -> Result<FoundToken, AllocError>
+    requires long { count ≡ name_length (map code_of (T.points rest)) }
+    requires positive { 0 < count }
+    requires within { count ≤ length (T.points rest) }
     ensures value { IfOk result (λ found. FindsPiece (Some (name_piece (map code_of (T.points rest)))) (Some found) units.new.items) }
     ensures within { IfOk result (λ found. (0 < found.length) × (found.length ≤ length (T.points rest))) }
 {
-    let length = spelled_name(rest).length;
     units.clear();
-    push_points(units, rest.front(length))?;
+    push_points(units, rest.front(count))?;
     Ok(FoundToken {
         kind: kind_of_name(word_at(units.as_slice())),
         content: Content::Units,
-        length,
+        length: count,
     })
 }
 
@@ -168,7 +174,8 @@ pub fn token_at<T: Source>(
             let code = first.code;
             let others = rest.behind(1);
             if is_name_start(code) {
-                let found = name_piece(rest, units)?;
+                let name = spelled_name(rest);
+                let found = name_piece(rest, name.length, units)?;
                 Ok(Some(found))
             } else if code.is_digit(10) {
                 Ok(number_piece(rest))

@@ -13,12 +13,14 @@ ghost use Rattle.script_scanner.specs.Blanks.{blank_at};
 ghost use Rattle.script_scanner.specs.Fronts.{BeginsName, IsQuoted, StandsAt, found_mark};
 ghost use Rattle.script_scanner.specs.declared.fronts.Front.TheVariants.{Close};
 ghost use Rattle.script_scanner.specs.Known.{TakesKnown};
+ghost use Rattle.script_scanner.specs.Names.{name_length};
 
 use crate::blanks::{blank_at, first_line_length, spaces_length};
 use crate::braces::Brace;
 use crate::fronts::{Front, front_at};
 use crate::known::{KnownToken, known_name, known_string};
-use crate::pieces::{Content, FoundToken, token_at};
+use crate::names::spelled_name;
+use crate::pieces::{Content, FoundToken, name_piece, token_at};
 use crate::sources::{ByteSource, PointSource, Source, points_before, points_behind};
 use parser_atoms::Atoms;
 use script_grammar::compact::{CompactToken, Offset, TokenValue};
@@ -252,6 +254,31 @@ impl Scanner {
         }
     }
 
+    /// Takes the name or word at the front, of so many code points, which it answers. Its text is put together and interned.
+    #[inline(never)]
+    fn take_name<T: Source>(
+        &mut self,
+        alloc: Global,
+        count: usize,
+        rest: T,
+        to: Offset,
+        atoms: &mut Atoms,
+    ) -> Result<usize, AllocError>
+        requires few { length atoms.old < 2 ^ 32 - 1 }
+        requires bare { blank_at (map code_of (T.points rest)) ≡ None }
+        requires begins { BeginsName (map code_of (T.points rest)) }
+        requires long { count ≡ name_length (map code_of (T.points rest)) }
+        requires positive { 0 < count }
+        requires within { count ≤ length (T.points rest) }
+        ensures value { IfOk result (Advances to (T.points rest) self.old self.new atoms.old atoms.new) }
+        ensures within { IfOk result (λ taken. taken ≤ length (T.points rest)) }
+        ensures keeps { Keeps atoms.old atoms.new }
+    {
+        let found = name_piece(rest, count, &mut self.units)?;
+        let taken = self.take(alloc, found, rest, to, atoms)?;
+        Ok(taken)
+    }
+
     /// Takes the name or word at the front; answers how many code points that is. Its text has an atom most often, and then it has a
     /// shorter way.
     #[inline]
@@ -270,13 +297,14 @@ impl Scanner {
         ensures within { IfOk result (λ taken. taken ≤ length (T.points rest)) }
         ensures keeps { Keeps atoms.old atoms.new }
     {
-        match known_name(rest, atoms) {
+        let name = spelled_name(rest);
+        match known_name(name, rest, atoms) {
             Some(known) => {
                 let taken = self.take_known(known, rest, to)?;
                 Ok(taken)
             }
             None => {
-                let taken = self.take_any(alloc, rest, to, atoms)?;
+                let taken = self.take_name(alloc, name.length, rest, to, atoms)?;
                 Ok(taken)
             }
         }

@@ -7,10 +7,10 @@ use Rattle.script_scanner.proofs.known.known_name.Goals as goal
 pub returns-clause-value : goal.returns-clause-value
 returns-clause-value g c =
     known_name_is c.args.atoms.now (g.T.Source.points c.args.rest) (g.T.Source.points c.front.result) c.units-units.result.now c.in_ok-atom.atom
-    c.spelled_name-name.result.length c.kind_of_name.result
+    c.args.name.length c.kind_of_name.result
     c.requires.begins
-    c.spelled_name-name.ensures.value
-    c.spelled_name-name.ensures.positive
+    c.requires.long
+    c.requires.positive
     c.front.ensures
     (c.are_units.ensures c.if-not-are_units.false)
     (c.text.ensures ∙ ap Some (sym c.units-units.ensures))

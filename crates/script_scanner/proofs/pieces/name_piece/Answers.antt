@@ -16,10 +16,10 @@ returns-clause-value g c =
     c.in_ok-push_points.ensures
     ∙ ap (λ (us : List ℕ). us ++ text_units (map code_of (g.T.Source.points c.front.result))) c.clear.ensures.items
     ∙ ap (λ (ps : List Point). text_units (map code_of ps)) c.front.ensures
-    ∙ ap text_units (map_take code_of c.spelled_name-length.result.length (g.T.Source.points c.args.rest))
-    ∙ ap (λ (n : ℕ). text_units (take n codes)) c.spelled_name-length.ensures.value in (
+    ∙ ap text_units (map_take code_of c.args.count (g.T.Source.points c.args.rest))
+    ∙ ap (λ (n : ℕ). text_units (take n codes)) c.requires.long in (
       c.kind_of_name.ensures ∙ ap name_kind c.word_at.ensures
           ∙ ap (λ (us : List ℕ). name_kind (option_map word_index (word_at us))) (c.as_slice.ensures.value ∙ text),
-      c.spelled_name-length.ensures.value,
+      c.requires.long,
       text,
     )

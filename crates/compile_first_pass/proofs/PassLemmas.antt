@@ -14,6 +14,7 @@ use Rattle.script_grammar.specs.Tree.{Body, Stmts, no_stmts, more_stmts}
 use Rattle.grammar_parser_specs.specs.Filling.{fill_stmts}
 use Rattle.grammar_start_laws.proofs.WholeTrees.{own_bodies}
 use Rattle.parse_track.specs.declared.region.Early.{Early}
+use Rattle.parse_track.specs.declared.region.WellKnownAtoms.{WellKnownAtoms}
 use Rattle.parse_track.specs.EarlyErrors.{sooner}
 use Rattle.parse_track.specs.Notes.{error_if, first_note, notes_stmts, strict_errors, early_error}
 use Rattle.parse_exprs.specs.Env.{body_at}
@@ -46,8 +47,9 @@ use Rattle.session_specs.specs.Sources.{IsValid, ErrorAt}
 use Rattle.compile_first_pass.specs.declared.skim.SkimmedScript.{SkimmedScript}
 use Rattle.compile_first_pass.specs.Skims.{SkimsScript}
 use Rattle.compile_first_pass.specs.declared.pass.CheckedScript.{CheckedScript}
+use Rattle.compile_first_pass.specs.declared.pass.ListedScript.{ListedScript}
 use Rattle.compile_first_pass.specs.declared.pass.SourceFault.{SourceFault}
-use Rattle.compile_first_pass.specs.Passes.{IsChecked, IsCheckedScript, IsReadApart, IsRefusedFor, IsSkimmedFile, IsSyntaxOf}
+use Rattle.compile_first_pass.specs.Passes.{IsChecked, IsCheckedScript, IsListed, IsReadApart, IsRefusedFor, IsSkimmedFile, IsSyntaxOf}
 use Rattle.compile_first_pass.proofs.FileLemmas.{of_file, script_read}
 
 pub none_of : {A : Type 0} (o : Option A) → ((x : A) → o ≡ Some x → ⊥) → o ≡ None
@@ -156,15 +158,21 @@ module _ (file : FileTokens) (script : SkimmedScript) (items : Stmts) (sound : I
             (lates (own texts items) items proper own_parts.script.found own_parts.found strict) both;
       }
 
+-- ---- a script that is listed
+
+module _ (file : FileTokens) (items : Stmts) (script : ListedScript) (h : IsListed file items script) where
+  pub of_known : (atoms : WellKnownAtoms) → file.known ≡ atoms → IsOf file.texts.items atoms items
+  of_known atoms same = subst (λ (k : WellKnownAtoms). IsOf file.texts.items k items) same h.of
+
   module _ (bytes : List ℕ) (tokens : AreTokensOf file (length bytes) bytes) where
     pub early_at : (early : Option Early) (e : Early) → early ≡ early_error items → early ≡ Some e → ErrorAt bytes e
     early_at early e found is = record { items = items; read = script_read file (length bytes) bytes items tokens h.text; first = sym found ∙ is }
 
-    pub valid : (early : Option Early) (functions : List ListedFunction) → early ≡ early_error items → early ≡ None → ArePlaced (own texts items) functions (inner_script items) → IsValid bytes items (length functions)
-    valid early functions found none placed = record {
+    pub valid : (early : Option Early) → early ≡ early_error items → early ≡ None → IsValid bytes items (length script.functions.items)
+    valid early found none = record {
       read = script_read file (length bytes) bytes items tokens h.text;
       faultless = sym found ∙ none;
-      functions = found_count (own texts items) functions items placed;
+      functions = found_count (own file.texts.items items) script.functions.items items h.placed;
     }
 
 -- ---- the script that was read, taken apart

@@ -16,11 +16,12 @@ use Rattle.parse_bodies.specs.Whole.{IsText}
 use Rattle.parse_script.specs.declared.file_tokens.FileTokens.{FileTokens}
 use Rattle.parse_script.specs.Reading.{under}
 use Rattle.parse_script.specs.Tokens.{tokens_in, AreTokensOf, IsSound}
-use Rattle.early_script_errors.specs.Told.{own}
+use Rattle.early_script_errors.specs.Told.{own, IsOf, IsTold}
 use Rattle.parse_function_list.specs.Placed.{ArePlaced}
 use Rattle.compile_first_pass.specs.declared.pass.FirstPass.{FirstPass}
 use Rattle.compile_first_pass.specs.declared.pass.FirstPass.TheVariants as pass
 use Rattle.compile_first_pass.specs.declared.pass.CheckedScript.{CheckedScript}
+use Rattle.compile_first_pass.specs.declared.pass.ListedScript.{ListedScript}
 use Rattle.compile_first_pass.specs.declared.pass.SourceFault.{SourceFault}
 use Rattle.compile_first_pass.specs.declared.pass.SourceFault.TheVariants as fault
 use Rattle.compile_first_pass.specs.declared.pass.SyntaxScript.{SyntaxScript}
@@ -71,6 +72,14 @@ IsRefusedFor file fault = (bytes : List ℕ) → AreTokensOf file (length bytes)
 abbrev pub IsReadApart : FileTokens → Result SkimmedScript SourceFault → Type 0
 IsReadApart file (Ok script) = (items : Stmts) × IsSkimmedFile file script items
 IsReadApart file (Err fault) = IsRefusedFor file fault
+
+-- The file is the script of these statements, of which this is told, these are its functions, and this is its first early error of
+-- a rule that looks at no region.
+pub record IsListed (file : FileTokens) (items : Stmts) (listed : ListedScript) : Type 0 where
+  pub text : IsText (tokens_in file) items
+  pub of : IsOf file.texts.items file.known items
+  pub told : IsTold file.texts.items listed.top listed.bodies.items listed.first items
+  pub placed : ArePlaced (own file.texts.items items) listed.functions.items (inner_script items)
 
 -- The file is the script of these statements, without errors, and these are its functions and the names that they close over.
 pub record IsCheckedScript (file : FileTokens) (items : Stmts) (checked : CheckedScript) : Type 0 where

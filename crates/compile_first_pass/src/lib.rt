@@ -13,7 +13,7 @@
 //! The main contract is that of [`first_pass`]: the script is without errors, its functions come in order of number, each with its
 //! extent, kind, name and the extents of those directly in it, and with the names that inner functions close over; or the
 //! file is refused as by the definitions (`IsFirstPass` of `specs/Passes.antt`). No tree is made. [`check_file`] answers the same but for
-//! the script itself (`IsVerdict`), and takes less memory.
+//! the script itself (`IsVerdict`), and takes less time and memory.
 #![tactic(auto)]
 
 mod pass;

@@ -7,7 +7,7 @@ ghost use Rattle.script_grammar.specs.Tree.{Stmts};
 ghost use Rattle.session_specs.specs.Sources as source;
 ghost use Rattle.parse_script.specs.declared.file_tokens.FileTokens.{FileTokens};
 ghost use Rattle.parse_script.specs.Tokens.{AreTokensOf, IsSound};
-ghost use Rattle.compile_first_pass.specs.Passes.{IsChecked, IsFirstPass, IsReadApart, IsSkimmedFile};
+ghost use Rattle.compile_first_pass.specs.Passes.{IsChecked, IsFirstPass, IsListed, IsReadApart, IsSkimmedFile};
 
 use crate::skim::{SkimmedScript, Skims, skim};
 use early_script_errors::check_told;
@@ -15,7 +15,8 @@ use parse_early_handler::early::{first_of_bodies, sooner};
 use parse_exprs::place::ParseFault;
 use parse_function_list::{ListedFunction, functions_of};
 use parse_script::{FileTokens, read_script, tokens_of};
-use parse_track::region::{ClosedAt, WellKnownAtoms};
+use parse_track::region::{ClosedAt, Early, WellKnownAtoms};
+use parse_track_pieces::Piece;
 use script_grammar::compact::CompactToken;
 use std::alloc::{AllocError, Global};
 use unit_text::DecodeFault;
@@ -56,6 +57,19 @@ pub enum SourceFault {
         /// The number of its rule, 1 to 14.
         rule: u8,
     },
+}
+
+/// A script whose functions are listed, and which is not yet checked.
+#[derive(Drop)]
+pub(crate) struct ListedScript {
+    /// What its statements tell a track.
+    pub top: Piece,
+    /// What the bodies of its functions tell a track, in the order of the source, those inside a body after it.
+    pub bodies: Vec<Piece>,
+    /// Its functions in order of number, from 1.
+    pub functions: Vec<ListedFunction>,
+    /// Its first early error of a rule that looks at no region.
+    pub first: Option<Early>,
 }
 
 /// A script without errors, but for the tokens of its file.
@@ -110,8 +124,24 @@ pub(crate) fn read_apart<H: Skims + Drop>(
     }
 }
 
+/// Lists the functions of a script that was taken apart, and finds its first early error of a rule that looks at no region.
+pub(crate) fn list_skimmed(alloc: Global, script: SkimmedScript) -> Result<ListedScript, AllocError>
+    ensures { IfOk result (λ listed. (file : FileTokens) (items : Stmts) → IsSound file → IsSkimmedFile file script items → IsListed file items listed) }
+{
+    let SkimmedScript { top, bodies } = script;
+    let listed = functions_of(alloc, top.found, bodies.found)?;
+    let first = first_of_bodies(top.errors, &bodies.errors);
+    let first = sooner(first, listed.late);
+    Ok(ListedScript {
+        top: top.told,
+        bodies: bodies.told,
+        functions: listed.functions,
+        first,
+    })
+}
+
 /// Checks a script that was taken apart, where the known words have these atoms. The file's tokens are not asked for.
-pub(crate) fn check_skimmed(
+fn check_skimmed(
     alloc: Global,
     known: WellKnownAtoms,
     script: SkimmedScript,
@@ -119,11 +149,14 @@ pub(crate) fn check_skimmed(
     ensures { IfOk result (λ checked. (file : FileTokens) (items : Stmts) → IsSound file → IsSkimmedFile file script items → file.known ≡ known
         → IsChecked file items checked) }
 {
-    let SkimmedScript { top, bodies } = script;
-    let listed = functions_of(alloc, top.found, bodies.found)?;
-    let first = first_of_bodies(top.errors, &bodies.errors);
-    let first = sooner(first, listed.late);
-    let checked = check_told(alloc, known, &top.told, bodies.told, first)?;
+    let listed = list_skimmed(alloc, script)?;
+    let ListedScript {
+        top,
+        bodies,
+        functions,
+        first,
+    } = listed;
+    let checked = check_told(alloc, known, &top, bodies, first)?;
     if let Some(early) = checked.early {
         return Ok(Err(SourceFault::Early {
             offset: early.offset,
@@ -131,7 +164,7 @@ pub(crate) fn check_skimmed(
         }));
     }
     Ok(Ok(CheckedScript {
-        functions: listed.functions,
+        functions,
         closed: checked.closed,
     }))
 }

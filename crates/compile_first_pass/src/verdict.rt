@@ -1,11 +1,13 @@
-//! Whether a file is a script without errors, where nobody reads it further: its tokens are let go of before the names are looked at.
+//! Whether a file is a script without errors, where nobody reads it further: its tokens are let go of before the names are looked at,
+//! and the names that inner functions close over are not looked for.
 
 ghost use Rattle.std.specs.Prelude.{◌≡◌, ◌≤◌, ℕ, List, length, IfOk};
 ghost use Rattle.parse_script.specs.Tokens.{AreTokensOf, IsSound};
 ghost use Rattle.compile_first_pass.specs.Passes.{IsVerdict};
 
-use crate::pass::{SourceFault, check_skimmed, read_apart};
+use crate::pass::{ListedScript, SourceFault, list_skimmed, read_apart};
 use crate::skim::Skims;
+use early_script_errors::first_early_error;
 use parse_script::{FileTokens, tokens_of};
 use parse_track::region::WellKnownAtoms;
 use std::alloc::{AllocError, Global};
@@ -43,16 +45,26 @@ fn check_over<H: Skims + Drop>(
         Err(fault) => return Ok(FileVerdict::Refused(fault)),
     };
     let known = known_of(file);
-    match check_skimmed(alloc, known, script)? {
-        Ok(checked) => Ok(FileVerdict::Script {
-            functions: checked.functions.len(),
+    let listed = list_skimmed(alloc, script)?;
+    let ListedScript {
+        top,
+        bodies,
+        functions,
+        first,
+    } = listed;
+    match first_early_error(alloc, known, &top, bodies, first)? {
+        None => Ok(FileVerdict::Script {
+            functions: functions.len(),
         }),
-        Err(fault) => Ok(FileVerdict::Refused(fault)),
+        Some(early) => Ok(FileVerdict::Refused(SourceFault::Early {
+            offset: early.offset,
+            rule: early.rule,
+        })),
     }
 }
 
 /// Reads the script of a file as [`first_pass`](crate::first_pass) does, and answers no more than how many functions it has, or why
-/// there is none. Takes time and memory in proportion to the bytes, and less memory than `first_pass`.
+/// there is none. Takes time and memory in proportion to the bytes, and less of both than `first_pass`.
 pub fn check_file<H: Skims + Drop>(
     alloc: Global,
     handler: H,

@@ -29,44 +29,40 @@ use Rattle.early_script_errors.proofs.Words.{knows_this, knows_names}
 abbrev pub empty : WellKnownAtoms → Log
 empty known = record { known = known; parts = []; present = None; noted = None }
 
--- The track that was told, and its log at the end, with the first error that looks at no region.
-module _ (track last : Log) (first : Option Early) (is : last ≡ record track { noted = first }) where
+module _ (track : Log) where
   -- what is answered of each script that the track was told
   abbrev pub Comes : (List (List ℕ) → Stmts → Type 0) → Type 0
-  Comes Is = (texts : List (List ℕ)) (items : Stmts) → IsTrackOf texts track first items → Is texts items
+  Comes Is = (texts : List (List ℕ)) (items : Stmts) → IsTrackOf texts track items → Is texts items
 
   tells : Comes (λ texts items. TellsOf texts (known_names track.known) (told_of track.parts) items)
   tells texts items h =
       script-tells (own texts items) (empty track.known) track items refl h.told h.of.tokens h.of.end refl h.of.once
       (knows_names (own texts items) track.known h.of.knows) h.of.script h.of.names
 
-  pub early : (answer : Option Early) → answer ≡ first_error nat_eq (known_names last.known) last.noted (told_of last.parts) → Comes (λ texts items. answer ≡ early_error items)
-  early answer by texts items h =
-      by
-      ∙ ap (λ (l : Log). first_error nat_eq (known_names l.known) l.noted (told_of l.parts)) is
-      ∙ track-early_error texts (record track { noted = first }) items (tells texts items h) h.noted
+  pub early : (answer : Option Early) → answer ≡ first_error nat_eq (known_names track.known) track.noted (told_of track.parts) → Comes (λ texts items. answer ≡ early_error items)
+  early answer by texts items h = by ∙ track-early_error texts track items (tells texts items h) h.noted
 
-  pub functions : (answer : ℕ) → answer ≡ counted last.parts → Comes (λ texts items. answer ≡ function_count (tells_script items))
-  functions answer by texts items h = by ∙ ap (λ (l : Log). counted l.parts) is ∙ script-functions (own texts items) (empty track.known) track items refl h.told
+  pub functions : (answer : ℕ) → answer ≡ counted track.parts → Comes (λ texts items. answer ≡ function_count (tells_script items))
+  functions answer by texts items h = by ∙ script-functions (own texts items) (empty track.known) track items refl h.told
 
-  pub closed_over : (answer : List (Bound ℕ)) → answer ≡ closed nat_eq (known_names last.known) (told_of last.parts) → Comes (λ texts items. map (renamed_bound (text_at texts)) answer ≡ closed_names items)
-  closed_over answer by texts items h =
-      ap (map (renamed_bound (text_at texts))) (by ∙ ap (λ (l : Log). closed nat_eq (known_names l.known) (told_of l.parts)) is)
-      ∙ track-closed_names texts (record track { noted = first }) items (tells texts items h)
+  pub closed_over : (answer : List (Bound ℕ)) → answer ≡ closed nat_eq (known_names track.known) (told_of track.parts) → Comes (λ texts items. map (renamed_bound (text_at texts)) answer ≡ closed_names items)
+  closed_over answer by texts items h = ap (map (renamed_bound (text_at texts))) by ∙ track-closed_names texts track items (tells texts items h)
 
--- A track that pieces told is one that was told their script. The bodies at hand stand in reverse, the next one last.
-pub told_track : (texts : List (List ℕ)) (known : WellKnownAtoms) (items : Stmts) (top : Piece) (bodies hand : List Piece) (first : Option Early) (old new : Log)
+-- A track that pieces told, and in which this first error is noted, is one that was told their script. The bodies at hand stand
+-- in reverse, the next one last.
+pub told_track : (texts : List (List ℕ)) (known : WellKnownAtoms) (items : Stmts) (top : Piece) (bodies hand : List Piece) (first : Option Early) (old new last : Log)
     → old ≡ empty known → new.known ≡ old.known → hand ≡ reverse bodies
     → ((i : Interpretation) (ss : Stmts) → KnowsThis i old → SaysBody i top ss → ShowAll (SaysBody i) (reverse hand) (braced_all ss) → logged (tells_script ss) (log_text i old) ≡ log_text i new)
-    → IsOf texts known items → IsTold texts top bodies first items → IsTrackOf texts new first items
-told_track texts known items top bodies hand first old new begun kept reversed tells of told =
+    → last ≡ record new { noted = first }
+    → IsOf texts known items → IsTold texts top bodies first items → IsTrackOf texts last items
+told_track texts known items top bodies hand first old new last begun kept reversed tells noted of told =
     let i : Interpretation = own texts items in
     let same : old.known ≡ known = ap (λ (l : Log). l.known) begun in
-    record {
+    subst (λ (l : Log). IsTrackOf texts l items) (sym noted) (record {
       of = subst (λ (k : WellKnownAtoms). IsOf texts k items) (sym (kept ∙ same)) of;
       told =
           ap (λ (l : Log). logged (tells_script items) (log_text i l)) (sym begun)
           ∙ tells i items (subst (λ (k : WellKnownAtoms). text_of i k.this ≡ codes ".this") (sym same) (knows_this i known of.knows)) told.script
           (subst (λ (ps : List Piece). ShowAll (SaysBody i) ps (braced_all items)) (sym (ap reverse reversed ∙ reverse-reverse bodies)) told.braced);
       noted = told.noted;
-    }
+    })

@@ -53,8 +53,8 @@ pub record IsTold (texts : List (List ℕ)) (top : Piece) (bodies : List Piece) 
 abbrev pub untold : TextLog
 untold = record { parts = []; present = None }
 
--- The track was told this script and nothing else, and `first` is the first error of a rule that looks at no region.
-pub record IsTrackOf (texts : List (List ℕ)) (track : Log) (first : Option Early) (items : Stmts) : Type 0 where
+-- The track was told this script and nothing else, and the first error of a rule that looks at no region is noted in it.
+pub record IsTrackOf (texts : List (List ℕ)) (track : Log) (items : Stmts) : Type 0 where
   pub of : IsOf texts track.known items
   pub told : logged (tells_script items) untold ≡ log_text (own texts items) track
-  pub noted : first ≡ first_note (notes_stmts items)
+  pub noted : track.noted ≡ first_note (notes_stmts items)

@@ -34,7 +34,7 @@ pub fn check_told(
     alloc: Global,
     known: WellKnownAtoms,
     top: &Piece,
-    mut bodies: Vec<Piece>,
+    bodies: Vec<Piece>,
     first: Option<Early>,
 ) -> Result<Checked, AllocError>
     ensures early { IfOk result (λ checked. (texts : List (List ℕ)) (items : Stmts) → IsOf texts known items
@@ -44,32 +44,45 @@ pub fn check_told(
     ensures closed { IfOk result (λ checked. (texts : List (List ℕ)) (items : Stmts) → IsOf texts known items
         → IsTold texts top.now bodies.items first items → map (renamed_bound (text_at texts)) (bounds_of checked.closed.items) ≡ closed_names items) }
 {
-    bodies.reverse();
-    let mut track = Track::new(alloc, known);
-    tell_script(top, &mut track, &mut bodies)?;
-    let checked = check_track(track, first)?;
+    let track = told_track(alloc, known, top, bodies, first)?;
+    let checked = check_track(track)?;
     Ok(checked)
 }
 
-/// Checks the script that the track was told, and nothing else; `first` is its first early error of a rule that looks at no
-/// region.
-fn check_track(mut track: Track, first: Option<Early>) -> Result<Checked, AllocError>
-    requires { track.noted ≡ None }
-    ensures early { IfOk result (λ checked. (texts : List (List ℕ)) (items : Stmts) → IsTrackOf texts track first items
-        → checked.early ≡ early_error items) }
-    ensures functions { IfOk result (λ checked. (texts : List (List ℕ)) (items : Stmts) → IsTrackOf texts track first items
-        → checked.functions ≡ function_count (tells_script items)) }
-    ensures closed { IfOk result (λ checked. (texts : List (List ℕ)) (items : Stmts) → IsTrackOf texts track first items
-        → map (renamed_bound (text_at texts)) (bounds_of checked.closed.items) ≡ closed_names items) }
+/// The first early error of the script that [`check_told`] checks, in less time: the names that inner functions close over are
+/// not looked for.
+pub fn first_early_error(
+    alloc: Global,
+    known: WellKnownAtoms,
+    top: &Piece,
+    bodies: Vec<Piece>,
+    first: Option<Early>,
+) -> Result<Option<Early>, AllocError>
+    ensures { IfOk result (λ early. (texts : List (List ℕ)) (items : Stmts) → IsOf texts known items
+        → IsTold texts top.now bodies.items first items → early ≡ early_error items) }
 {
+    let track = told_track(alloc, known, top, bodies, first)?;
+    let early = track.first_error()?;
+    Ok(early)
+}
+
+/// A track that was told the script of these pieces and nothing else, with its first early error of a rule that looks at no
+/// region.
+fn told_track(
+    alloc: Global,
+    known: WellKnownAtoms,
+    top: &Piece,
+    mut bodies: Vec<Piece>,
+    first: Option<Early>,
+) -> Result<Track, AllocError>
+    ensures { IfOk result (λ track. (texts : List (List ℕ)) (items : Stmts) → IsOf texts known items
+        → IsTold texts top.now bodies.items first items → IsTrackOf texts track items) }
+{
+    bodies.reverse();
+    let mut track = Track::new(alloc, known);
+    tell_script(top, &mut track, &mut bodies)?;
     note_first(&mut track, first);
-    let functions = track.functions();
-    let tracked = track.finish()?;
-    Ok(Checked {
-        early: tracked.early,
-        functions,
-        closed: tracked.closed,
-    })
+    Ok(track)
 }
 
 /// Notes the first early error that looks at no region, where there is one.
@@ -80,4 +93,22 @@ fn note_first(track: &mut Track, first: Option<Early>)
     if let Some(early) = first {
         track.note(early.offset, early.rule);
     }
+}
+
+/// Checks the script that the track was told, and nothing else.
+fn check_track(track: Track) -> Result<Checked, AllocError>
+    ensures early { IfOk result (λ checked. (texts : List (List ℕ)) (items : Stmts) → IsTrackOf texts track items
+        → checked.early ≡ early_error items) }
+    ensures functions { IfOk result (λ checked. (texts : List (List ℕ)) (items : Stmts) → IsTrackOf texts track items
+        → checked.functions ≡ function_count (tells_script items)) }
+    ensures closed { IfOk result (λ checked. (texts : List (List ℕ)) (items : Stmts) → IsTrackOf texts track items
+        → map (renamed_bound (text_at texts)) (bounds_of checked.closed.items) ≡ closed_names items) }
+{
+    let functions = track.functions();
+    let tracked = track.finish()?;
+    Ok(Checked {
+        early: tracked.early,
+        functions,
+        closed: tracked.closed,
+    })
 }

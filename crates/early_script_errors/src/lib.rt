@@ -6,9 +6,9 @@
 //! the rules that look at no region are found while the script is read; here they are met with those of the track.
 //!
 //! The main contract is that of [`check_told`]: it answers the first early error of the script (`early_error` of parse_track),
-//! how many functions it has, and the names that its inner functions close over.
+//! how many functions it has, and the names that its inner functions close over. [`first_early_error`] answers the error alone.
 #![tactic(auto)]
 
 mod checking;
 
-pub use checking::{Checked, check_told};
+pub use checking::{Checked, check_told, first_early_error};

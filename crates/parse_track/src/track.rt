@@ -69,11 +69,14 @@ impl Items {
     }
 }
 
-/// Two items.
+/// For how many items a list has room that is made for two, so that the next two make it grow no further.
+const FIRST_CAPACITY: usize = 4;
+
+/// Two items, with room for more.
 fn pair(alloc: Global, first: Item, second: Item) -> Result<Items, AllocError>
     ensures { IfOk result (λ items. listed items ≡ first ∷ second ∷ []) }
 {
-    let mut items = Vec::with_capacity(alloc, 2)?;
+    let mut items = Vec::with_capacity(alloc, FIRST_CAPACITY)?;
     items.push(first)?;
     items.push(second)?;
     Ok(Items::Many(Box::new(alloc, items)?))
@@ -243,13 +246,21 @@ impl Track {
         self.rows.iter().filter(|row| is_function(row.kind)).count()
     }
 
+    /// The first early error that follows from all that was told.
+    pub fn first_error(&self) -> Result<Option<Early>, AllocError>
+        ensures { IfOk result (λ early. early ≡ first_error nat_eq (known_names self.now.known) self.now.noted (told_of self.now.parts)) }
+    {
+        let early = first_error(self.alloc, &self.known, &self.rows, self.noted)?;
+        Ok(early)
+    }
+
     /// What follows from all that was told: the first early error, and the names that inner functions close over, in order of
     /// functions, scopes and bindings. There are fewer than 2^32 scopes in one function.
     pub fn finish(self) -> Result<Tracked, AllocError>
         ensures early { IfOk result (λ tracked. tracked.early ≡ first_error nat_eq (known_names self.known) self.noted (told_of self.parts)) }
         ensures closed { IfOk result (λ tracked. bounds_of tracked.closed.items ≡ closed nat_eq (known_names self.known) (told_of self.parts)) }
     {
-        let early = first_error(self.alloc, &self.known, &self.rows, self.noted)?;
+        let early = self.first_error()?;
         let closed = closed_names(self.alloc, &self.known, &self.rows)?;
         Ok(Tracked { early, closed })
     }

@@ -98,6 +98,10 @@ module _ (i : Interpretation) where
             );
       }
 
+  -- nothing is told
+  pub walk_nothing : (a : Log) (x : List Piece) → Walks i a a x x (λ rest. rest)
+  walk_nothing a x = record { told = λ k rest all w hand. (all, w, hand, refl) }
+
   -- the next body is taken
   pub walk_passed : {a b : Log} {before xs after : List Piece} (v : Piece) (start : ℕ) → before ≡ xs ++ v ∷ [] → Walks i a b xs after (piece_says i v) → Walks i a b before after (says_passed i start)
   walk_passed {a = a} {before = before} {xs = xs} v start e h = record {

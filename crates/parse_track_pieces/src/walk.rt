@@ -5,9 +5,10 @@ ghost use Rattle.script_grammar.specs.Braced.{in_stmts};
 ghost use Rattle.script_grammar.specs.Interpretation.{Interpretation};
 ghost use Rattle.script_grammar.specs.Shows.{ShowAll};
 ghost use Rattle.script_grammar.specs.Tree as model;
-ghost use Rattle.parse_track.specs.Log.{label_of, with_leaf};
+ghost use Rattle.parse_track.specs.Log.{entered, label_of, left, with_leaf};
 ghost use Rattle.parse_track.specs.Tells.{tells_script};
 ghost use Rattle.parse_track.specs.Told as told;
+ghost use Rattle.parse_track.specs.declared.region.Region.TheVariants as kind;
 ghost use Rattle.track_log_laws.specs.Spelled.{log_text, logged};
 ghost use Rattle.parse_track_pieces.specs.Walks.{Stays, KnowsThis, Walks};
 ghost use Rattle.parse_track_pieces.specs.Pieces.{piece_says, pieces_say, says_passed, says_read};
@@ -39,6 +40,7 @@ fn tell_piece(piece: &Piece, track: &mut Track, bodies: &mut Vec<Piece>) -> Resu
             track.leave();
             Ok(())
         }
+        Piece::EmptyBlock => Ok(tell_empty_block(track)?),
         Piece::Many(pieces) => Ok(tell_pieces(pieces, track, bodies)?),
         Piece::Passed { .. } => Ok(tell_next(track, bodies)?),
         Piece::Kept(pieces) => Ok(tell_kept(pieces, track, bodies)?),
@@ -98,6 +100,16 @@ fn tell_jump(jump: &ToldJump, track: &mut Track) -> Result<(), AllocError>
     ensures { OnOk result (track.new ≡ with_leaf track.old (told.Jumped jump.now.word jump.now.at (label_of jump.now.label))) }
 {
     track.jump(jump.word, jump.at, jump.label)?;
+    Ok(())
+}
+
+// A block in which nothing stands.
+fn tell_empty_block(track: &mut Track) -> Result<(), AllocError>
+    requires { IsSome track.old.present }
+    ensures { OnOk result (track.new ≡ left (entered track.old kind.Block 0)) }
+{
+    track.enter(Region::Block, 0)?;
+    track.leave();
     Ok(())
 }
 

@@ -1,4 +1,4 @@
-use Rattle.std.proofs.Common.{◌∙◌, ◌+◌, ap, arith, drop, drop_of_length-le, sym}
+use Rattle.std.proofs.Common.{◌∙◌, ◌+◌, ap, arith, drop, drop_of_length-le, refl, sym}
 use Rattle.std.specs.declared.vec.Vec.{Vec}
 use Rattle.std.specs.declared.alloc.Global.{Global}
 use Rattle.script_grammar.specs.Interpretation.{maybe_named}
@@ -11,8 +11,10 @@ use Rattle.parse_track_pieces.specs.declared.piece.RegionHead.{RegionHead}
 use Rattle.parse_track_pieces.specs.declared.piece.ToldJump.{ToldJump}
 use Rattle.parse_track_pieces.specs.Pieces.{telling, piece_says, pieces_say, says_read, says_region}
 use Rattle.parse_track_pieces.specs.Weight.{weight}
-use Rattle.parse_track_pieces.proofs.PieceEquations.{says-Declared, says-Used, says-This, says-Jumped, says-Inside, says-Many, says-Passed, says-Kept}
-use Rattle.parse_track_pieces.proofs.Walking.{label_text, leaf_stays_as, next_of, none_left, popped_lighter, region_stays_as, turn_begin, turn_end, turn_next, walk_as, walk_leaf, walk_none, walk_passed, walk_popped, walk_region, walk_this, weight_push}
+use Rattle.parse_track_pieces.proofs.PieceEquations.{says-Declared, says-Used, says-This, says-Jumped, says-Inside, says-EmptyBlock, says-Many, says-Passed, says-Kept}
+use Rattle.parse_track.specs.declared.region.Region.TheVariants as kind
+use Rattle.parse_track_pieces.proofs.Logs.{stays}
+use Rattle.parse_track_pieces.proofs.Walking.{label_text, leaf_stays_as, next_of, none_left, popped_lighter, region_stays_as, turn_begin, turn_end, turn_next, walk_as, walk_leaf, walk_none, walk_nothing, walk_passed, walk_popped, walk_region, walk_this, weight_push}
 use Rattle.parse_track_pieces.proofs.walk.+telling.Goals as goal
 
 pub tell_piece-returns-in_ok-declare-in-Declared-clause-tells : goal.tell_piece-returns-in_ok-declare-in-Declared-clause-tells
@@ -69,6 +71,14 @@ pub tell_piece-returns-in_ok-tell_pieces-in-Inside-clause-stays : goal.tell_piec
 tell_piece-returns-in_ok-tell_pieces-in-Inside-clause-stays t c =
     let region = c.deref-in-Inside.result.now in
     region_stays_as region.0.kind region.0.at c.in_ok-enter-in-Inside.ensures.1 c.in_ok-tell_pieces-in-Inside.ensures.stays c.leave.ensures
+
+pub tell_piece-returns-in_ok-tell_empty_block-in-EmptyBlock-clause-tells : goal.tell_piece-returns-in_ok-tell_empty_block-in-EmptyBlock-clause-tells
+tell_piece-returns-in_ok-tell_empty_block-in-EmptyBlock-clause-tells t c = λ i.
+    walk_as i (λ rest. ap (λ p. piece_says i p rest) c.in-EmptyBlock.is ∙ says-EmptyBlock i rest)
+    (walk_region i kind.Block 0 refl (stays _) (walk_nothing i _ _) c.in_ok-tell_empty_block-in-EmptyBlock.ensures)
+
+pub tell_piece-returns-in_ok-tell_empty_block-in-EmptyBlock-clause-stays : goal.tell_piece-returns-in_ok-tell_empty_block-in-EmptyBlock-clause-stays
+tell_piece-returns-in_ok-tell_empty_block-in-EmptyBlock-clause-stays t c = region_stays_as kind.Block 0 refl (stays _) c.in_ok-tell_empty_block-in-EmptyBlock.ensures
 
 pub tell_piece-returns-in_ok-tell_pieces-in-Many-clause-tells : goal.tell_piece-returns-in_ok-tell_pieces-in-Many-clause-tells
 tell_piece-returns-in_ok-tell_pieces-in-Many-clause-tells t c = λ i.

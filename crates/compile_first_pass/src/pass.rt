@@ -123,7 +123,7 @@ pub(crate) fn check_skimmed(
     let listed = functions_of(alloc, top.found, bodies.found)?;
     let first = first_of_bodies(top.errors, &bodies.errors);
     let first = sooner(first, listed.late);
-    let checked = check_told(alloc, known, &top.told, bodies.told, first)?;
+    let checked = check_told(alloc, known, top.told, bodies.told, first)?;
     if let Some(early) = checked.early {
         return Ok(Err(SourceFault::Early {
             offset: early.offset,

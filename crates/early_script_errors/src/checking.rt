@@ -33,16 +33,16 @@ pub struct Checked {
 pub fn check_told(
     alloc: Global,
     known: WellKnownAtoms,
-    top: &Piece,
+    top: Piece,
     mut bodies: Vec<Piece>,
     first: Option<Early>,
 ) -> Result<Checked, AllocError>
     ensures early { IfOk result (λ checked. (texts : List (List ℕ)) (items : Stmts) → IsOf texts known items
-        → IsTold texts top.now bodies.items first items → checked.early ≡ early_error items) }
+        → IsTold texts top bodies.items first items → checked.early ≡ early_error items) }
     ensures functions { IfOk result (λ checked. (texts : List (List ℕ)) (items : Stmts) → IsOf texts known items
-        → IsTold texts top.now bodies.items first items → checked.functions ≡ function_count (tells_script items)) }
+        → IsTold texts top bodies.items first items → checked.functions ≡ function_count (tells_script items)) }
     ensures closed { IfOk result (λ checked. (texts : List (List ℕ)) (items : Stmts) → IsOf texts known items
-        → IsTold texts top.now bodies.items first items → map (renamed_bound (text_at texts)) (bounds_of checked.closed.items) ≡ closed_names items) }
+        → IsTold texts top bodies.items first items → map (renamed_bound (text_at texts)) (bounds_of checked.closed.items) ≡ closed_names items) }
 {
     bodies.reverse();
     let mut track = Track::new(alloc, known);

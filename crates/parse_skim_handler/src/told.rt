@@ -76,6 +76,16 @@ fn alone(alloc: Global, pieces: Vec<Piece>) -> Parts
     Parts { pieces, found }
 }
 
+/// The parts of this piece, with room for more.
+fn piece_parts(alloc: Global, piece: Piece, more: usize) -> Result<Parts, AllocError>
+    requires { more ≤ 2 }
+    ensures pieces { IfOk result (λ parts. parts.pieces.items ≡ piece ∷ []) }
+    ensures found { IfOk result (λ parts. parts.found.items ≡ []) }
+{
+    let pieces = one_piece(alloc, piece, more)?;
+    Ok(alone(alloc, pieces))
+}
+
 /// A list of this function. Most parts have no other, so the list has no room for more.
 fn one_function(alloc: Global, found: FoundFunction) -> Result<Vec<FoundFunction>, AllocError>
     ensures { IfOk result (λ functions. functions.items ≡ found ∷ []) }
@@ -115,10 +125,7 @@ fn roomy_parts(alloc: Global, told: Told, more: usize) -> Result<Parts, AllocErr
             let pieces = Vec::with_capacity(alloc, more)?;
             Ok(alone(alloc, pieces))
         }
-        Told::Used { atom } => {
-            let pieces = one_piece(alloc, Piece::Used { atom }, more)?;
-            Ok(alone(alloc, pieces))
-        }
+        Told::Used { atom } => Ok(piece_parts(alloc, Piece::Used { atom }, more)?),
         Told::Two { first, second } => {
             let mut pieces = one_piece(alloc, Piece::Used { atom: first }, 1 + more)?;
             pieces.push(Piece::Used { atom: second })?;
@@ -134,14 +141,8 @@ fn roomy_parts(alloc: Global, told: Told, more: usize) -> Result<Parts, AllocErr
             pieces.push(Piece::Used { atom: third })?;
             Ok(alone(alloc, pieces))
         }
-        Told::EmptyBlock => {
-            let pieces = one_piece(alloc, Piece::EmptyBlock, more)?;
-            Ok(alone(alloc, pieces))
-        }
-        Told::Inside(region) => {
-            let pieces = one_piece(alloc, Piece::Inside(region), more)?;
-            Ok(alone(alloc, pieces))
-        }
+        Told::EmptyBlock => Ok(piece_parts(alloc, Piece::EmptyBlock, more)?),
+        Told::Inside(region) => Ok(piece_parts(alloc, Piece::Inside(region), more)?),
         Told::Function(function) => function_parts(alloc, function, more),
         Told::Parts(parts) => Ok(Box::into_inner(parts)),
     }

@@ -156,7 +156,7 @@ fn check_skimmed(
         functions,
         first,
     } = listed;
-    let checked = check_told(alloc, known, &top, bodies, first)?;
+    let checked = check_told(alloc, known, top, bodies, first)?;
     if let Some(early) = checked.early {
         return Ok(Err(SourceFault::Early {
             offset: early.offset,

@@ -52,7 +52,7 @@ fn check_over<H: Skims + Drop>(
         functions,
         first,
     } = listed;
-    match first_early_error(alloc, known, &top, bodies, first)? {
+    match first_early_error(alloc, known, top, bodies, first)? {
         None => Ok(FileVerdict::Script {
             functions: functions.len(),
         }),

@@ -33,16 +33,16 @@ pub struct Checked {
 pub fn check_told(
     alloc: Global,
     known: WellKnownAtoms,
-    top: &Piece,
+    top: Piece,
     bodies: Vec<Piece>,
     first: Option<Early>,
 ) -> Result<Checked, AllocError>
     ensures early { IfOk result (λ checked. (texts : List (List ℕ)) (items : Stmts) → IsOf texts known items
-        → IsTold texts top.now bodies.items first items → checked.early ≡ early_error items) }
+        → IsTold texts top bodies.items first items → checked.early ≡ early_error items) }
     ensures functions { IfOk result (λ checked. (texts : List (List ℕ)) (items : Stmts) → IsOf texts known items
-        → IsTold texts top.now bodies.items first items → checked.functions ≡ function_count (tells_script items)) }
+        → IsTold texts top bodies.items first items → checked.functions ≡ function_count (tells_script items)) }
     ensures closed { IfOk result (λ checked. (texts : List (List ℕ)) (items : Stmts) → IsOf texts known items
-        → IsTold texts top.now bodies.items first items → map (renamed_bound (text_at texts)) (bounds_of checked.closed.items) ≡ closed_names items) }
+        → IsTold texts top bodies.items first items → map (renamed_bound (text_at texts)) (bounds_of checked.closed.items) ≡ closed_names items) }
 {
     let track = told_track(alloc, known, top, bodies, first)?;
     let checked = check_track(track)?;
@@ -54,12 +54,12 @@ pub fn check_told(
 pub fn first_early_error(
     alloc: Global,
     known: WellKnownAtoms,
-    top: &Piece,
+    top: Piece,
     bodies: Vec<Piece>,
     first: Option<Early>,
 ) -> Result<Option<Early>, AllocError>
     ensures { IfOk result (λ early. (texts : List (List ℕ)) (items : Stmts) → IsOf texts known items
-        → IsTold texts top.now bodies.items first items → early ≡ early_error items) }
+        → IsTold texts top bodies.items first items → early ≡ early_error items) }
 {
     let track = told_track(alloc, known, top, bodies, first)?;
     let early = track.first_error()?;
@@ -71,12 +71,12 @@ pub fn first_early_error(
 fn told_track(
     alloc: Global,
     known: WellKnownAtoms,
-    top: &Piece,
+    top: Piece,
     mut bodies: Vec<Piece>,
     first: Option<Early>,
 ) -> Result<Track, AllocError>
     ensures { IfOk result (λ track. (texts : List (List ℕ)) (items : Stmts) → IsOf texts known items
-        → IsTold texts top.now bodies.items first items → IsTrackOf texts track items) }
+        → IsTold texts top bodies.items first items → IsTrackOf texts track items) }
 {
     bodies.reverse();
     let mut track = Track::new(alloc, known);

@@ -15,7 +15,7 @@ use Rattle.parse_track_pieces.proofs.Appending.{region-same}
 use Rattle.parse_track_pieces.proofs.PieceEquations.{says-Inside}
 use Rattle.parse_track.specs.Log.{region_of}
 use Rattle.track_log_laws.specs.Spelled.{region_text}
-use Rattle.parse_skim_handler.specs.Telling.{ArePartsOf, Joins, Tells, UsesBefore, told_found, told_says, use_says}
+use Rattle.parse_skim_handler.specs.Telling.{ArePartsOf, Joins, Tells, UsesBefore, use_says}
 use Rattle.parse_skim_handler.specs.declared.told.Parts.{Parts}
 use Rattle.parse_skim_handler.specs.declared.told.Told.TheVariants as told
 use Rattle.parse_skim_handler.specs.declared.told.Told.{Told}
@@ -72,11 +72,3 @@ inside-says i region head pieces inside is h rest =
     says-Inside i region rest
     ∙ (ap (λ (v : RegionHead × Vec Piece Global). says_region (region_text i (region_of v.0.kind)) v.0.at (pieces_say i v.1.items) rest) is
     ∙ region-same (region_text i (region_of head.kind)) head.at (pieces_say i pieces.items) inside h rest)
-
--- the same, where what is said and found has another form
-pub tells-as : (old new : Told) (says more : Interpretation → Rest → Rest) (found others : List FoundFunction) → Tells old new says found
-    → ((i : Interpretation) (rest : Rest) → says i rest ≡ more i rest) → found ≡ others → Tells old new more others
-tells-as old new says more found others t h f = record {
-  says = λ i rest. t.says i rest ∙ ap (told_says i old) (h i rest);
-  found = t.found ∙ ap (λ (l : List FoundFunction). told_found old ++ l) f;
-}

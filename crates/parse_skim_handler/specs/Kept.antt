@@ -1,5 +1,5 @@
 -- What the parts over the handler's nodes mean.
-use Rattle.std.specs.Prelude.{◌≡◌, ℕ, Bool, true, false, not, Option, Some, None, option_map, List, [], ◌∷◌, map}
+use Rattle.std.specs.Prelude.{◌≡◌, ℕ, Bool, true, false, not, Option, Some, None, option_map, List, map}
 use Rattle.script_grammar.specs.declared.node.NodeArgs.{NodeArgs}
 use Rattle.script_grammar.specs.declared.node.NodeOperand.{NodeOperand}
 use Rattle.script_grammar.specs.declared.node.NodeTemplatePart.{NodeTemplatePart}

@@ -41,8 +41,10 @@ unpacked packed.Nothing = plain told.Nothing
 unpacked (packed.Used atom) = plain (told.Used atom)
 unpacked (packed.Two first second) = plain (told.Two first second)
 unpacked (packed.Three first second third) = plain (told.Three first second third)
+unpacked packed.EmptyBlock = plain told.EmptyBlock
 unpacked (packed.Inside region) = plain (told.Inside region)
 unpacked (packed.Looping region) = looping region
+unpacked (packed.Function function) = plain (told.Function function)
 unpacked (packed.Parts parts) = plain (told.Parts parts)
 unpacked (packed.More whole) = whole.value
 

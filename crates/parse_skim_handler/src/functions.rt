@@ -5,21 +5,23 @@ ghost use Rattle.script_grammar.specs.Interpretation.{Interpretation, text_of, m
 ghost use Rattle.parse_track.specs.Log.{region_of};
 ghost use Rattle.parse_track.specs.Tells as tell;
 ghost use Rattle.track_log_laws.specs.Spelled.{region_text};
-ghost use Rattle.parse_track_pieces.specs.Pieces.{Rest, piece_says, says_read};
+ghost use Rattle.parse_track_pieces.specs.Pieces.{Rest, piece_says, pieces_say, says_read, says_region};
 ghost use Rattle.parse_handlers.specs.FoundOf.{found_of};
 ghost use Rattle.parse_handlers.specs.Inner.{kind_of};
 ghost use Rattle.parse_early_handler.specs.Firsts.{strict_error};
+ghost use Rattle.parse_skim_handler.specs.Telling.{function_says};
 ghost use Rattle.parse_skim_handler.specs.Kept.{Adds, Means, found_as, has_braces};
 ghost use Rattle.parse_skim_handler.specs.Kept.{body_means, function_means, inside_means, named_means, own_means, param_means, read_means};
 
 use crate::kept::{Kept, Skim, declared, nothing, of_error, region, with_error, with_said};
 use crate::nodes::{SkimBody, SkimExpr};
-use crate::told::{Parts, parts_of, with_function};
+use crate::told::{FunctionTold, Parts, parts_of, with_function};
 use parse_early_handler::early::{error_of, sooner};
 use parse_early_handler::limits::many_params;
 use parse_early_handler::parts::are_more;
 use parse_handlers::FoundFunction;
 use parse_track::region::{Declare, Early, Region};
+use parse_track_pieces::piece::RegionHead;
 use parse_track_pieces::{Piece, has_initializer};
 use script_grammar::node::{NodeFunc, NodeFuncBody, NodeParam};
 use script_grammar::token::FuncForm;
@@ -205,6 +207,29 @@ fn found(
     }
 }
 
+/// A function in its region, in which these pieces stand; `start` is the offset where its parameters start, in bytes.
+fn in_region(
+    alloc: Global,
+    form: FuncForm,
+    start: u32,
+    pieces: Vec<Piece>,
+    found: FoundFunction,
+) -> Result<Box<FunctionTold>, AllocError>
+    ensures says { IfOk result (λ function. (i : Interpretation) (rest : Rest)
+        → function_says i function.value rest ≡ says_region (tell.function_region form) start (pieces_say i pieces.items) rest) }
+    ensures found { IfOk result (λ function. function.value.found ≡ found) }
+{
+    let kind = function_region(form);
+    let head = RegionHead { kind, at: start };
+    let function = FunctionTold {
+        head,
+        pieces,
+        found,
+    };
+    let boxed = Box::new(alloc, function)?;
+    Ok(boxed)
+}
+
 /// A function after what is kept.
 pub(crate) fn skim_function(
     alloc: Global,
@@ -235,8 +260,8 @@ pub(crate) fn skim_function(
     let kind = kind_of(form, declared);
     let extent = Extent { start, end };
     let found = found(extent, kind, atom_of(name), braced, !more, inner);
-    let around = function_region(form);
-    let told = with_function(alloc, kept.told, around, start, pieces, found)?;
+    let function = in_region(alloc, form, start, pieces, found)?;
+    let told = with_function(alloc, kept.told, function)?;
     Ok(Kept { told, first })
 }
 

@@ -126,7 +126,7 @@ pub(crate) fn region(
     ensures { IfOk result (λ made. (i : Interpretation) → Adds i kept made (region_meant (region_text i (region_of kind)) 0 (kept_means i inside))) }
 {
     let first = sooner(kept.first, inside.first);
-    let told = with_region(alloc, kept.told, kind, 0, inside.told)?;
+    let told = with_region(alloc, kept.told, kind, inside.told)?;
     Ok(Kept { told, first })
 }
 

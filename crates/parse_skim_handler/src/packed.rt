@@ -5,7 +5,7 @@ ghost use Rattle.parse_skim_handler.specs.Packed.{kept_of, looping, noted, plain
 
 use crate::kept::Kept;
 use crate::nodes::{SkimExpr, SkimProp, SkimStmt, WholeExpr, WholeProp};
-use crate::told::{Parts, Told};
+use crate::told::{FunctionTold, Parts, Told};
 use parse_early_handler::{Directive, ExprErrors, PropErrors, StmtErrors};
 use parse_track::region::Early;
 use parse_track_pieces::Piece;
@@ -35,10 +35,14 @@ pub enum Packed {
     Two { first: u32, second: u32 },
     /// Three names are used, one after the other.
     Three { first: u32, second: u32, third: u32 },
+    /// The region of a block in which nothing stands.
+    EmptyBlock,
     /// A region with what stands in it, and no function.
     Inside(Box<(RegionHead, Vec<Piece>)>),
     /// The same, of a statement that is a loop or has a label.
     Looping(Box<(RegionHead, Vec<Piece>)>),
+    /// A function, and no other directly beside it.
+    Function(Box<FunctionTold>),
     Parts(Box<Parts>),
     /// More is kept than what is told.
     More(Box<Whole>),
@@ -63,7 +67,9 @@ fn pack_told(told: Told) -> Packed
             second,
             third,
         },
+        Told::EmptyBlock => Packed::EmptyBlock,
         Told::Inside(region) => Packed::Inside(region),
+        Told::Function(function) => Packed::Function(function),
         Told::Parts(parts) => Packed::Parts(parts),
     }
 }
@@ -146,8 +152,10 @@ impl Packed {
                 second,
                 third,
             }),
+            Packed::EmptyBlock => plain(Told::EmptyBlock),
             Packed::Inside(region) => plain(Told::Inside(region)),
             Packed::Looping(region) => looping(region),
+            Packed::Function(function) => plain(Told::Function(function)),
             Packed::Parts(parts) => plain(Told::Parts(parts)),
             Packed::More(whole) => Box::into_inner(whole),
         }
@@ -170,8 +178,10 @@ impl Packed {
                 second,
                 third,
             }),
+            Packed::EmptyBlock => quiet(Told::EmptyBlock),
             Packed::Inside(region) => quiet(Told::Inside(region)),
             Packed::Looping(region) => quiet(Told::Inside(region)),
+            Packed::Function(function) => quiet(Told::Function(function)),
             Packed::Parts(parts) => quiet(Told::Parts(parts)),
             Packed::More(whole) => kept_of(Box::into_inner(whole)),
         }
@@ -300,8 +310,10 @@ impl SkimStmt {
                 second: _,
                 third: _,
             } => false,
+            Packed::EmptyBlock => false,
             Packed::Inside(_) => false,
             Packed::Looping(_) => true,
+            Packed::Function(_) => false,
             Packed::Parts(_) => false,
             Packed::More(whole) => whole.labels_on,
         }
@@ -323,8 +335,10 @@ impl SkimStmt {
                 second: _,
                 third: _,
             } => Directive::No,
+            Packed::EmptyBlock => Directive::No,
             Packed::Inside(_) => Directive::No,
             Packed::Looping(_) => Directive::No,
+            Packed::Function(_) => Directive::No,
             Packed::Parts(_) => Directive::No,
             Packed::More(whole) => whole.errors.directive,
         }

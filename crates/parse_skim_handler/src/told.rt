@@ -7,7 +7,8 @@ ghost use Rattle.track_log_laws.specs.Spelled.{region_text};
 ghost use Rattle.parse_track_pieces.specs.Pieces.{piece_says, pieces_say, says_region};
 ghost use Rattle.parse_track_pieces.specs.Parts.{Appends};
 ghost use Rattle.parse_track_pieces.specs.declared.piece.Piece.TheVariants as piece;
-ghost use Rattle.parse_skim_handler.specs.Telling.{ArePartsOf, Joins, Tells, UsesBefore, told_found, told_says, use_says};
+ghost use Rattle.parse_skim_handler.specs.Telling.{ArePartsOf, Joins, Tells, UsesBefore, function_says, told_found, told_says, use_says};
+ghost use Rattle.parse_skim_handler.specs.declared.told.Told.TheVariants as told;
 
 use parse_handlers::FoundFunction;
 use parse_track::region::Region;
@@ -22,7 +23,19 @@ pub struct Parts {
     pub found: Vec<FoundFunction>,
 }
 
-/// What a part of a script tells, and the functions in it. Most parts tell nothing or use up to three names, and take no memory.
+/// A function with its region.
+#[derive(Drop)]
+pub struct FunctionTold {
+    /// What its region is.
+    pub head: RegionHead,
+    /// What stands in its region.
+    pub pieces: Vec<Piece>,
+    /// The function that was found.
+    pub found: FoundFunction,
+}
+
+/// What a part of a script tells, and the functions in it. Most parts tell nothing or use up to three names, and take no memory; an empty
+/// block takes none either, and a function alone one box.
 #[derive(Drop)]
 pub enum Told {
     Nothing,
@@ -32,8 +45,12 @@ pub enum Told {
     Two { first: u32, second: u32 },
     /// Three names are used, one after the other.
     Three { first: u32, second: u32, third: u32 },
+    /// The region of a block in which nothing stands.
+    EmptyBlock,
     /// A region with what stands in it, and no function.
     Inside(Box<(RegionHead, Vec<Piece>)>),
+    /// A function, and no other directly beside it.
+    Function(Box<FunctionTold>),
     Parts(Box<Parts>),
 }
 
@@ -59,6 +76,45 @@ fn alone(alloc: Global, pieces: Vec<Piece>) -> Parts
     Parts { pieces, found }
 }
 
+/// The parts of this piece, with room for more.
+fn piece_parts(alloc: Global, piece: Piece, more: usize) -> Result<Parts, AllocError>
+    requires { more ≤ 2 }
+    ensures pieces { IfOk result (λ parts. parts.pieces.items ≡ piece ∷ []) }
+    ensures found { IfOk result (λ parts. parts.found.items ≡ []) }
+{
+    let pieces = one_piece(alloc, piece, more)?;
+    Ok(alone(alloc, pieces))
+}
+
+/// A list of this function. Most parts have no other, so the list has no room for more.
+fn one_function(alloc: Global, found: FoundFunction) -> Result<Vec<FoundFunction>, AllocError>
+    ensures { IfOk result (λ functions. functions.items ≡ found ∷ []) }
+{
+    let mut functions = Vec::with_capacity(alloc, 1)?;
+    functions.push(found)?;
+    Ok(functions)
+}
+
+/// The parts of a function, with room for more pieces.
+fn function_parts(
+    alloc: Global,
+    function: Box<FunctionTold>,
+    more: usize,
+) -> Result<Parts, AllocError>
+    requires { more ≤ 2 }
+    ensures { IfOk result (ArePartsOf (told.Function function)) }
+{
+    let FunctionTold {
+        head,
+        pieces,
+        found,
+    } = Box::into_inner(function);
+    let region = Piece::region(alloc, head.kind, head.at, pieces)?;
+    let pieces = one_piece(alloc, region, more)?;
+    let found = one_function(alloc, found)?;
+    Ok(Parts { pieces, found })
+}
+
 /// The parts that tell what is told, with room for more pieces.
 fn roomy_parts(alloc: Global, told: Told, more: usize) -> Result<Parts, AllocError>
     requires { more ≤ 2 }
@@ -69,10 +125,7 @@ fn roomy_parts(alloc: Global, told: Told, more: usize) -> Result<Parts, AllocErr
             let pieces = Vec::with_capacity(alloc, more)?;
             Ok(alone(alloc, pieces))
         }
-        Told::Used { atom } => {
-            let pieces = one_piece(alloc, Piece::Used { atom }, more)?;
-            Ok(alone(alloc, pieces))
-        }
+        Told::Used { atom } => Ok(piece_parts(alloc, Piece::Used { atom }, more)?),
         Told::Two { first, second } => {
             let mut pieces = one_piece(alloc, Piece::Used { atom: first }, 1 + more)?;
             pieces.push(Piece::Used { atom: second })?;
@@ -88,10 +141,9 @@ fn roomy_parts(alloc: Global, told: Told, more: usize) -> Result<Parts, AllocErr
             pieces.push(Piece::Used { atom: third })?;
             Ok(alone(alloc, pieces))
         }
-        Told::Inside(region) => {
-            let pieces = one_piece(alloc, Piece::Inside(region), more)?;
-            Ok(alone(alloc, pieces))
-        }
+        Told::EmptyBlock => Ok(piece_parts(alloc, Piece::EmptyBlock, more)?),
+        Told::Inside(region) => Ok(piece_parts(alloc, Piece::Inside(region), more)?),
+        Told::Function(function) => function_parts(alloc, function, more),
         Told::Parts(parts) => Ok(Box::into_inner(parts)),
     }
 }
@@ -141,16 +193,17 @@ fn find_all(parts: &mut Parts, mut found: Vec<FoundFunction>) -> Result<(), Allo
     Ok(())
 }
 
-/// A function after the functions that are there. Most parts have no other, so a list for it takes no room for more.
+/// A function after the functions that are there.
 fn find(alloc: Global, parts: &mut Parts, found: FoundFunction) -> Result<(), AllocError>
     ensures pieces { OnOk result (parts.new.pieces.items ≡ parts.old.pieces.items) }
     ensures found { OnOk result (parts.new.found.items ≡ parts.old.found.items ++ (found ∷ [])) }
 {
     let others: &[FoundFunction] = &parts.found;
     if others.is_empty() {
-        parts.found = Vec::with_capacity(alloc, 1)?;
+        parts.found = one_function(alloc, found)?;
+    } else {
+        parts.found.push(found)?;
     }
-    parts.found.push(found)?;
     Ok(())
 }
 
@@ -280,6 +333,46 @@ fn with_inside(
     }
 }
 
+/// A block in which nothing stands, after what is told.
+fn with_empty_block(alloc: Global, told: Told) -> Result<Told, AllocError>
+    ensures { IfOk result (λ new. Tells told new (λ i. piece_says i piece.EmptyBlock) []) }
+{
+    match told {
+        Told::Nothing => Ok(Told::EmptyBlock),
+        other => with_piece(alloc, other, Piece::EmptyBlock),
+    }
+}
+
+/// A function after what is told.
+pub(crate) fn with_function(
+    alloc: Global,
+    told: Told,
+    function: Box<FunctionTold>,
+) -> Result<Told, AllocError>
+    ensures { IfOk result (λ new. Tells told new (λ i. function_says i function.value) (function.value.found ∷ [])) }
+{
+    match told {
+        Told::Nothing => Ok(Told::Function(function)),
+        other => function_after(alloc, other, Box::into_inner(function)),
+    }
+}
+
+/// A function after what is told, among the parts of which it is put.
+fn function_after(alloc: Global, told: Told, function: FunctionTold) -> Result<Told, AllocError>
+    ensures { IfOk result (λ new. Tells told new (λ i. function_says i function) (function.found ∷ [])) }
+{
+    let FunctionTold {
+        head,
+        pieces,
+        found,
+    } = function;
+    let mut parts = opened(alloc, told, 1)?;
+    let piece = Piece::region(alloc, head.kind, head.at, pieces)?;
+    push(&mut *parts, piece)?;
+    find(alloc, &mut *parts, found)?;
+    Ok(Told::Parts(parts))
+}
+
 /// One after the other.
 pub(crate) fn then(alloc: Global, told: Told, other: Told) -> Result<Told, AllocError>
     ensures { IfOk result (λ new. Tells told new (λ i. told_says i other) (told_found other)) }
@@ -300,24 +393,38 @@ pub(crate) fn then(alloc: Global, told: Told, other: Told) -> Result<Told, Alloc
             let two = with_use(alloc, one, second)?;
             with_use(alloc, two, third)
         }
+        Told::EmptyBlock => with_empty_block(alloc, told),
         Told::Inside(region) => with_inside(alloc, told, region),
+        Told::Function(function) => with_function(alloc, told, function),
         Told::Parts(others) => with_parts(alloc, told, others),
     }
 }
 
-/// A region after what is told, in which this is told; `at` is the offset where the parameters of a function start, in bytes,
-/// and 0 of another region.
-pub(crate) fn with_region(
+/// A region after what is told, in which nothing stands.
+fn with_empty_region(alloc: Global, told: Told, kind: Region) -> Result<Told, AllocError>
+    ensures { IfOk result (λ new. Tells told new (λ i. says_region (region_text i (region_of kind)) 0 (λ inside. inside)) []) }
+{
+    match kind {
+        Region::Block => with_empty_block(alloc, told),
+        other => {
+            let head = RegionHead { kind: other, at: 0 };
+            let region = Box::new(alloc, (head, Vec::new(alloc)))?;
+            with_inside(alloc, told, region)
+        }
+    }
+}
+
+/// A region after what is told, in which these parts stand.
+fn with_region_of(
     alloc: Global,
     told: Told,
     kind: Region,
-    at: u32,
-    inside: Told,
+    inside: Parts,
 ) -> Result<Told, AllocError>
-    ensures { IfOk result (λ new. Tells told new (λ i. says_region (region_text i (region_of kind)) at (told_says i inside)) (told_found inside)) }
+    ensures { IfOk result (λ new. Tells told new (λ i. says_region (region_text i (region_of kind)) 0 (pieces_say i inside.pieces.items)) inside.found.items) }
 {
-    let Parts { pieces, found } = parts_of(alloc, inside)?;
-    let region = Box::new(alloc, (RegionHead { kind, at }, pieces))?;
+    let Parts { pieces, found } = inside;
+    let region = Box::new(alloc, (RegionHead { kind, at: 0 }, pieces))?;
     let functions: &[FoundFunction] = &found;
     if functions.is_empty() {
         let made = with_inside(alloc, told, region)?;
@@ -329,21 +436,20 @@ pub(crate) fn with_region(
     Ok(Told::Parts(parts))
 }
 
-/// A function after what is told, and its region, in which these pieces stand; `at` is the offset where its parameters start, in
-/// bytes.
-pub(crate) fn with_function(
+/// A region that is no function, after what is told, in which this is told.
+pub(crate) fn with_region(
     alloc: Global,
     told: Told,
     kind: Region,
-    at: u32,
-    pieces: Vec<Piece>,
-    found: FoundFunction,
+    inside: Told,
 ) -> Result<Told, AllocError>
-    ensures { IfOk result (λ new. Tells told new (λ i. says_region (region_text i (region_of kind)) at (pieces_say i pieces.items)) (found ∷ [])) }
+    ensures { IfOk result (λ new. Tells told new (λ i. says_region (region_text i (region_of kind)) 0 (told_says i inside)) (told_found inside)) }
 {
-    let mut parts = opened(alloc, told, 1)?;
-    let piece = Piece::region(alloc, kind, at, pieces)?;
-    push(&mut *parts, piece)?;
-    find(alloc, &mut *parts, found)?;
-    Ok(Told::Parts(parts))
+    match inside {
+        Told::Nothing => with_empty_region(alloc, told, kind),
+        other => {
+            let parts = parts_of(alloc, other)?;
+            with_region_of(alloc, told, kind, parts)
+        }
+    }
 }

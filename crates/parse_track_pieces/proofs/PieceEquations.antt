@@ -8,6 +8,7 @@ use Rattle.script_grammar.specs.declared.tree.Ident.{Ident}
 use Rattle.script_grammar.specs.Interpretation.{Interpretation, text_of, maybe_named}
 use Rattle.parse_track.specs.declared.region.Declare.{Declare}
 use Rattle.parse_track.specs.Log.{region_of}
+use Rattle.parse_track.specs.Told as told
 use Rattle.parse_track.specs.Tells.{tells_use, tells_jump}
 use Rattle.track_log_laws.specs.Spelled.{region_text}
 use Rattle.parse_track_pieces.specs.declared.piece.Piece.{Piece}
@@ -34,6 +35,9 @@ module _ (i : Interpretation) where
   pub says-Inside : (region : Box (RegionHead × Vec Piece Global) Global) (rest : Rest)
       → piece_says i (piece.Inside region) rest ≡ says_region (region_text i (region_of region.value.0.kind)) region.value.0.at (pieces_say i region.value.1.items) rest
   says-Inside region rest = ap (λ (f : Rest → Rest). f rest) (ap (piece_says i) (sym (piece.rolls-Inside region)) ∙ fold-roll-Piece (Rest → Rest) (piece_step i) (layer.Inside region))
+
+  pub says-EmptyBlock : (rest : Rest) → piece_says i piece.EmptyBlock rest ≡ says_region told.Block 0 (λ inside. inside) rest
+  says-EmptyBlock rest = ap (λ (f : Rest → Rest). f rest) (ap (piece_says i) (sym piece.rolls-EmptyBlock) ∙ fold-roll-Piece (Rest → Rest) (piece_step i) layer.EmptyBlock)
 
   pub says-Many : (pieces : Box (Vec Piece Global) Global) (rest : Rest) → piece_says i (piece.Many pieces) rest ≡ pieces_say i pieces.value.items rest
   says-Many pieces rest = ap (λ (f : Rest → Rest). f rest) (ap (piece_says i) (sym (piece.rolls-Many pieces)) ∙ fold-roll-Piece (Rest → Rest) (piece_step i) (layer.Many pieces))

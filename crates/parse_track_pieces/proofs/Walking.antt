@@ -1,6 +1,5 @@
 -- How walks over pieces make a walk over the whole.
-use Rattle.std.proofs.Common.{true, ◌≡◌, ◌∙◌, ℕ, ◌+◌, ◌-◌, ◌*◌, ◌<◌, ◌≤◌, take, Option, Some, None, IsSome, option_map, List, [], ◌∷◌, ◌++◌, codes, refl, sym, ap, subst, arith, length, get_or, drop, add-one, reverse}
-use Rattle.std.proofs.Math.Seq.{drop-cons}
+use Rattle.std.proofs.Common.{true, ◌≡◌, ◌∙◌, ℕ, ◌+◌, ◌-◌, ◌*◌, ◌≤◌, take, Option, Some, None, IsSome, option_map, List, [], ◌∷◌, ◌++◌, codes, refl, sym, ap, subst, arith, reverse}
 use Rattle.std.specs.Prelude.{MatchOption, option_to_list}
 use Rattle.std.proofs.lemmas.List.{reverse-append, append-nil}
 use Rattle.script_grammar.specs.Interpretation.{Interpretation, text_of, maybe_named}
@@ -20,6 +19,7 @@ use Rattle.parse_track_pieces.specs.Pieces.{Rest, telling, says_region, says_pas
 use Rattle.parse_track_pieces.specs.Says.{AreWanted, SaysBody}
 use Rattle.parse_track_pieces.specs.Walks.{KnowsThis, Stays, AtHand, Walks}
 use Rattle.parse_track_pieces.specs.Weight.{weight}
+use Rattle.parse_track_pieces.proofs.Appending.{appended}
 use Rattle.parse_track_pieces.proofs.Logs.{leaf_logged, region_logged, present_left, region_stays, leaf_stays, stays, stays_then}
 
 -- what stays
@@ -98,6 +98,19 @@ module _ (i : Interpretation) where
             );
       }
 
+  -- nothing is told
+  pub walk_nothing : (a : Log) (x : List Piece) → Walks i a a x x (λ rest. rest)
+  walk_nothing a x = record { told = λ k rest all w hand. (all, w, hand, refl) }
+
+  -- one is told after another
+  pub walk_then : {a b c : Log} {x y z : List Piece} {f g : Rest → Rest} → Stays a b → Walks i a b x y f → Walks i b c y z g → Walks i a c x z (λ rest. f (g rest))
+  walk_then {a = a} {b = b} {g = g} s v w = record {
+    told = λ k rest all wanted hand.
+        let u = v.told k (g rest) all wanted hand in
+        let t = w.told (knows_still a b s k) rest u.0 u.1 u.2 in
+        (t.0, t.1, t.2, u.3 ∙ t.3);
+  }
+
   -- the next body is taken
   pub walk_passed : {a b : Log} {before xs after : List Piece} (v : Piece) (start : ℕ) → before ≡ xs ++ v ∷ [] → Walks i a b xs after (piece_says i v) → Walks i a b before after (says_passed i start)
   walk_passed {a = a} {before = before} {xs = xs} v start e h = record {
@@ -140,35 +153,22 @@ module _ (i : Interpretation) where
   label_text None = refl
   label_text (Some label) = refl
 
--- Of the pieces the rest is still to come.
-pub record Turn (a b : Log) (x y : List Piece) (all rest : List Piece) : Type 0 where
+-- These pieces have been told.
+pub record Turn (a b : Log) (x y : List Piece) (done : List Piece) : Type 0 where
   pub stays : Stays a b
   pub lighter : weight y ≤ weight x
-  pub walks : (i : Interpretation) → KnowsThis i a → (r : Rest) (ss : List Stmts) → AreWanted (pieces_say i all r).bodies ss → AtHand i x ss
-      → (others : List Stmts) × AreWanted (pieces_say i rest r).bodies others × AtHand i y others
-      × (logged (pieces_say i all r).told (log_text i a) ≡ logged (pieces_say i rest r).told (log_text i b))
+  pub walks : (i : Interpretation) → Walks i a b x y (pieces_say i done)
 
-pub turn_begin : (a : Log) (x : List Piece) (all : List Piece) → Turn a a x x all all
-turn_begin a x all = record { stays = stays a; lighter = omega arith; walks = λ i k r ss w hand. (ss, w, hand, refl) }
+pub turn_begin : (a : Log) (x : List Piece) → Turn a a x x []
+turn_begin a x = record { stays = stays a; lighter = omega arith; walks = λ i. walk_as i (λ rest. refl) (walk_nothing i a x) }
 
-pub turn_next : {a b c : Log} {x y z : List Piece} {all rest : List Piece} (item : Piece) (more : List Piece) → rest ≡ item ∷ more
-    → Stays b c → weight z ≤ weight y → ((i : Interpretation) → Walks i b c y z (piece_says i item)) → Turn a b x y all rest → Turn a c x z all more
-turn_next {a = a} {b = b} {c = c} item more e s l w turn = record {
+pub turn_next : {a b c : Log} {x y z : List Piece} (done : List Piece) (item : Piece) → Stays b c → weight z ≤ weight y
+    → ((i : Interpretation) → Walks i b c y z (piece_says i item)) → Turn a b x y done → Turn a c x z (done ++ item ∷ [])
+turn_next {a = a} {b = b} {c = c} done item s l w turn = record {
   stays = stays_then a b c turn.stays s;
   lighter = let l' = turn.lighter in omega arith;
-  walks = λ i k r ss wanted hand.
-      let u = turn.walks i k r ss wanted hand in
-      let v = (w i).told (knows_still i a b turn.stays k) (pieces_say i more r) u.0 (subst (λ (ps : List Piece). AreWanted (pieces_say i ps r).bodies u.0) e u.1) u.2 in
-      (v.0, v.1, v.2, u.3 ∙ (ap (λ (ps : List Piece). logged (pieces_say i ps r).told (log_text i b)) e ∙ v.3));
+  walks = λ i. walk_as i (appended i done item (done ++ item ∷ []) refl) (walk_then i turn.stays (turn.walks i) (w i));
 }
 
-pub turn_end : {a b : Log} {x y : List Piece} {all rest : List Piece} → rest ≡ [] → Turn a b x y all rest → (i : Interpretation) → Walks i a b x y (pieces_say i all)
-turn_end {b = b} e turn i = record {
-  told = λ k r ss wanted hand.
-      let u = turn.walks i k r ss wanted hand in
-      (u.0, subst (λ (ps : List Piece). AreWanted (pieces_say i ps r).bodies u.0) e u.1, u.2, u.3 ∙ ap (λ (ps : List Piece). logged (pieces_say i ps r).told (log_text i b)) e);
-}
-
-pub next_of : {A : Type 0} (xs : List A) (k : ℕ) (x : A) → k < length xs → x ≡ get_or xs k x → drop k xs ≡ x ∷ drop (k + 1) xs
-next_of {A} xs k x lt is =
-    drop-cons xs k x lt ∙ (ap (λ (n : ℕ). get_or xs k x ∷ drop n xs) (sym (add-one k)) ∙ ap (λ (y : A). y ∷ drop (k + 1) xs) (sym is))
+pub turn_end : {a b : Log} {x y : List Piece} {all done : List Piece} → done ≡ all → Turn a b x y done → (i : Interpretation) → Walks i a b x y (pieces_say i all)
+turn_end e turn i = walk_as i (λ rest. ap (λ (ps : List Piece). pieces_say i ps rest) (sym e)) (turn.walks i)

@@ -51,6 +51,7 @@ piece_step i (layer.Used atom) rest = telling rest (tells_use (text_of i atom) r
 piece_step i layer.This rest = telling rest (tells_use (codes ".this") rest.told)
 piece_step i (layer.Jumped jump) rest = telling rest (tells_jump jump.value.word jump.value.at (maybe_named i jump.value.label) rest.told)
 piece_step i (layer.Inside region) rest = says_region (region_text i (region_of region.value.0.kind)) region.value.0.at (in_turn region.value.1.items) rest
+piece_step i layer.EmptyBlock rest = says_region told.Block 0 (λ inside. inside) rest
 piece_step i (layer.Many pieces) rest = in_turn pieces.value.items rest
 piece_step i (layer.Passed start) rest = says_passed i start rest
 piece_step i (layer.Kept pieces) rest = says_read (in_turn pieces.value.items) rest

@@ -11,7 +11,7 @@
 //! functions.
 //!
 //! [`walk::tell_script`] tells a track the script of such a piece, with the pieces of the bodies in its holes: the log becomes
-//! what telling the script makes of it.
+//! what telling the script makes of it. A piece gives its memory back when it has been told.
 #![tactic(auto)]
 
 mod params;

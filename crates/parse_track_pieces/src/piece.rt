@@ -40,6 +40,8 @@ pub enum Piece {
     Jumped(Box<ToldJump>),
     /// A region with what stands in it.
     Inside(Box<(RegionHead, Vec<Piece>)>),
+    /// The region of a block in which nothing stands.
+    EmptyBlock,
     /// Pieces, one after the other.
     Many(Box<Vec<Piece>>),
     /// The body of a function that was passed over; `start` is the offset where the function's parameters start, in bytes.

@@ -5,9 +5,10 @@ ghost use Rattle.script_grammar.specs.Braced.{in_stmts};
 ghost use Rattle.script_grammar.specs.Interpretation.{Interpretation};
 ghost use Rattle.script_grammar.specs.Shows.{ShowAll};
 ghost use Rattle.script_grammar.specs.Tree as model;
-ghost use Rattle.parse_track.specs.Log.{label_of, with_leaf};
+ghost use Rattle.parse_track.specs.Log.{entered, label_of, left, with_leaf};
 ghost use Rattle.parse_track.specs.Tells.{tells_script};
 ghost use Rattle.parse_track.specs.Told as told;
+ghost use Rattle.parse_track.specs.declared.region.Region.TheVariants as kind;
 ghost use Rattle.track_log_laws.specs.Spelled.{log_text, logged};
 ghost use Rattle.parse_track_pieces.specs.Walks.{Stays, KnowsThis, Walks};
 ghost use Rattle.parse_track_pieces.specs.Pieces.{piece_says, pieces_say, says_passed, says_read};
@@ -21,41 +22,42 @@ use std::alloc::AllocError;
 
 // A piece.
 #[cycle(telling)]
-fn tell_piece(piece: &Piece, track: &mut Track, bodies: &mut Vec<Piece>) -> Result<(), AllocError>
+fn tell_piece(piece: Piece, track: &mut Track, bodies: &mut Vec<Piece>) -> Result<(), AllocError>
     requires { IsSome track.old.present }
     ensures stays { OnOk result (Stays track.old track.new) }
     ensures lighter { OnOk result (weight bodies.new.items ≤ weight bodies.old.items) }
-    ensures tells { OnOk result ((i : Interpretation) → Walks i track.old track.new bodies.old.items bodies.new.items (piece_says i piece.now)) }
+    ensures tells { OnOk result ((i : Interpretation) → Walks i track.old track.new bodies.old.items bodies.new.items (piece_says i piece)) }
 {
     match piece {
-        Piece::Declared { how, name } => Ok(track.declare(*how, *name)?),
-        Piece::Used { atom } => Ok(track.used(*atom)?),
+        Piece::Declared { how, name } => Ok(track.declare(how, name)?),
+        Piece::Used { atom } => Ok(track.used(atom)?),
         Piece::This => Ok(tell_this(track)?),
-        Piece::Jumped(jump) => Ok(tell_jump(jump, track)?),
+        Piece::Jumped(jump) => Ok(tell_jump(Box::into_inner(jump), track)?),
         Piece::Inside(region) => {
-            let (head, pieces) = &**region;
+            let (head, pieces) = Box::into_inner(region);
             track.enter(head.kind, head.at)?;
             tell_pieces(pieces, track, bodies)?;
             track.leave();
             Ok(())
         }
-        Piece::Many(pieces) => Ok(tell_pieces(pieces, track, bodies)?),
+        Piece::EmptyBlock => Ok(tell_empty_block(track)?),
+        Piece::Many(pieces) => Ok(tell_pieces(Box::into_inner(pieces), track, bodies)?),
         Piece::Passed { .. } => Ok(tell_next(track, bodies)?),
-        Piece::Kept(pieces) => Ok(tell_kept(pieces, track, bodies)?),
+        Piece::Kept(pieces) => Ok(tell_kept(Box::into_inner(pieces), track, bodies)?),
     }
 }
 
 // Pieces, one after the other.
 #[cycle(telling)]
 fn tell_pieces(
-    pieces: &[Piece],
+    pieces: Vec<Piece>,
     track: &mut Track,
     bodies: &mut Vec<Piece>,
 ) -> Result<(), AllocError>
     requires { IsSome track.old.present }
     ensures stays { OnOk result (Stays track.old track.new) }
     ensures lighter { OnOk result (weight bodies.new.items ≤ weight bodies.old.items) }
-    ensures tells { OnOk result ((i : Interpretation) → Walks i track.old track.new bodies.old.items bodies.new.items (pieces_say i pieces.now)) }
+    ensures tells { OnOk result ((i : Interpretation) → Walks i track.old track.new bodies.old.items bodies.new.items (pieces_say i pieces.items)) }
 {
     for piece in pieces {
         tell_piece(piece, track, bodies)?;
@@ -73,19 +75,23 @@ fn tell_next(track: &mut Track, bodies: &mut Vec<Piece>) -> Result<(), AllocErro
         → Walks i track.old track.new bodies.old.items bodies.new.items (says_passed i start)) }
 {
     match bodies.pop() {
-        Some(body) => Ok(tell_piece(&body, track, bodies)?),
+        Some(body) => Ok(tell_piece(body, track, bodies)?),
         None => Ok(()),
     }
 }
 
 // The pieces of a body that was read where it stands; the next of the bodies at hand is the same one, and is passed over.
 #[cycle(telling)]
-fn tell_kept(pieces: &[Piece], track: &mut Track, bodies: &mut Vec<Piece>) -> Result<(), AllocError>
+fn tell_kept(
+    pieces: Vec<Piece>,
+    track: &mut Track,
+    bodies: &mut Vec<Piece>,
+) -> Result<(), AllocError>
     requires { IsSome track.old.present }
     ensures stays { OnOk result (Stays track.old track.new) }
     ensures lighter { OnOk result (weight bodies.new.items ≤ weight bodies.old.items) }
     ensures tells { OnOk result ((i : Interpretation)
-        → Walks i track.old track.new bodies.old.items bodies.new.items (says_read (pieces_say i pieces.now))) }
+        → Walks i track.old track.new bodies.old.items bodies.new.items (says_read (pieces_say i pieces.items))) }
 {
     bodies.pop();
     tell_pieces(pieces, track, bodies)?;
@@ -93,11 +99,21 @@ fn tell_kept(pieces: &[Piece], track: &mut Track, bodies: &mut Vec<Piece>) -> Re
 }
 
 // A jump.
-fn tell_jump(jump: &ToldJump, track: &mut Track) -> Result<(), AllocError>
+fn tell_jump(jump: ToldJump, track: &mut Track) -> Result<(), AllocError>
     requires { IsSome track.old.present }
-    ensures { OnOk result (track.new ≡ with_leaf track.old (told.Jumped jump.now.word jump.now.at (label_of jump.now.label))) }
+    ensures { OnOk result (track.new ≡ with_leaf track.old (told.Jumped jump.word jump.at (label_of jump.label))) }
 {
     track.jump(jump.word, jump.at, jump.label)?;
+    Ok(())
+}
+
+// A block in which nothing stands.
+fn tell_empty_block(track: &mut Track) -> Result<(), AllocError>
+    requires { IsSome track.old.present }
+    ensures { OnOk result (track.new ≡ left (entered track.old kind.Block 0)) }
+{
+    track.enter(Region::Block, 0)?;
+    track.leave();
     Ok(())
 }
 
@@ -113,14 +129,14 @@ fn tell_this(track: &mut Track) -> Result<(), AllocError>
 
 /// Tells a track a script: its piece, as the handler makes it of its statements, with the bodies of its functions in the order
 /// of the source, the next one last; those inside a body stand after it, and of one function those in its parameters before
-/// its own. No region is present again. The error is that memory is out, or that the track has no number for a region more.
+/// its own. The memory of a piece is given back when it has been told. No region is present again. The error is that memory is out, or that the track has no number for a region more.
 pub fn tell_script(
-    script: &Piece,
+    script: Piece,
     track: &mut Track,
     bodies: &mut Vec<Piece>,
 ) -> Result<(), AllocError>
     requires { track.old.present ≡ None }
-    ensures tells { OnOk result ((i : Interpretation) (items : model.Stmts) → KnowsThis i track.old → SaysBody i script.now items
+    ensures tells { OnOk result ((i : Interpretation) (items : model.Stmts) → KnowsThis i track.old → SaysBody i script items
         → ShowAll (SaysBody i) (reverse bodies.old.items) (in_stmts true items [])
         → logged (tells_script items) (log_text i track.old) ≡ log_text i track.new) }
     ensures outside { OnOk result (track.new.present ≡ None) }

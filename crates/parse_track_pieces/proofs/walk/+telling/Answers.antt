@@ -1,4 +1,6 @@
-use Rattle.std.proofs.Common.{◌∙◌, ◌+◌, ap, arith, drop, drop_of_length-le, sym}
+use Rattle.std.proofs.Common.{◌∙◌, ap, arith, refl, sym}
+use Rattle.std.proofs.lemmas.Iterator.Adapters.{YieldsList-from_vec}
+use Rattle.std.proofs.lemmas.Iterator.Consumers.{YieldsList-end}
 use Rattle.std.specs.declared.vec.Vec.{Vec}
 use Rattle.std.specs.declared.alloc.Global.{Global}
 use Rattle.script_grammar.specs.Interpretation.{maybe_named}
@@ -11,8 +13,11 @@ use Rattle.parse_track_pieces.specs.declared.piece.RegionHead.{RegionHead}
 use Rattle.parse_track_pieces.specs.declared.piece.ToldJump.{ToldJump}
 use Rattle.parse_track_pieces.specs.Pieces.{telling, piece_says, pieces_say, says_read, says_region}
 use Rattle.parse_track_pieces.specs.Weight.{weight}
-use Rattle.parse_track_pieces.proofs.PieceEquations.{says-Declared, says-Used, says-This, says-Jumped, says-Inside, says-Many, says-Passed, says-Kept}
-use Rattle.parse_track_pieces.proofs.Walking.{label_text, leaf_stays_as, next_of, none_left, popped_lighter, region_stays_as, turn_begin, turn_end, turn_next, walk_as, walk_leaf, walk_none, walk_passed, walk_popped, walk_region, walk_this, weight_push}
+use Rattle.parse_track_pieces.proofs.PieceEquations.{says-Declared, says-Used, says-This, says-Jumped, says-Inside, says-EmptyBlock, says-Many, says-Passed, says-Kept}
+use Rattle.parse_track.specs.declared.region.Region.TheVariants as kind
+use Rattle.parse_track_pieces.proofs.Appending.{map-same}
+use Rattle.parse_track_pieces.proofs.Logs.{stays}
+use Rattle.parse_track_pieces.proofs.Walking.{label_text, leaf_stays_as, none_left, popped_lighter, region_stays_as, turn_begin, turn_end, turn_next, walk_as, walk_leaf, walk_none, walk_nothing, walk_passed, walk_popped, walk_region, walk_this, weight_push}
 use Rattle.parse_track_pieces.proofs.walk.+telling.Goals as goal
 
 pub tell_piece-returns-in_ok-declare-in-Declared-clause-tells : goal.tell_piece-returns-in_ok-declare-in-Declared-clause-tells
@@ -40,35 +45,43 @@ tell_piece-returns-in_ok-tell_this-in-This-clause-stays t c = leaf_stays_as (tol
 
 pub tell_piece-returns-in_ok-tell_jump-in-Jumped-clause-tells : goal.tell_piece-returns-in_ok-tell_jump-in-Jumped-clause-tells
 tell_piece-returns-in_ok-tell_jump-in-Jumped-clause-tells t c = λ i.
-    let jump = c.deref.result.now in
+    let jump = c.into_inner.result in
     walk_as i
     (λ rest.
     ap (λ p. piece_says i p rest) c.in-Jumped.is
     ∙ says-Jumped i c.in-Jumped.jump rest
-    ∙ ap (λ (j : ToldJump). telling rest (tells_jump j.word j.at (maybe_named i j.label) rest.told)) (sym c.deref.ensures)
+    ∙ ap (λ (j : ToldJump). telling rest (tells_jump j.word j.at (maybe_named i j.label) rest.told)) (sym c.into_inner.ensures)
     ∙ ap (λ l. telling rest (told.leaf (told.Jumped jump.word jump.at l) rest.told)) (sym (label_text i jump.label)))
     (walk_leaf i _ (told.Jumped jump.word jump.at (label_of jump.label)) c.in_ok-tell_jump-in-Jumped.ensures)
 
 pub tell_piece-returns-in_ok-tell_jump-in-Jumped-clause-stays : goal.tell_piece-returns-in_ok-tell_jump-in-Jumped-clause-stays
 tell_piece-returns-in_ok-tell_jump-in-Jumped-clause-stays t c =
-    let jump = c.deref.result.now in
+    let jump = c.into_inner.result in
     leaf_stays_as (told.Jumped jump.word jump.at (label_of jump.label)) c.in_ok-tell_jump-in-Jumped.ensures
 
 pub tell_piece-returns-in_ok-tell_pieces-in-Inside-clause-tells : goal.tell_piece-returns-in_ok-tell_pieces-in-Inside-clause-tells
 tell_piece-returns-in_ok-tell_pieces-in-Inside-clause-tells t c = λ i.
-    let region = c.deref-in-Inside.result.now in
+    let region = c.into_inner-pieces.result in
     walk_as i
     (λ rest.
     ap (λ p. piece_says i p rest) c.in-Inside.is
     ∙ says-Inside i c.in-Inside.region rest
-    ∙ ap (λ (r : RegionHead × Vec Piece Global). says_region (region_text i (region_of r.0.kind)) r.0.at (pieces_say i r.1.items) rest) (sym c.deref-in-Inside.ensures))
+    ∙ ap (λ (r : RegionHead × Vec Piece Global). says_region (region_text i (region_of r.0.kind)) r.0.at (pieces_say i r.1.items) rest) (sym c.into_inner-pieces.ensures))
     (walk_region i region.0.kind region.0.at c.in_ok-enter-in-Inside.ensures.1 c.in_ok-tell_pieces-in-Inside.ensures.stays
-    (walk_as i (λ rest. ap (λ ps. pieces_say i ps rest) (sym c.deref-in-Inside-2.ensures.value)) (c.in_ok-tell_pieces-in-Inside.ensures.tells i)) c.leave.ensures)
+    (c.in_ok-tell_pieces-in-Inside.ensures.tells i) c.leave.ensures)
 
 pub tell_piece-returns-in_ok-tell_pieces-in-Inside-clause-stays : goal.tell_piece-returns-in_ok-tell_pieces-in-Inside-clause-stays
 tell_piece-returns-in_ok-tell_pieces-in-Inside-clause-stays t c =
-    let region = c.deref-in-Inside.result.now in
+    let region = c.into_inner-pieces.result in
     region_stays_as region.0.kind region.0.at c.in_ok-enter-in-Inside.ensures.1 c.in_ok-tell_pieces-in-Inside.ensures.stays c.leave.ensures
+
+pub tell_piece-returns-in_ok-tell_empty_block-in-EmptyBlock-clause-tells : goal.tell_piece-returns-in_ok-tell_empty_block-in-EmptyBlock-clause-tells
+tell_piece-returns-in_ok-tell_empty_block-in-EmptyBlock-clause-tells t c = λ i.
+    walk_as i (λ rest. ap (λ p. piece_says i p rest) c.in-EmptyBlock.is ∙ says-EmptyBlock i rest)
+    (walk_region i kind.Block 0 refl (stays _) (walk_nothing i _ _) c.in_ok-tell_empty_block-in-EmptyBlock.ensures)
+
+pub tell_piece-returns-in_ok-tell_empty_block-in-EmptyBlock-clause-stays : goal.tell_piece-returns-in_ok-tell_empty_block-in-EmptyBlock-clause-stays
+tell_piece-returns-in_ok-tell_empty_block-in-EmptyBlock-clause-stays t c = region_stays_as kind.Block 0 refl (stays _) c.in_ok-tell_empty_block-in-EmptyBlock.ensures
 
 pub tell_piece-returns-in_ok-tell_pieces-in-Many-clause-tells : goal.tell_piece-returns-in_ok-tell_pieces-in-Many-clause-tells
 tell_piece-returns-in_ok-tell_pieces-in-Many-clause-tells t c = λ i.
@@ -76,7 +89,7 @@ tell_piece-returns-in_ok-tell_pieces-in-Many-clause-tells t c = λ i.
     (λ rest.
     ap (λ p. piece_says i p rest) c.in-Many.is
     ∙ says-Many i c.in-Many.pieces rest
-    ∙ ap (λ ps. pieces_say i ps rest) (sym (c.deref-in-Many-2.ensures.value ∙ ap (λ (v : Vec Piece Global). v.items) c.deref-in-Many.ensures)))
+    ∙ ap (λ (v : Vec Piece Global). pieces_say i v.items rest) (sym c.into_inner-in-Many.ensures))
     (c.in_ok-tell_pieces-in-Many.ensures.tells i)
 
 pub tell_piece-returns-in_ok-tell_next-in-Passed-clause-tells : goal.tell_piece-returns-in_ok-tell_next-in-Passed-clause-tells
@@ -85,20 +98,21 @@ tell_piece-returns-in_ok-tell_next-in-Passed-clause-tells t c = λ i.
 
 pub tell_piece-returns-in_ok-tell_kept-in-Kept-clause-tells : goal.tell_piece-returns-in_ok-tell_kept-in-Kept-clause-tells
 tell_piece-returns-in_ok-tell_kept-in-Kept-clause-tells t c = λ i.
-    walk_as i (λ rest. ap (λ p. piece_says i p rest) c.in-Kept.is ∙ says-Kept i c.in-Kept.pieces rest ∙ ap (λ ps. says_read (pieces_say i ps) rest) (sym (c.deref-in-Kept-2.ensures.value ∙ ap (λ (v : Vec Piece Global). v.items) c.deref-in-Kept.ensures)))
+    walk_as i (λ rest. ap (λ p. piece_says i p rest) c.in-Kept.is ∙ says-Kept i c.in-Kept.pieces rest ∙ ap (λ (v : Vec Piece Global). says_read (pieces_say i v.items) rest) (sym c.into_inner-in-Kept.ensures))
     (c.in_ok-tell_kept-in-Kept.ensures.tells i)
 
 pub tell_pieces-loop-piece-init : goal.tell_pieces-loop-piece-init
-tell_pieces-loop-piece-init t c = turn_begin _ _ _
+tell_pieces-loop-piece-init t c = turn_begin _ _
 
 pub tell_pieces-loop-piece-preserved : goal.tell_pieces-loop-piece-preserved
 tell_pieces-loop-piece-preserved t c =
-    turn_next c.piece-item.result (drop (c.loop-piece.piece-index + 1) c.args.pieces.now)
-    (next_of c.args.pieces.now c.loop-piece.piece-index c.piece-item.result c.loop-piece-test.true c.piece-item.is)
-    c.in_ok-tell_piece.ensures.stays c.in_ok-tell_piece.ensures.lighter c.in_ok-tell_piece.ensures.tells c.loop-piece.invariant
+    turn_next c.loop-piece.yielded c.in-Some.piece c.in_ok-tell_piece.ensures.stays c.in_ok-tell_piece.ensures.lighter c.in_ok-tell_piece.ensures.tells c.loop-piece.invariant
 
 pub tell_pieces-returns-clause-tells : goal.tell_pieces-returns-clause-tells
-tell_pieces-returns-clause-tells t c = turn_end (drop_of_length-le c.args.pieces.now c.loop-piece-test.false) c.loop-piece.invariant
+tell_pieces-returns-clause-tells t c =
+    let start = c.into_iter-piece-iterator.ensures.into_iter_gives in
+    let seen = YieldsList-end (YieldsList-from_vec c.args.pieces.items start.0 (start.1 ∙ c.args.pieces.ok.0)) c.loop-piece.yielded c.loop-piece.piece-iterator c.loop-piece.yielded_by c.next.result c.next.new.self c.in-None.is c.next.ensures.steps in
+    turn_end (sym (map-same c.loop-piece.yielded) ∙ seen.0) c.loop-piece.invariant
 
 pub tell_next-returns-in_ok-tell_piece-in-Some-clause-lighter : goal.tell_next-returns-in_ok-tell_piece-in-Some-clause-lighter
 tell_next-returns-in_ok-tell_piece-in-Some-clause-lighter t c =

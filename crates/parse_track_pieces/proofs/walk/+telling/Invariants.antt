@@ -1,10 +1,10 @@
-use Rattle.std.proofs.Common.{◌+◌, ◌*◌, drop}
+use Rattle.std.proofs.Common.{◌+◌, ◌*◌}
 use Rattle.parse_track_pieces.specs.Weight.{weight}
 use Rattle.parse_track_pieces.proofs.Walking.{Turn}
 use Rattle.parse_track_pieces.proofs.walk.+telling.Given as goal
 
 abbrev pub invariant-tell_pieces-loop-piece : goal.invariant-tell_pieces-loop-piece
-invariant-tell_pieces-loop-piece l = Turn l.initial.track l.track l.initial.bodies.items l.bodies.items l.pieces (drop l.piece-index l.pieces)
+invariant-tell_pieces-loop-piece l = Turn l.initial.track l.track l.initial.bodies.items l.bodies.items l.yielded
 
 abbrev pub decreases-tell_piece : goal.decreases-tell_piece
 decreases-tell_piece l = 6 * goal.size-tell_piece l + 0 + weight l.bodies.now.items

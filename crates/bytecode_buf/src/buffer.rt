@@ -80,11 +80,12 @@ impl CodeBuf {
         self.bytes.is_empty()
     }
 
-    /// The bytes.
+    /// The bytes, without room for more. It takes no memory.
     pub fn into_bytes(self) -> Vec<u8>
         ensures { result.items ≡ self }
     {
-        let CodeBuf { bytes } = self;
+        let CodeBuf { mut bytes } = self;
+        bytes.shrink_to_fit();
         bytes
     }
 

@@ -165,12 +165,16 @@ impl Atoms {
         self.texts.is_empty()
     }
 
-    /// The texts, in the order of their atoms. It takes no memory.
+    /// The texts, in the order of their atoms, without room for more. It takes no memory.
     pub fn into_texts(self) -> Vec<Text>
         ensures list { result.items ≡ self }
         ensures apart { AreWithoutEquals self }
     {
-        let Atoms { texts, index: _ } = self;
+        let Atoms {
+            mut texts,
+            index: _,
+        } = self;
+        texts.shrink_to_fit();
         texts
     }
 }

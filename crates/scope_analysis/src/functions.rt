@@ -336,8 +336,9 @@ pub fn scopes_using(
         texts,
         closed,
     };
+    // Most functions have one scope.
     let mut made = Scoping {
-        scopes: Vec::new(alloc),
+        scopes: Vec::with_capacity(alloc, 1)?,
         closed: 0,
     };
     let around = ScopePosition {
@@ -358,6 +359,10 @@ pub fn scopes_using(
     push_specials(&known, number, func.form, own, &mut names)?;
     let inside = push_scope(&known, &mut made, ScopeKind::Function, &names, named)?;
     add_body(&known, &mut made, initialized, &func.body, inside)?;
-    let Scoping { scopes, closed: _ } = made;
+    let Scoping {
+        mut scopes,
+        closed: _,
+    } = made;
+    scopes.shrink_to_fit();
     Ok(scopes)
 }

@@ -163,7 +163,7 @@ pub fn place(
         → Going known.now.texts.now known.now.closed.now number inner later frame (declarations_of known.now.texts.now names.now)
         (stands.named_bindings known.now.texts.now made.bindings.items) made.next.env made.next.arg made.next.frame made.closed []) }
 {
-    let mut bindings = Vec::new(known.alloc);
+    let mut bindings = Vec::with_capacity(known.alloc, names.len())?;
     let mut next = NextSlots {
         env: 0,
         arg: 0,

@@ -8,7 +8,7 @@ use Rattle.script_grammar.specs.TreeOf.{param_of, func_of}
 use Rattle.script_grammar.proofs.PartEquations.{func_of-fields}
 use Rattle.stencil_data.specs.declared.scopes.BindKind.TheVariants as bind
 use Rattle.stencil_data.specs.declared.scopes.ScopeKind.TheVariants as scope_kind
-use Rattle.stencil_data.specs.StandsFor.{text_at, named_closed}
+use Rattle.stencil_data.specs.StandsFor.{text_at, named_closed, named_scope}
 use Rattle.stencil_data.specs.Views.{ScopeView}
 use Rattle.scope_analysis.specs.DeclaredNames.{Text, Declaration, declarations, texts_without, param_names, has_initializer}
 use Rattle.scope_analysis.specs.Closed.{has_closed}
@@ -41,10 +41,11 @@ returns c = λ bodies b has knows uses told.
     (c.in_ok-names.ensures bodies b has
     ∙ (ap (names_of c.has_initializer-initialized.result) c.deref-3.ensures.value
     ∙ ap (λ (x : Bool). names_of x (out-Func c.args.func.now).params.items) initialized))) in
-    function_made texts c.args.closed.now (out-Func c.args.func.now).form c.args.kind name params b c.args.own c.deref.result.now c.deref-4.result.now c.in_ok-named.named c.in_ok-inside.inside
+    ap (map (named_scope texts)) c.shrink_to_fit.ensures.items
+    ∙ function_made texts c.args.closed.now (out-Func c.args.func.now).form c.args.kind name params b c.args.own c.deref.result.now c.deref-4.result.now c.in_ok-named.named c.in_ok-inside.inside
     c.open_scope.new.made.scopes.items c.push_scope.new.made.scopes.items c.add_body.new.made.scopes.items c.open_scope.new.made.closed c.push_scope.new.made.closed c.add_body.new.made.closed c.len-number.result
     knows uses (ap (declarations_of texts) c.deref.ensures.value ∙ c.in_ok-own_name.ensures texts) (c.len-number.ensures ∙ c.open_scope.new.made.scopes.ok.0)
-    (subst (λ (ss : List ScopeView). OpensAny texts c.args.closed.now ss 0 c.open_scope.new.made.scopes.items c.open_scope.new.made.closed scope_kind.StrictNamedLambda (declarations_of texts c.deref.result.now) (record { parent = None; frame = 0 }) c.in_ok-named.named) c.new.ensures.items c.in_ok-named.ensures)
+    (subst (λ (ss : List ScopeView). OpensAny texts c.args.closed.now ss 0 c.open_scope.new.made.scopes.items c.open_scope.new.made.closed scope_kind.StrictNamedLambda (declarations_of texts c.deref.result.now) (record { parent = None; frame = 0 }) c.in_ok-named.named) c.in_ok-with_capacity.ensures.items c.in_ok-named.ensures)
     names c.in_ok-inside.ensures
     (subst (λ (x : Bool). Adds texts c.args.closed.now c.push_scope.new.made.scopes.items c.push_scope.new.made.closed c.add_body.new.made.scopes.items c.add_body.new.made.closed (scopes_body x b (within c.in_ok-inside.inside (length c.push_scope.new.made.scopes.items)))) initialized (c.in_ok-add_body.ensures bodies b has))
     (subst (λ (f : model.Function). CloseOver texts c.args.closed.now (function_scopes c.args.kind name f)) tree told)

@@ -1,4 +1,4 @@
-use Rattle.std.proofs.Common.{◌≡◌, List, ◌∷◌, Option, Bor, subst, sym, ◌∙◌, ap}
+use Rattle.std.proofs.Common.{List, Option, Bor, subst, sym, ◌∙◌, ap}
 use Rattle.stencil_data.specs.LinkView.{LinkView}
 use Rattle.stencil_data.specs.Fits.{PlaceFits}
 use Rattle.stencil_data.specs.LinksOutside.{links_outside}

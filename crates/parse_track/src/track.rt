@@ -47,6 +47,26 @@ impl Items {
         }
     }
 
+    /// Makes room for so many items more, where that is more than one item in all. The items stay as they are.
+    fn reserve(&mut self, alloc: Global, more: usize) -> Result<(), AllocError>
+        ensures { listed self.new ≡ listed self.old }
+    {
+        match self {
+            Items::Nothing => {
+                if more > 1 {
+                    let list = Vec::with_capacity(alloc, more)?;
+                    *self = Items::Many(Box::new(alloc, list)?);
+                }
+                Ok(())
+            }
+            Items::One(_) => Ok(()),
+            Items::Many(items) => {
+                items.reserve(more)?;
+                Ok(())
+            }
+        }
+    }
+
     /// An item more. Where memory runs out all is as it was.
     fn push(&mut self, alloc: Global, item: Item) -> Result<(), AllocError>
         ensures told { OnOk result (listed self.new ≡ listed self.old ++ item ∷ []) }
@@ -134,6 +154,23 @@ fn add_item(
     Ok(())
 }
 
+/// Makes room for so many items more in the present region. What is told stays as it is.
+fn reserve_items(
+    alloc: Global,
+    rows: &mut Vec<RegionRow>,
+    present: Option<u32>,
+    more: usize,
+) -> Result<(), AllocError>
+    requires { IfSome present (λ n. n < length rows.old.items) }
+    ensures { map row_of rows.new.items ≡ map row_of rows.old.items }
+{
+    if let Some(n) = present {
+        let row = &mut rows[n as usize];
+        row.items.reserve(alloc, more)?;
+    }
+    Ok(())
+}
+
 impl Track {
     /// A track that was told nothing. It takes no memory.
     pub fn new(alloc: Global, known: WellKnownAtoms) -> Track
@@ -172,6 +209,13 @@ impl Track {
         add_item(self.alloc, &mut self.rows, around, Item::Inner(number))?;
         self.present = Some(number);
         Ok(number)
+    }
+
+    /// Makes room for so many items more in the present region: names, jumps and regions inside. What was told stays as it is.
+    pub fn reserve(&mut self, items: usize) -> Result<(), AllocError>
+        ensures { self.new ≡ self.old }
+    {
+        reserve_items(self.alloc, &mut self.rows, self.present, items)
     }
 
     /// The present region ends. The one around it becomes the present one, or none does.

@@ -20,6 +20,35 @@ use parse_track::region::Region;
 use parse_track::track::Track;
 use std::alloc::AllocError;
 
+// For so many pieces a track needs no room beforehand.
+const FEW: usize = 4;
+
+// Whether a piece tells one item of the region where it stands.
+fn is_item(piece: &Piece) -> bool {
+    match piece {
+        Piece::Declared { .. } => true,
+        Piece::Used { .. } => true,
+        Piece::This => true,
+        Piece::Jumped(_) => true,
+        Piece::Inside(_) => true,
+        Piece::EmptyBlock => true,
+        Piece::Many(_) => false,
+        Piece::Passed { .. } => false,
+        Piece::Kept(_) => false,
+    }
+}
+
+// Makes room in the present region for the items that these pieces tell, where there are more than a few.
+fn make_room(pieces: &[Piece], track: &mut Track) -> Result<(), AllocError>
+    ensures { track.new ≡ track.old }
+{
+    if pieces.len() > FEW {
+        let items = pieces.iter().filter(|piece| is_item(piece)).count();
+        track.reserve(items)?;
+    }
+    Ok(())
+}
+
 // A piece.
 #[cycle(telling)]
 fn tell_piece(piece: Piece, track: &mut Track, bodies: &mut Vec<Piece>) -> Result<(), AllocError>
@@ -59,6 +88,7 @@ fn tell_pieces(
     ensures lighter { OnOk result (weight bodies.new.items ≤ weight bodies.old.items) }
     ensures tells { OnOk result ((i : Interpretation) → Walks i track.old track.new bodies.old.items bodies.new.items (pieces_say i pieces.items)) }
 {
+    make_room(&pieces, track)?;
     for piece in pieces {
         tell_piece(piece, track, bodies)?;
     }

@@ -112,7 +112,7 @@ pub tell_pieces-returns-clause-tells : goal.tell_pieces-returns-clause-tells
 tell_pieces-returns-clause-tells t c =
     let start = c.into_iter-piece-iterator.ensures.into_iter_gives in
     let seen = YieldsList-end (YieldsList-from_vec c.args.pieces.items start.0 (start.1 ∙ c.args.pieces.ok.0)) c.loop-piece.yielded c.loop-piece.piece-iterator c.loop-piece.yielded_by c.next.result c.next.new.self c.in-None.is c.next.ensures.steps in
-    turn_end (sym (map-same c.loop-piece.yielded) ∙ seen.0) c.loop-piece.invariant
+    rw (← c.make_room.ensures) (turn_end (sym (map-same c.loop-piece.yielded) ∙ seen.0) c.loop-piece.invariant)
 
 pub tell_next-returns-in_ok-tell_piece-in-Some-clause-lighter : goal.tell_next-returns-in_ok-tell_piece-in-Some-clause-lighter
 tell_next-returns-in_ok-tell_piece-in-Some-clause-lighter t c =

@@ -143,9 +143,10 @@ pub fn function(
 {
     let Draft {
         code,
-        notes,
+        mut notes,
         next: _,
     } = draft_function(alloc, func, kind, name, &scopes, &inner, chain, texts)?;
+    notes.shrink_to_fit();
     Ok(FunctionStencil {
         extent: Extent {
             start: func.start,

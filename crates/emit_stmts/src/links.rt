@@ -25,7 +25,7 @@ fn link_names(
 ) -> Result<Vec<LinkName>, AllocError>
     ensures { IfOk result (λ names. names.items ≡ named_bindings texts.now bindings.now) }
 {
-    let mut names = Vec::new(alloc);
+    let mut names = Vec::with_capacity(alloc, bindings.len())?;
     for binding in bindings {
         names.push(LinkName {
             text: copy_text(alloc, texts, binding.atom)?,

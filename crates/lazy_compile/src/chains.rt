@@ -10,7 +10,7 @@ use stencil_data::Chain;
 pub(crate) fn chains_of(alloc: Global, inside: Vec<FunctionSite>) -> Result<Vec<Chain>, AllocError>
     ensures { IfOk result (λ chains. chains.items ≡ map (λ s. s.chain) inside.entry.items) }
 {
-    let mut chains = Vec::new(alloc);
+    let mut chains = Vec::with_capacity(alloc, inside.len())?;
     for site in inside {
         chains.push(site.chain)?;
     }

@@ -52,7 +52,7 @@ pub(crate) fn own_closed(
     ensures names { IfOk result (λ own. AreOwnNames texts.now atoms.new closed.now own.items) }
     ensures taken { OnOk result (TakesFrom texts.now atoms.old atoms.new) }
 {
-    let mut own = Vec::new(alloc);
+    let mut own = Vec::with_capacity(alloc, closed.len())?;
     for name in closed {
         let atom = own_atom(alloc, atoms, name.atom, texts)?;
         own.push(ClosedName {

@@ -41,7 +41,7 @@ impl<'a, N: Sources> Board<'a, N> {
         ensures { IfOk result (IsMadeOf file bytes.now initial.now) }
     {
         let parts = &initial.parts;
-        let mut cells = Vec::new(alloc);
+        let mut cells = Vec::with_capacity(alloc, parts.records.len())?;
         for _ in 0..parts.records.len() {
             cells.push(OnceBox::new(alloc))?;
         }
@@ -65,8 +65,8 @@ impl<'a, N: Sources> Board<'a, N> {
         ensures belongs { IfOk result (λ pass. BelongsTo pass self.now) }
         ensures nothing { IfOk result KnowsNothing }
     {
-        let mut notes = Vec::new(alloc);
-        let mut own = Vec::new(alloc);
+        let mut notes = Vec::with_capacity(alloc, self.cells.len())?;
+        let mut own = Vec::with_capacity(alloc, self.cells.len())?;
         for cell in &self.cells {
             notes.push(cell.note())?;
             own.push(None)?;

@@ -3,7 +3,7 @@ use Rattle.lazy_compile.proofs.OwnTexts.{atom_within, first_names, next_name, ta
 use Rattle.lazy_compile.proofs.own_texts.own_closed.Goals as goal
 
 pub loop-name-init : goal.loop-name-init
-loop-name-init c = first_names c.args.texts.now c.args.atoms.now c.new-own.result.items c.new-own.ensures.items c.requires.apart
+loop-name-init c = first_names c.args.texts.now c.args.atoms.now c.in_ok-own.own.items c.in_ok-own.ensures.items c.requires.apart
 
 pub own_atom-requires-clause-within : goal.own_atom-requires-clause-within
 own_atom-requires-clause-within c = atom_within (length c.args.texts.now) c.args.closed.now c.loop-name.name-index c.requires.within c.loop-name-test.true

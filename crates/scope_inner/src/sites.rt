@@ -28,7 +28,7 @@ pub fn extents_of(alloc: Global, sites: &[FunctionSite]) -> Result<Vec<Extent>, 
     ensures inner { IfOk result (λ extents. (i : Interpretation) (scopes : List NamedScope) (outer : List LinkView) (inner : List Inner)
         → map (sited i) sites.now ≡ map (sited_in scopes outer) inner → extents.items ≡ defined.extents_of inner) }
 {
-    let mut extents = Vec::new(alloc);
+    let mut extents = Vec::with_capacity(alloc, sites.len())?;
     for site in sites {
         extents.push(Extent {
             start: site.func.start,

@@ -45,11 +45,11 @@ use Rattle.early_script_errors.specs.Told.{own, IsOf, IsTold}
 use Rattle.early_script_errors.proofs.Own.{tree_own, braced_own}
 use Rattle.session_specs.specs.Sources.{IsValid, ErrorAt}
 use Rattle.compile_first_pass.specs.declared.skim.SkimmedScript.{SkimmedScript}
-use Rattle.compile_first_pass.specs.Skims.{SkimsScript}
+use Rattle.compile_first_pass.specs.Skims.{IsScriptApart, SkimsScript}
 use Rattle.compile_first_pass.specs.declared.pass.CheckedScript.{CheckedScript}
 use Rattle.compile_first_pass.specs.declared.pass.ListedScript.{ListedScript}
 use Rattle.compile_first_pass.specs.declared.pass.SourceFault.{SourceFault}
-use Rattle.compile_first_pass.specs.Passes.{IsChecked, IsCheckedScript, IsListed, IsReadApart, IsRefusedFor, IsSkimmedFile, IsSyntaxOf}
+use Rattle.compile_first_pass.specs.Passes.{IsChecked, IsCheckedScript, IsListed, IsRead, IsRefusedFor, IsSkimmedFile, IsSyntaxOf}
 use Rattle.compile_first_pass.proofs.FileLemmas.{of_file, script_read}
 
 pub none_of : {A : Type 0} (o : Option A) → ((x : A) → o ≡ Some x → ⊥) → o ≡ None
@@ -195,8 +195,9 @@ skimmed_file shows file script made shown skims =
 
 -- ---- what the steps answer
 
-pub script_apart : (file : FileTokens) (o : Result SkimmedScript SourceFault) (script : SkimmedScript) → IsReadApart file o → o ≡ Ok script → (items : Stmts) × IsSkimmedFile file script items
-script_apart file o script h is = subst (λ (x : Result SkimmedScript SourceFault). IsReadApart file x) is h
+pub script_apart : {B : Type 0} (shows : Interpretation → B → Stmts → Type 0) (file : FileTokens) (o : Result (Script B) SourceFault) (script : Script B) (made : SkimmedScript)
+    → IsRead shows file o → o ≡ Ok script → IsScriptApart shows script.top script.bodies.items made → (items : Stmts) × IsSkimmedFile file made items
+script_apart {B = B} shows file o script made h is apart = skimmed_file shows file script made (subst (λ (x : Result (Script B) SourceFault). IsRead shows file x) is h) apart
 
 pub script_checked : (file : FileTokens) (items : Stmts) (o : Result CheckedScript SourceFault) (checked : CheckedScript) → IsChecked file items o → o ≡ Ok checked → IsCheckedScript file items checked
 script_checked file items o checked h is = subst (λ (x : Result CheckedScript SourceFault). IsChecked file items x) is h

@@ -1,6 +1,7 @@
 -- What a first pass over a file comes to.
 use Rattle.std.specs.Prelude.{◌≡◌, ℕ, List, length, map, Result, Ok, Err}
 use Rattle.script_grammar.specs.Braced.{braced_all}
+use Rattle.script_grammar.specs.Interpretation.{Interpretation}
 use Rattle.script_grammar.specs.Tree.{Stmts}
 use Rattle.grammar_parser_specs.specs.Filling.{fill_stmts}
 use Rattle.parse_exprs.specs.Env.{body_at}
@@ -12,9 +13,10 @@ use Rattle.scope_analysis.specs.Functions.{inner_script}
 use Rattle.session_specs.specs.Refusals as line
 use Rattle.session_specs.specs.Sources.{IsValid, IsSource, IsRefused}
 use Rattle.session_words.specs.Asked.{All}
+use Rattle.parse_bodies.specs.declared.whole.Script.{Script}
 use Rattle.parse_bodies.specs.Whole.{IsText}
 use Rattle.parse_script.specs.declared.file_tokens.FileTokens.{FileTokens}
-use Rattle.parse_script.specs.Reading.{under}
+use Rattle.parse_script.specs.Reading.{under, IsShown}
 use Rattle.parse_script.specs.Tokens.{tokens_in, AreTokensOf, IsSound}
 use Rattle.early_script_errors.specs.Told.{own, IsOf, IsTold}
 use Rattle.parse_function_list.specs.Placed.{ArePlaced}
@@ -68,10 +70,10 @@ pub record IsSkimmedFile (file : FileTokens) (script : SkimmedScript) (items : S
 abbrev pub IsRefusedFor : FileTokens → SourceFault → Type 0
 IsRefusedFor file fault = (bytes : List ℕ) → AreTokensOf file (length bytes) bytes → IsSource All bytes (IsRefused (refusal_of fault))
 
--- what reading a file's script and taking it apart comes to
-abbrev pub IsReadApart : FileTokens → Result SkimmedScript SourceFault → Type 0
-IsReadApart file (Ok script) = (items : Stmts) × IsSkimmedFile file script items
-IsReadApart file (Err fault) = IsRefusedFor file fault
+-- what reading a file's script by a handler comes to
+abbrev pub IsRead : {B : Type 0} → (Interpretation → B → Stmts → Type 0) → FileTokens → Result (Script B) SourceFault → Type 0
+IsRead shows file (Ok script) = (bodies : ℕ → Stmts) → IsShown shows (under file.texts.items bodies) (tokens_in file) script
+IsRead shows file (Err fault) = IsRefusedFor file fault
 
 -- The file is the script of these statements, of which this is told, these are its functions, and this is its first early error of
 -- a rule that looks at no region.

@@ -7,10 +7,11 @@ ghost use Rattle.script_grammar.specs.Tree.{Stmts};
 ghost use Rattle.session_specs.specs.Sources as source;
 ghost use Rattle.parse_script.specs.declared.file_tokens.FileTokens.{FileTokens};
 ghost use Rattle.parse_script.specs.Tokens.{AreTokensOf, IsSound};
-ghost use Rattle.compile_first_pass.specs.Passes.{IsChecked, IsFirstPass, IsListed, IsReadApart, IsSkimmedFile};
+ghost use Rattle.compile_first_pass.specs.Passes.{IsChecked, IsFirstPass, IsListed, IsRead, IsSkimmedFile};
 
 use crate::skim::{SkimmedScript, Skims, skim};
 use early_script_errors::check_told;
+use parse_bodies::whole::Script;
 use parse_early_handler::early::{first_of_bodies, sooner};
 use parse_exprs::place::ParseFault;
 use parse_function_list::{ListedFunction, functions_of};
@@ -18,6 +19,7 @@ use parse_script::{FileTokens, read_script, tokens_of};
 use parse_track::region::{ClosedAt, Early, WellKnownAtoms};
 use parse_track_pieces::Piece;
 use script_grammar::compact::CompactToken;
+use script_grammar::handler::Handler;
 use std::alloc::{AllocError, Global};
 use unit_text::DecodeFault;
 
@@ -98,20 +100,17 @@ pub fn start_of(tokens: &[CompactToken], token: u32) -> u32
     }
 }
 
-/// Reads the script of a file by this handler, and takes it apart; or finds why the file is none.
-pub(crate) fn read_apart<H: Skims + Drop>(
+/// Reads the script of a file by this handler, or finds why the file is none.
+pub(crate) fn read_file<H: Handler + Drop>(
     alloc: Global,
     handler: H,
     file: &FileTokens,
-) -> Result<Result<SkimmedScript, SourceFault>, AllocError>
+) -> Result<Result<Script<H::B>, SourceFault>, AllocError>
     requires { IsSound file.now }
-    ensures { IfOk result (IsReadApart file.now) }
+    ensures { IfOk result (IsRead H.shows_body file.now) }
 {
     match read_script(alloc, file, handler) {
-        Ok(script) => {
-            let skimmed = skim::<H>(alloc, script)?;
-            Ok(Ok(skimmed))
-        }
+        Ok(script) => Ok(Ok(script)),
         Err(ParseFault::Unexpected { token }) => {
             let offset = start_of(&file.tokens, token);
             Ok(Err(SourceFault::Unexpected { offset }))
@@ -178,11 +177,12 @@ fn pass_over<H: Skims + Drop>(
     requires { IsSound file }
     ensures { IfOk result (λ pass. (bytes : List ℕ) → AreTokensOf file (length bytes) bytes → IsFirstPass bytes pass) }
 {
-    let script = match read_apart(alloc, handler, &file)? {
+    let script = match read_file(alloc, handler, &file)? {
         Ok(script) => script,
         Err(fault) => return Ok(FirstPass::Refused(fault)),
     };
-    match check_skimmed(alloc, file.known, script)? {
+    let skimmed = skim::<H>(alloc, script)?;
+    match check_skimmed(alloc, file.known, skimmed)? {
         Ok(CheckedScript { functions, closed }) => Ok(FirstPass::Script(SyntaxScript {
             file,
             functions,

@@ -64,9 +64,10 @@ pub(crate) struct SkimmedScript {
 fn skim_bodies<H: Skims>(alloc: Global, bodies: Vec<H::B>) -> Result<SkimmedBodies, AllocError>
     ensures { IfOk result (λ made. AreSkimmed H.shows_body bodies.items made.told.items made.found.items made.errors.items) }
 {
-    let mut told = Vec::new(alloc);
-    let mut found = Vec::new(alloc);
-    let mut errors = Vec::new(alloc);
+    let count = bodies.len();
+    let mut told = Vec::with_capacity(alloc, count)?;
+    let mut found = Vec::with_capacity(alloc, count)?;
+    let mut errors = Vec::with_capacity(alloc, count)?;
     for body in bodies {
         let skimmed = H::apart(body);
         told.push(skimmed.told)?;

@@ -1,12 +1,12 @@
-//! Whether a file is a script without errors, where nobody reads it further: its tokens are let go of before the names are looked at,
+//! Whether a file is a script without errors, where nobody reads it further: its tokens are let go of as soon as it is read,
 //! and the names that inner functions close over are not looked for.
 
 ghost use Rattle.std.specs.Prelude.{◌≡◌, ◌≤◌, ℕ, List, length, IfOk};
 ghost use Rattle.parse_script.specs.Tokens.{AreTokensOf, IsSound};
 ghost use Rattle.compile_first_pass.specs.Passes.{IsVerdict};
 
-use crate::pass::{ListedScript, SourceFault, list_skimmed, read_apart};
-use crate::skim::Skims;
+use crate::pass::{ListedScript, SourceFault, list_skimmed, read_file};
+use crate::skim::{Skims, skim};
 use early_script_errors::first_early_error;
 use parse_script::{FileTokens, tokens_of};
 use parse_track::region::WellKnownAtoms;
@@ -40,12 +40,13 @@ fn check_over<H: Skims + Drop>(
     requires { IsSound file }
     ensures { IfOk result (λ verdict. (bytes : List ℕ) → AreTokensOf file (length bytes) bytes → IsVerdict bytes verdict) }
 {
-    let script = match read_apart(alloc, handler, &file)? {
+    let script = match read_file(alloc, handler, &file)? {
         Ok(script) => script,
         Err(fault) => return Ok(FileVerdict::Refused(fault)),
     };
     let known = known_of(file);
-    let listed = list_skimmed(alloc, script)?;
+    let skimmed = skim::<H>(alloc, script)?;
+    let listed = list_skimmed(alloc, skimmed)?;
     let ListedScript {
         top,
         bodies,

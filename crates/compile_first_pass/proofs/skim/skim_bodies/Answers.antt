@@ -7,7 +7,7 @@ use Rattle.compile_first_pass.proofs.SkimLemmas.{none_skimmed, more_skimmed}
 use Rattle.compile_first_pass.proofs.skim.skim_bodies.Goals as goal
 
 pub loop-body-init : goal.loop-body-init
-loop-body-init g c = none_skimmed g.H.Handler.shows_body c.new-told.result.items c.new-found.result.items c.new-errors.result.items c.new-told.ensures.items c.new-found.ensures.items c.new-errors.ensures.items
+loop-body-init g c = none_skimmed g.H.Handler.shows_body c.in_ok-told.told.items c.in_ok-found.found.items c.in_ok-errors.errors.items c.in_ok-told.ensures.items c.in_ok-found.ensures.items c.in_ok-errors.ensures.items
 
 pub loop-body-preserved : goal.loop-body-preserved
 loop-body-preserved g c =

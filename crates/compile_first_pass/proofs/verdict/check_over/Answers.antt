@@ -6,7 +6,7 @@ use Rattle.compile_first_pass.proofs.verdict.check_over.Goals as goal
 pub returns-in-None : goal.returns-in-None
 returns-in-None g c = λ bytes tokens.
     let file = c.args.file in
-    let apart = script_apart file c.in_ok-script.field-0 c.in-Ok.script c.in_ok-script.ensures c.in-Ok.is in
+    let apart = script_apart g.H.Handler.shows_body file c.in_ok-script.field-0 c.in-Ok.script c.in_ok-skimmed.skimmed c.in_ok-script.ensures c.in-Ok.is c.in_ok-skimmed.ensures in
     let listed = c.in_ok-listed.ensures file apart.0 c.requires apart.1 in
     let of = of_known file apart.0 c.in_ok-listed.listed listed c.known_of-known.result (sym c.known_of-known.ensures) in
     let early = c.in_ok-first_early_error.ensures file.texts.items apart.0 of listed.told in
@@ -16,7 +16,7 @@ returns-in-None g c = λ bytes tokens.
 pub returns : goal.returns
 returns g c = λ bytes tokens.
     let file = c.args.file in
-    let apart = script_apart file c.in_ok-script.field-0 c.in-Ok.script c.in_ok-script.ensures c.in-Ok.is in
+    let apart = script_apart g.H.Handler.shows_body file c.in_ok-script.field-0 c.in-Ok.script c.in_ok-skimmed.skimmed c.in_ok-script.ensures c.in-Ok.is c.in_ok-skimmed.ensures in
     let listed = c.in_ok-listed.ensures file apart.0 c.requires apart.1 in
     let of = of_known file apart.0 c.in_ok-listed.listed listed c.known_of-known.result (sym c.known_of-known.ensures) in
     let early = c.in_ok-first_early_error.ensures file.texts.items apart.0 of listed.told in

@@ -5,12 +5,11 @@ use Rattle.parse_script.specs.Reading.{under}
 use Rattle.parse_script.specs.Tokens.{tokens_in}
 use Rattle.parse_script.proofs.ReadLemmas.{read_unexpected, read_too_deep}
 use Rattle.compile_first_pass.proofs.FileLemmas.{fault_of}
-use Rattle.compile_first_pass.proofs.PassLemmas.{skimmed_file}
 use Rattle.compile_first_pass.proofs.TokenStarts.{starts_same}
-use Rattle.compile_first_pass.proofs.pass.read_apart.Goals as goal
+use Rattle.compile_first_pass.proofs.pass.read_file.Goals as goal
 
-pub returns-in_ok-skimmed-in-Ok : goal.returns-in_ok-skimmed-in-Ok
-returns-in_ok-skimmed-in-Ok g c = skimmed_file g.H.Handler.shows_body c.args.file.now c.in-Ok.script c.in_ok-skimmed-in-Ok.skimmed c.in-Ok.ensures c.in_ok-skimmed-in-Ok.ensures
+pub returns-in-Ok : goal.returns-in-Ok
+returns-in-Ok g c = c.in-Ok.ensures
 
 pub returns-in-Err-Unexpected : goal.returns-in-Err-Unexpected
 returns-in-Err-Unexpected g c = λ bytes t.

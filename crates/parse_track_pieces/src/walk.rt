@@ -23,6 +23,10 @@ use std::alloc::AllocError;
 // For so many pieces a track needs no room beforehand.
 const FEW: usize = 4;
 
+// Where there are more pieces than this, the list of their items grows as they are told: it is seldom moved then, and takes the memory that
+// told pieces gave back.
+const MANY: usize = 64;
+
 // Whether a piece tells one item of the region where it stands.
 fn is_item(piece: &Piece) -> bool {
     match piece {
@@ -38,11 +42,11 @@ fn is_item(piece: &Piece) -> bool {
     }
 }
 
-// Makes room in the present region for the items that these pieces tell, where there are more than a few.
+// Makes room in the present region for the items that these pieces tell, where there are more than a few and not too many.
 fn make_room(pieces: &[Piece], track: &mut Track) -> Result<(), AllocError>
     ensures { track.new ≡ track.old }
 {
-    if pieces.len() > FEW {
+    if pieces.len() > FEW && pieces.len() <= MANY {
         let items = pieces.iter().filter(|piece| is_item(piece)).count();
         track.reserve(items)?;
     }

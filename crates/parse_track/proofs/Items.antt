@@ -9,7 +9,7 @@ use Rattle.parse_track.specs.declared.track.Item.TheVariants as row
 use Rattle.parse_track.specs.Asked.{asks, asked_in}
 use Rattle.parse_track.specs.ClosedNames.{has_body, names_of}
 use Rattle.parse_track.specs.Log as log
-use Rattle.parse_track.specs.Log.{Part, Item, name_of, kind_of, at_of, items_of, told_items, told_region}
+use Rattle.parse_track.specs.Log.{Part, Item, name_of, kind_of, items_of, told_items, told_region}
 use Rattle.parse_track.specs.Rows.{item_of, items_at}
 use Rattle.parse_track.specs.declared.track.Item as RegionRow
 
@@ -79,16 +79,6 @@ body_found parts room n items e =
 pub names_atoms : (names : List Ident) → names_of (map name_of names) ≡ map (λ (name : Ident). name.atom) names
 names_atoms [] = refl
 names_atoms (name ∷ names) = ap (λ (xs : List ℕ). name.atom ∷ xs) (names_atoms names)
-
-pub direct_atoms_are : (parts : List Part) (room n : ℕ) (a : Asked) (items : List RegionRow.Item) (names : List Ident) (atoms : List ℕ)
-    → map item_of items ≡ items_at room parts n → names ≡ filter_map (asked_in a) items → atoms ≡ map (λ (name : Ident). name.atom) names
-    → atoms ≡ names_of (directly (asks a) (told_region room parts n))
-direct_atoms_are parts room n a items names atoms e f g =
-    g ∙ (ap (map (λ (name : Ident). name.atom)) f ∙ (sym (names_atoms (filter_map (asked_in a) items)) ∙ ap names_of (sym (directly_filtered parts room n a items e))))
-
-pub var_atoms_are : (parts : List Part) (room n : ℕ) (names : List Ident) (atoms : List ℕ) → map name_of names ≡ vars (told_region room parts n)
-    → atoms ≡ map (λ (name : Ident). name.atom) names → atoms ≡ names_of (vars (told_region room parts n))
-var_atoms_are parts room n names atoms e f = f ∙ (sym (names_atoms names) ∙ ap names_of e)
 
 -- a loop over the items of a region has come to its end
 pub list_done : (F : Told ℕ → List (Name ℕ)) (parts : List Part) (room n : ℕ) (old now : List (Name ℕ)) (items left : List RegionRow.Item) → left ≡ [] → F nothing ≡ []

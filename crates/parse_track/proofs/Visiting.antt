@@ -1,7 +1,9 @@
 -- A visit of items one by one, and of a region with its names, is the walk over what they tell.
 use Rattle.std.proofs.Common.{◌≡◌, ℕ, suc, ◌+◌, ◌-◌, Bool, true, false, cond, nat_eq, Option, None, Some, List, [], ◌∷◌, ◌++◌, length, map, drop, slice_get, refl, sym, ap, subst, ◌∙◌, arith, append-nil, append_assoc, length-append, add-zero, add_assoc}
-use Rattle.std.proofs.lemmas.List.{length-map}
+use Rattle.std.proofs.Math.Seq.{drop-append_seam}
+use Rattle.std.proofs.lemmas.List.{length-map, map-append, drop-map}
 use Rattle.std.proofs.lemmas.Bool.{eqb-true, eq-eqb}
+use Rattle.parse_track.specs.declared.region.ClosedAt.{ClosedAt}
 use Rattle.parse_track.specs.declared.closed.Top.{Top}
 use Rattle.parse_track.specs.declared.track.Item as row
 use Rattle.parse_track.specs.Told.{Region, Script, Function, Arrow, Lambda, Block, Switch, ForHead, Catch, Loop, Label, VarBody, Leaf, Declared, Used, Jumped, Told, nothing, leaf, inner, KnownNames}
@@ -12,6 +14,8 @@ use Rattle.parse_track.specs.Log as log
 use Rattle.parse_track.specs.Log.{Part, Item, kind_of, told_items, told_region}
 use Rattle.parse_track.specs.declared.track.RegionRow.{RegionRow}
 use Rattle.parse_track.specs.Rows.{item_of, row_of, items_at}
+use Rattle.parse_track.specs.Scopes.{bound_of, bounds_of}
+use Rattle.parse_track.specs.Shadows.{atoms_bound}
 use Rattle.parse_track.specs.Walk.{Tops, put, bind_all, hit, deeper, size, walk}
 use Rattle.parse_track.specs.Visited.{Stand, Visits}
 use Rattle.parse_track.proofs.Items.{region_tells}
@@ -70,6 +74,31 @@ length-bindings known (inner k at i t) named func scope =
 
     next : ℕ
     next = scope + cond (begins named k) 0 (length (scopes nat_eq known k i) + scope_count nat_eq known (is_lambda k) i)
+
+-- the names of the bindings of some scopes
+names_bound_in : (func : Option ℕ) (scope : ℕ) (xs : List ℕ) → map (λ (b : Bound ℕ). b.name) (bound_in func scope xs) ≡ xs
+names_bound_in func scope [] = refl
+names_bound_in func scope (x ∷ xs) = ap (λ (ys : List ℕ). x ∷ ys) (names_bound_in func scope xs)
+
+names_bound_by : (func : Option ℕ) (scope : ℕ) (xss : List (List ℕ)) → map (λ (b : Bound ℕ). b.name) (bound_by func scope xss) ≡ joined xss
+names_bound_by func scope [] = refl
+names_bound_by func scope (xs ∷ xss) =
+    map-append (λ (b : Bound ℕ). b.name) (bound_in func scope xs) (bound_by func (scope + 1) xss)
+    ∙ (ap (λ (ys : List ℕ). ys ++ map (λ (b : Bound ℕ). b.name) (bound_by func (scope + 1) xss)) (names_bound_in func scope xs)
+    ∙ ap (λ (ys : List ℕ). xs ++ ys) (names_bound_by func (scope + 1) xss))
+
+names_of_bounds : (ats : List ClosedAt) → atoms_bound ats ≡ map (λ (b : Bound ℕ). b.name) (bounds_of ats)
+names_of_bounds [] = refl
+names_of_bounds (at ∷ ats) = ap (λ (xs : List ℕ). at.atom ∷ xs) (names_of_bounds ats)
+
+pub names_opened : (before now : List ClosedAt) (func : Option ℕ) (scope place : ℕ) (xss : List (List ℕ)) → place ≡ length (bounds_of before)
+    → bounds_of now ≡ bounds_of before ++ bound_by func scope xss → atoms_bound (drop place now) ≡ joined xss
+names_opened before now func scope place xss e f =
+    names_of_bounds (drop place now)
+    ∙ (ap (map (λ (b : Bound ℕ). b.name))
+    (sym (drop-map bound_of place now)
+    ∙ (ap (drop place) f ∙ (ap (λ (n : ℕ). drop n (bounds_of before ++ bound_by func scope xss)) e ∙ drop-append_seam (bounds_of before) (bound_by func scope xss))))
+    ∙ names_bound_by func scope xss)
 
 -- nothing more to visit
 pub visits_none : (known : KnownNames ℕ) (named : Bool) (func : Option ℕ) (depth : ℕ) (a : Stand) → Visits known named func depth a a nothing

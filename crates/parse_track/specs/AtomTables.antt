@@ -1,5 +1,5 @@
 -- What a table by atom says of an atom: nothing past its end.
-use Rattle.std.specs.Prelude.{ℕ, ◌≡◌, Bool, false, nat_eq, Option, None, List, get_or}
+use Rattle.std.specs.Prelude.{ℕ, ◌≡◌, false, nat_eq, Option, None, List, get_or}
 use Rattle.parse_track.specs.EarlyErrors.{has}
 
 abbrev pub entry : {V : Type 0} → List (Option V) → ℕ → Option V

@@ -11,6 +11,7 @@ pub mod AtomSets
 pub mod Walk
 pub mod Asked
 pub mod Scopes
+pub mod Shadows
 pub mod Visited
 pub mod Rules
 pub mod Clashes

@@ -1,16 +1,13 @@
--- Lists of lists, as the code keeps them.
-use Rattle.std.specs.Prelude.{ℕ, ◌≡◌, List, [], ◌∷◌, ◌++◌, map, nat_eq}
-use Rattle.std.specs.declared.vec.Vec.{Vec}
-use Rattle.std.specs.declared.alloc.Global.{Global}
+-- The scopes of a region and their bindings, as the code keeps them.
+use Rattle.std.specs.Prelude.{ℕ, ◌≡◌, ◌+◌, Option, List, [], ◌∷◌, ◌++◌, map, nat_eq, length}
+use Rattle.script_grammar.specs.declared.tree.Ident.{Ident}
 use Rattle.parse_track.specs.declared.region.ClosedAt.{ClosedAt}
 use Rattle.parse_track.specs.declared.names.Asked.TheVariants as asked
 use Rattle.parse_track.specs.Asked.{asks}
-use Rattle.parse_track.specs.Told.{Name, Region, Told, KnownNames}
+use Rattle.parse_track.specs.Told.{Name, Told}
 use Rattle.parse_track.specs.RegionNames.{vars, directly}
-use Rattle.parse_track.specs.ClosedNames.{Bound, distinct, names_of, scopes, function_scopes, scope_if_any, has_body}
-
-abbrev pub items_of_lists : List (Vec ℕ Global) → List (List ℕ)
-items_of_lists lists = map (λ xs. xs.items) lists
+use Rattle.parse_track.specs.Log.{name_of}
+use Rattle.parse_track.specs.ClosedNames.{Bound, bound_by, distinct, names_of, function_scopes, scope_if_any, has_body}
 
 -- a binding, as the code keeps it
 abbrev pub bound_of : ClosedAt → Bound ℕ
@@ -19,9 +16,15 @@ bound_of at = record { func = at.func; scope = at.scope; name = at.atom }
 abbrev pub bounds_of : List ClosedAt → List (Bound ℕ)
 bounds_of ats = map bound_of ats
 
--- these are the scopes of a region
-abbrev pub AreScopes : KnownNames ℕ → Region ℕ → Told ℕ → List (Vec ℕ Global) → Type 0
-AreScopes known k told lists = items_of_lists lists ≡ scopes nat_eq known k told
+-- what these names are, wherever they stand
+abbrev pub names_in : List Ident → List ℕ
+names_in names = names_of (map name_of names)
+
+-- the bindings of these scopes of a function come after those before, where the first scope has this number; and the number of
+-- the next scope
+pub record Opens (func : Option ℕ) (scope : ℕ) (before now : List ClosedAt) (next : ℕ) (scopes : List (List ℕ)) : Type 0 where
+  pub binds : bounds_of now ≡ bounds_of before ++ bound_by func scope scopes
+  pub next_is : next ≡ scope + length scopes
 
 -- the scope of some names, where there are any
 abbrev pub scope_of : List (Name ℕ) → List (List ℕ)

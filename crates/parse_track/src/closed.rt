@@ -1,23 +1,22 @@
 //! The names that inner functions close over, by one walk from the outside in.
 
-ghost use Rattle.std.specs.Prelude.{◌≡◌, ◌<◌, ◌≤◌, ◌+◌, ◌^◌, ◌++◌, ◌∷◌, [], ℕ, Option, List, Bool, false, length, slice_get, cond, Some};
-ghost use Rattle.std.specs.Prelude.{None, IfOk, OnOk, map, nat_eq};
+ghost use Rattle.std.specs.Prelude.{◌≡◌, ◌<◌, ◌+◌, ◌^◌, ◌++◌, [], ℕ, Option, false, length, slice_get, cond, Some};
+ghost use Rattle.std.specs.Prelude.{None, IfOk, OnOk, map};
 ghost use Rattle.parse_track.specs.AtomTables.{entry};
 ghost use Rattle.parse_track.specs.RegionNames.{is_lambda};
-ghost use Rattle.parse_track.specs.ClosedNames.{begins, joined, bound_in, bound_by, first_at};
+ghost use Rattle.parse_track.specs.ClosedNames.{begins, first_at};
 ghost use Rattle.parse_track.specs.Told.{Told};
 ghost use Rattle.parse_track.specs.Log.{region_of, kind_of, known_names, told_items};
 ghost use Rattle.parse_track.specs.Log.{at_of as offset_of};
 ghost use Rattle.parse_track.specs.Rows.{item_of, row_of, told_at, told_by, told_inner};
-ghost use Rattle.parse_track.specs.Scopes.{items_of_lists, bound_of, bounds_of};
+ghost use Rattle.parse_track.specs.Shadows.{atoms_bound, shadow_of, bind_back};
 ghost use Rattle.parse_track.specs.Walk.{bind_all, hit, deeper};
 ghost use Rattle.parse_track.specs.Visited.{IsVisited, begun_at};
 
-use crate::atom_set::AtomSet;
-use crate::atom_table::{AtomTable, look_up, put_back};
+use crate::atom_table::AtomTable;
 use crate::names::items_at;
 use crate::region::{ClosedAt, Region, WellKnownAtoms};
-use crate::scopes::scopes_of;
+use crate::scopes::{ScopeScratch, open_scopes};
 use crate::track::{Item, RegionRow};
 use std::alloc::{AllocError, Global};
 
@@ -28,79 +27,67 @@ pub struct Top {
     pub depth: usize,
 }
 
-/// Binds these names, the first at this place.
-fn bind(
-    env: &mut AtomTable<Top>,
-    names: &[u32],
-    place: usize,
-    depth: usize,
-) -> Result<(), AllocError>
-    requires { place + length names.now < 2 ^ 64 }
-    ensures { OnOk result ((y : ℕ) → entry env.new.entries.items y ≡ bind_all depth place names.now (entry env.old.entries.items) y) }
-{
-    for (index, name) in names.iter().enumerate() {
-        let top = Top {
-            place: place + index,
-            depth,
-        };
-        env.set(*name, Some(top))?;
-    }
-    Ok(())
+/// What a name was bound to where a scope binds it anew.
+#[derive(Clone, Copy)]
+pub struct Shadowed {
+    pub atom: u32,
+    pub outer: Option<Top>,
 }
 
-/// The names of these scopes, one after the other.
-fn join(alloc: Global, scopes: &[Vec<u32>]) -> Result<Vec<u32>, AllocError>
-    ensures { IfOk result (λ names. names.items ≡ joined (items_of_lists scopes.now)) }
-{
-    let mut names = Vec::new(alloc);
-    for scope in scopes {
-        names.extend_from_slice(scope)?;
-    }
-    Ok(names)
-}
-
-/// Adds the bindings of a scope.
-fn push_scope(
-    bound: &mut Vec<ClosedAt>,
-    func: Option<u32>,
-    scope: u32,
-    names: &[u32],
+/// Keeps what the names of these bindings are bound to, before they are bound anew.
+fn shadow(
+    env: &AtomTable<Top>,
+    bound: &[ClosedAt],
+    shadowed: &mut Vec<Shadowed>,
 ) -> Result<(), AllocError>
-    ensures { OnOk result (bounds_of bound.new.items ≡ bounds_of bound.old.items ++ bound_in func scope names.now) }
+    ensures { OnOk result (shadowed.new.items ≡ shadowed.old.items ++ map (shadow_of (entry env.now.entries.items)) bound.now) }
 {
-    for name in names {
-        bound.push(ClosedAt {
-            func,
-            scope,
-            atom: *name,
+    for at in bound {
+        shadowed.push(Shadowed {
+            atom: at.atom,
+            outer: env.get(at.atom),
         })?;
     }
     Ok(())
 }
 
-/// Adds the bindings of these scopes, of which the first has the number `from`.
-fn push_scopes(
-    bound: &mut Vec<ClosedAt>,
-    func: Option<u32>,
-    from: u32,
-    scopes: &[Vec<u32>],
+/// Binds the names of these bindings, of which the first is at this place.
+fn bind(
+    env: &mut AtomTable<Top>,
+    bound: &[ClosedAt],
+    place: usize,
+    depth: usize,
 ) -> Result<(), AllocError>
-    requires { from + length scopes.now < 2 ^ 32 }
-    ensures { OnOk result (bounds_of bound.new.items ≡ bounds_of bound.old.items ++ bound_by func from (items_of_lists scopes.now)) }
+    requires { place + length bound.now < 2 ^ 64 }
+    ensures { OnOk result ((y : ℕ) → entry env.new.entries.items y ≡ bind_all depth place (atoms_bound bound.now) (entry env.old.entries.items) y) }
 {
-    for (index, scope) in scopes.iter().enumerate() {
-        push_scope(bound, func, from + index as u32, scope)?;
+    for (index, at) in bound.iter().enumerate() {
+        let top = Top {
+            place: place + index,
+            depth,
+        };
+        env.set(at.atom, Some(top))?;
     }
     Ok(())
 }
 
-/// What a walk has found: to what each name is bound at present, the bindings so far, and the places of those that
-/// inner functions close over.
+/// Binds names to what they were bound to.
+fn bind_back(env: &mut AtomTable<Top>, shadowed: &[Shadowed]) -> Result<(), AllocError>
+    ensures { OnOk result ((y : ℕ) → entry env.new.entries.items y ≡ bind_back shadowed.now (entry env.old.entries.items) y) }
+{
+    for name in shadowed {
+        env.set(name.atom, name.outer)?;
+    }
+    Ok(())
+}
+
+/// What a walk has found: to what each name is bound at present, what it was bound to around the scopes that are open, the
+/// bindings so far, and the places of those that inner functions close over.
 #[derive(Drop)]
 pub struct FoundClosed {
-    /// For what needs a set of atoms on the way.
-    pub seen: AtomSet,
+    pub scratch: ScopeScratch,
     pub env: AtomTable<Top>,
+    pub shadowed: Vec<Shadowed>,
     pub bound: Vec<ClosedAt>,
     pub hits: Vec<usize>,
 }
@@ -113,8 +100,9 @@ impl FoundClosed {
         ensures hits { result.hits.items ≡ [] }
     {
         FoundClosed {
-            seen: AtomSet::new(alloc),
+            scratch: ScopeScratch::new(alloc),
             env: AtomTable::new(alloc),
+            shadowed: Vec::new(alloc),
             bound: Vec::new(alloc),
             hits: Vec::new(alloc),
         }
@@ -164,22 +152,11 @@ fn scope_behind(begun: bool, scope: u32, end: u32) -> u32
     if begun { scope } else { end }
 }
 
-/// The number after those of these scopes, of which the first has the number `from`.
-fn next_scope(from: u32, scopes: &[Vec<u32>]) -> Result<u32, AllocError>
-    ensures { IfOk result (λ next. (next ≡ from + length scopes.now) × (next < 2 ^ 32)) }
-{
-    let next = from as usize + scopes.len();
-    if next <= u32::MAX as usize {
-        Ok(next as u32)
-    } else {
-        Err(AllocError)
-    }
-}
-
 /// A use of a name hits its innermost binding, where that is of a function further out.
 fn visit_use(found: &mut FoundClosed, name: u32, depth: usize) -> Result<(), AllocError>
     ensures hits { OnOk result (found.new.hits.items ≡ found.old.hits.items ++ hit (entry found.old.env.entries.items name) depth) }
     ensures env { found.new.env ≡ found.old.env }
+    ensures shadowed { found.new.shadowed ≡ found.old.shadowed }
     ensures bound { found.new.bound ≡ found.old.bound }
 {
     if let Some(top) = found.env.get(name) {
@@ -294,7 +271,8 @@ fn visit_item(
     found: &mut FoundClosed,
 ) -> Result<u32, AllocError>
     requires { around.depth + room + 1 < 2 ^ 64 }
-    ensures { IfOk result (λ next. IsVisited (known_names known.now) around scope found.old found.new next (told_by room rows.now item)) }
+    ensures visited { IfOk result (λ next. IsVisited (known_names known.now) around scope found.old found.new next (told_by room rows.now item)) }
+    ensures shadowed { OnOk result (found.new.shadowed.items ≡ found.old.shadowed.items) }
 {
     match item {
         Item::Declared(_, _) => Ok(scope),
@@ -320,21 +298,31 @@ pub fn visit_inner(
     found: &mut FoundClosed,
 ) -> Result<u32, AllocError>
     requires { around.depth + room + 1 < 2 ^ 64 }
-    ensures { IfOk result (λ next. IsVisited (known_names known.now) around scope found.old found.new next (told_inner room rows.now region)) }
+    ensures visited { IfOk result (λ next. IsVisited (known_names known.now) around scope found.old found.new next (told_inner room rows.now region)) }
+    ensures shadowed { OnOk result (found.new.shadowed.items ≡ found.old.shadowed.items) }
 {
     let kind = kind_at(rows, region);
-    let scopes = scopes_of(alloc, &mut found.seen, known, rows, room, kind, region)?;
-    let names = join(alloc, &scopes)?;
     let inside = around_inside(rows, room, kind, region, around);
     let begun = begins(around.named, kind);
     let from = first_scope(begun, scope);
-    let next = next_scope(from, &scopes)?;
     let place = count(&found.bound);
-    let saved = look_up(alloc, &found.env, &names)?;
-    bind(&mut found.env, &names, place, inside.depth)?;
-    push_scopes(&mut found.bound, inside.func, from, &scopes)?;
+    let next = open_scopes(
+        &mut found.scratch,
+        known,
+        rows,
+        room,
+        kind,
+        region,
+        inside.func,
+        from,
+        &mut found.bound,
+    )?;
+    let outside = found.shadowed.len();
+    shadow(&found.env, &found.bound[place..], &mut found.shadowed)?;
+    bind(&mut found.env, &found.bound[place..], place, inside.depth)?;
     let end = visit(alloc, known, rows, room, region, inside, next, found)?;
-    put_back(&mut found.env, &names, &saved)?;
+    bind_back(&mut found.env, &found.shadowed[outside..])?;
+    found.shadowed.truncate(outside);
     let behind = scope_behind(begun, scope, end);
     Ok(behind)
 }
@@ -352,7 +340,8 @@ fn visit(
     found: &mut FoundClosed,
 ) -> Result<u32, AllocError>
     requires { around.depth + room < 2 ^ 64 }
-    ensures { IfOk result (λ next. IsVisited (known_names known.now) around scope found.old found.new next (told_at room rows.now region)) }
+    ensures visited { IfOk result (λ next. IsVisited (known_names known.now) around scope found.old found.new next (told_at room rows.now region)) }
+    ensures shadowed { OnOk result (found.new.shadowed.items ≡ found.old.shadowed.items) }
 {
     let mut next = scope;
     for item in items_at(rows, room, region) {

@@ -1,34 +1,38 @@
-//! The scopes of a region, each with the atoms of its names.
+//! The scopes of a region: each is opened with the bindings of its names.
 
-ghost use Rattle.std.specs.Prelude.{◌≡◌, ◌++◌, ◌∷◌, [], IfOk, OnOk, map, nat_eq};
-ghost use Rattle.std.specs.List.{list_any};
+ghost use Rattle.std.specs.Prelude.{◌≡◌, ◌++◌, ◌∷◌, [], ◌+◌, IfOk, OnOk, map, nat_eq};
+ghost use Rattle.std.specs.List.{filter_map, list_any};
 ghost use Rattle.parse_track.specs.Told.{nothing};
 ghost use Rattle.parse_track.specs.RegionNames.{vars, directly};
-ghost use Rattle.parse_track.specs.ClosedNames.{distinct, names_of, scopes, scope_if_any, has_body};
-ghost use Rattle.parse_track.specs.Log.{name_of, region_of, kind_of, known_names, told_items};
-ghost use Rattle.parse_track.specs.Rows.{item_of, row_of, items_at, told_at};
+ghost use Rattle.parse_track.specs.ClosedNames.{distinct, names_of, scopes, scope_if_any, has_body, bound_in};
+ghost use Rattle.parse_track.specs.Log.{region_of, known_names, told_items};
+ghost use Rattle.parse_track.specs.Rows.{item_of, row_of, items_at, told_at, GainsNames};
 ghost use Rattle.parse_track.specs.Asked.{asks, asked_in};
-ghost use Rattle.parse_track.specs.Scopes.{items_of_lists, AreScopes, scope_of, function_scopes_of, script_scopes_of, body_scopes_of};
+ghost use Rattle.parse_track.specs.declared.names.Asked.TheVariants.{Param};
+ghost use Rattle.parse_track.specs.Scopes.{Opens, bounds_of, names_in, scope_of, function_scopes_of, script_scopes_of, body_scopes_of};
 
 use crate::atom_set::AtomSet;
-use crate::names::{Asked, add_vars, direct_names, items_at};
-use crate::region::{Region, WellKnownAtoms};
+use crate::names::{Asked, add_vars, declared, items_at};
+use crate::region::{ClosedAt, Region, WellKnownAtoms};
 use crate::track::{Item, RegionRow};
 use script_grammar::tree::Ident;
 use std::alloc::{AllocError, Global};
 
-/// Each atom once, where it stands first. The set is for its use.
-fn distinct(alloc: Global, seen: &mut AtomSet, atoms: &[u32]) -> Result<Vec<u32>, AllocError>
-    ensures { IfOk result (λ some. some.items ≡ distinct nat_eq atoms.now) }
-{
-    seen.clear();
-    let mut kept = Vec::new(alloc);
-    for atom in atoms {
-        if seen.insert(*atom)? {
-            kept.push(*atom)?;
+/// What opening a scope needs on the way, kept for the next scope: a set of atoms, and the names that the scope binds.
+#[derive(Drop)]
+pub struct ScopeScratch {
+    pub seen: AtomSet,
+    pub names: Vec<Ident>,
+}
+
+impl ScopeScratch {
+    /// No scope was opened yet. It takes no memory.
+    pub fn new(alloc: Global) -> ScopeScratch {
+        ScopeScratch {
+            seen: AtomSet::new(alloc),
+            names: Vec::new(alloc),
         }
     }
-    Ok(kept)
 }
 
 /// The atoms of these names.
@@ -38,62 +42,91 @@ pub fn atoms_of(alloc: Global, names: &[Ident]) -> Result<Vec<u32>, AllocError>
     names.iter().map(|name| name.atom).collect(alloc)
 }
 
-/// The atoms of the names that are declared so in a region itself.
-fn direct_atoms(
-    alloc: Global,
-    rows: &[RegionRow],
-    room: usize,
-    region: u32,
-    asked: Asked,
-) -> Result<Vec<u32>, AllocError>
-    ensures { IfOk result (λ atoms. atoms.items ≡ names_of (directly (asks asked) (told_at room rows.now region))) }
+/// Adds the names that are declared so among these items.
+fn add_declared(asked: Asked, items: &[Item], names: &mut Vec<Ident>) -> Result<(), AllocError>
+    ensures { OnOk result (names.new.items ≡ names.old.items ++ filter_map (asked_in asked) items.now) }
 {
-    let names = direct_names(alloc, asked, items_at(rows, room, region))?;
-    atoms_of(alloc, &names)
-}
-
-/// The atoms of the var names that are declared in a region or hoist through it.
-fn var_atoms(
-    alloc: Global,
-    rows: &[RegionRow],
-    room: usize,
-    region: u32,
-) -> Result<Vec<u32>, AllocError>
-    ensures { IfOk result (λ atoms. atoms.items ≡ names_of (vars (told_at room rows.now region))) }
-{
-    let mut names = Vec::new(alloc);
-    add_vars(rows, room, region, &mut names)?;
-    atoms_of(alloc, &names)
-}
-
-/// A scope of these names, where there are any.
-fn push_scope(
-    alloc: Global,
-    seen: &mut AtomSet,
-    scopes: &mut Vec<Vec<u32>>,
-    atoms: &[u32],
-) -> Result<(), AllocError>
-    ensures { OnOk result (items_of_lists scopes.new.items ≡ items_of_lists scopes.old.items ++ scope_if_any (distinct nat_eq atoms.now)) }
-{
-    let scope = distinct(alloc, seen, atoms)?;
-    if !scope.is_empty() {
-        scopes.push(scope)?;
+    for item in items {
+        if let Some(name) = declared(asked, item) {
+            names.push(name)?;
+        }
     }
     Ok(())
 }
 
-/// The scope of these names, which is there without a name too.
-fn push_whole_scope(
-    alloc: Global,
-    seen: &mut AtomSet,
-    scopes: &mut Vec<Vec<u32>>,
-    atoms: &[u32],
+/// Adds the names that are declared so in a region itself.
+fn add_direct(
+    rows: &[RegionRow],
+    room: usize,
+    region: u32,
+    asked: Asked,
+    names: &mut Vec<Ident>,
 ) -> Result<(), AllocError>
-    ensures { OnOk result (items_of_lists scopes.new.items ≡ items_of_lists scopes.old.items ++ distinct nat_eq atoms.now ∷ []) }
+    ensures { OnOk result (GainsNames names.old.items names.new.items (directly (asks asked) (told_at room rows.now region))) }
 {
-    let scope = distinct(alloc, seen, atoms)?;
-    scopes.push(scope)?;
+    add_declared(asked, items_at(rows, room, region), names)
+}
+
+/// Adds the bindings of a scope: each of these names once, where it stands first. The set is for its use.
+fn push_scope(
+    seen: &mut AtomSet,
+    names: &[Ident],
+    func: Option<u32>,
+    scope: u32,
+    bound: &mut Vec<ClosedAt>,
+) -> Result<(), AllocError>
+    ensures { OnOk result (bounds_of bound.new.items ≡ bounds_of bound.old.items ++ bound_in func scope (distinct nat_eq (names_in names.now))) }
+{
+    seen.clear();
+    for name in names {
+        if seen.insert(name.atom)? {
+            bound.push(ClosedAt {
+                func,
+                scope,
+                atom: name.atom,
+            })?;
+        }
+    }
     Ok(())
+}
+
+/// The number of the scope after one.
+fn next_scope(scope: u32) -> Result<u32, AllocError>
+    ensures { IfOk result (λ next. next ≡ scope + 1) }
+{
+    if scope < u32::MAX {
+        Ok(scope + 1)
+    } else {
+        Err(AllocError)
+    }
+}
+
+/// Opens the scope of the names kept, which is there without a name too, and answers the number of the next scope.
+fn open_whole_scope(
+    scratch: &mut ScopeScratch,
+    func: Option<u32>,
+    scope: u32,
+    bound: &mut Vec<ClosedAt>,
+) -> Result<u32, AllocError>
+    ensures { IfOk result (λ next. Opens func scope bound.old.items bound.new.items next (distinct nat_eq (names_in scratch.old.names.items) ∷ [])) }
+{
+    push_scope(&mut scratch.seen, &scratch.names, func, scope, bound)?;
+    next_scope(scope)
+}
+
+/// Opens the scope of the names kept, where there are any, and answers the number of the next scope.
+fn open_scope(
+    scratch: &mut ScopeScratch,
+    func: Option<u32>,
+    scope: u32,
+    bound: &mut Vec<ClosedAt>,
+) -> Result<u32, AllocError>
+    ensures { IfOk result (λ next. Opens func scope bound.old.items bound.new.items next (scope_if_any (distinct nat_eq (names_in scratch.old.names.items)))) }
+{
+    if scratch.names.is_empty() {
+        return Ok(scope);
+    }
+    open_whole_scope(scratch, func, scope, bound)
 }
 
 /// Whether an item is a body of its own.
@@ -125,128 +158,226 @@ fn has_body(rows: &[RegionRow], room: usize, region: u32) -> bool
     any_body(rows, items_at(rows, room, region))
 }
 
-/// The scopes of a function: the parameters with the var names and what is implicit, and the lexical names; or, where the body
-/// is a region of its own, the parameters alone.
-fn function_scopes(
-    alloc: Global,
-    seen: &mut AtomSet,
-    implicit: &[u32],
-    rows: &[RegionRow],
-    room: usize,
-    region: u32,
-) -> Result<Vec<Vec<u32>>, AllocError>
-    ensures { IfOk result (λ scopes. items_of_lists scopes.items ≡ function_scopes_of implicit.now (told_at room rows.now region)) }
+/// A name that is implicit in a function. It stands nowhere: its offset is not asked for.
+fn implicit_name(atom: u32) -> Ident
+    ensures { result ≡ record { atom = atom; at = 0 } }
 {
-    let mut scopes = Vec::new(alloc);
-    let mut atoms = direct_atoms(alloc, rows, room, region, Asked::Param)?;
-    if has_body(rows, room, region) {
-        atoms.extend_from_slice(implicit)?;
-        push_whole_scope(alloc, seen, &mut scopes, &atoms)?;
-        return Ok(scopes);
-    }
-    let hoisted = var_atoms(alloc, rows, room, region)?;
-    atoms.extend_from_slice(&hoisted)?;
-    atoms.extend_from_slice(implicit)?;
-    push_whole_scope(alloc, seen, &mut scopes, &atoms)?;
-    let lexical = direct_atoms(alloc, rows, room, region, Asked::Lexical)?;
-    push_scope(alloc, seen, &mut scopes, &lexical)?;
-    Ok(scopes)
+    Ident { atom, at: 0 }
 }
 
-/// The one scope of the names that are declared so in a region, where there are any.
-fn one_scope(
-    alloc: Global,
-    seen: &mut AtomSet,
+/// Opens the one scope of the names that are declared so in a region, where there are any.
+fn open_direct_scope(
+    scratch: &mut ScopeScratch,
     rows: &[RegionRow],
     room: usize,
     region: u32,
     asked: Asked,
-) -> Result<Vec<Vec<u32>>, AllocError>
-    ensures { IfOk result (λ scopes. items_of_lists scopes.items ≡ scope_of (directly (asks asked) (told_at room rows.now region))) }
+    func: Option<u32>,
+    scope: u32,
+    bound: &mut Vec<ClosedAt>,
+) -> Result<u32, AllocError>
+    ensures { IfOk result (λ next. Opens func scope bound.old.items bound.new.items next (scope_of (directly (asks asked) (told_at room rows.now region)))) }
 {
-    let mut scopes = Vec::new(alloc);
-    let atoms = direct_atoms(alloc, rows, room, region, asked)?;
-    push_scope(alloc, seen, &mut scopes, &atoms)?;
-    Ok(scopes)
+    scratch.names.clear();
+    add_direct(rows, room, region, asked, &mut scratch.names)?;
+    open_scope(scratch, func, scope, bound)
 }
 
-/// The scope of a script.
-fn script_scopes(
-    alloc: Global,
-    seen: &mut AtomSet,
+/// Opens the scope of the parameters of a function, with what is implicit.
+fn open_param_scope(
+    scratch: &mut ScopeScratch,
+    implicit: &[Ident],
     rows: &[RegionRow],
     room: usize,
     region: u32,
-) -> Result<Vec<Vec<u32>>, AllocError>
-    ensures { IfOk result (λ scopes. items_of_lists scopes.items ≡ script_scopes_of (told_at room rows.now region)) }
+    func: Option<u32>,
+    scope: u32,
+    bound: &mut Vec<ClosedAt>,
+) -> Result<u32, AllocError>
+    ensures { IfOk result (λ next. Opens func scope bound.old.items bound.new.items next (distinct nat_eq (names_of (directly (asks Param) (told_at room rows.now region)) ++ names_in implicit.now) ∷ [])) }
 {
-    let mut scopes = Vec::new(alloc);
-    let mut atoms = var_atoms(alloc, rows, room, region)?;
-    let lexical = direct_atoms(alloc, rows, room, region, Asked::Lexical)?;
-    atoms.extend_from_slice(&lexical)?;
-    push_whole_scope(alloc, seen, &mut scopes, &atoms)?;
-    Ok(scopes)
+    scratch.names.clear();
+    add_direct(rows, room, region, Asked::Param, &mut scratch.names)?;
+    scratch.names.extend_from_slice(implicit)?;
+    open_whole_scope(scratch, func, scope, bound)
 }
 
-/// The scopes of a body that is a region of its own: its var names, and its lexical names.
-fn body_scopes(
-    alloc: Global,
-    seen: &mut AtomSet,
+/// Opens the scope of the parameters of a function and its var names, with what is implicit.
+fn open_param_var_scope(
+    scratch: &mut ScopeScratch,
+    implicit: &[Ident],
     rows: &[RegionRow],
     room: usize,
     region: u32,
-) -> Result<Vec<Vec<u32>>, AllocError>
-    ensures { IfOk result (λ scopes. items_of_lists scopes.items ≡ body_scopes_of (told_at room rows.now region)) }
+    func: Option<u32>,
+    scope: u32,
+    bound: &mut Vec<ClosedAt>,
+) -> Result<u32, AllocError>
+    ensures { IfOk result (λ next. Opens func scope bound.old.items bound.new.items next (distinct nat_eq (names_of (directly (asks Param) (told_at room rows.now region)) ++ names_of (vars (told_at room rows.now region)) ++ names_in implicit.now) ∷ [])) }
 {
-    let mut scopes = Vec::new(alloc);
-    let atoms = var_atoms(alloc, rows, room, region)?;
-    push_scope(alloc, seen, &mut scopes, &atoms)?;
-    let lexical = direct_atoms(alloc, rows, room, region, Asked::Lexical)?;
-    push_scope(alloc, seen, &mut scopes, &lexical)?;
-    Ok(scopes)
+    scratch.names.clear();
+    add_direct(rows, room, region, Asked::Param, &mut scratch.names)?;
+    add_vars(rows, room, region, &mut scratch.names)?;
+    scratch.names.extend_from_slice(implicit)?;
+    open_whole_scope(scratch, func, scope, bound)
 }
 
-/// The scope of one name.
-fn name_scope(alloc: Global, name: Ident) -> Result<Vec<Vec<u32>>, AllocError>
-    ensures { IfOk result (λ scopes. items_of_lists scopes.items ≡ (name.atom ∷ []) ∷ []) }
+/// Opens the scopes of a function: the parameters with the var names and what is implicit, and the lexical names; or, where the
+/// body is a region of its own, the parameters alone.
+fn open_function_scopes(
+    scratch: &mut ScopeScratch,
+    implicit: &[Ident],
+    rows: &[RegionRow],
+    room: usize,
+    region: u32,
+    func: Option<u32>,
+    scope: u32,
+    bound: &mut Vec<ClosedAt>,
+) -> Result<u32, AllocError>
+    ensures { IfOk result (λ next. Opens func scope bound.old.items bound.new.items next (function_scopes_of (names_in implicit.now) (told_at room rows.now region))) }
 {
-    let mut scope = Vec::new(alloc);
-    scope.push(name.atom)?;
-    let mut scopes = Vec::new(alloc);
-    scopes.push(scope)?;
-    Ok(scopes)
+    if has_body(rows, room, region) {
+        return open_param_scope(scratch, implicit, rows, room, region, func, scope, bound);
+    }
+    let next = open_param_var_scope(scratch, implicit, rows, room, region, func, scope, bound)?;
+    open_direct_scope(
+        scratch,
+        rows,
+        room,
+        region,
+        Asked::Lexical,
+        func,
+        next,
+        bound,
+    )
 }
 
-/// The scopes of a region of this kind from the outermost in, each with the atoms of its names in the order of its bindings.
-/// The set is for its use.
-pub fn scopes_of(
-    alloc: Global,
-    seen: &mut AtomSet,
+/// Opens the scope of a script.
+fn open_script_scope(
+    scratch: &mut ScopeScratch,
+    rows: &[RegionRow],
+    room: usize,
+    region: u32,
+    func: Option<u32>,
+    scope: u32,
+    bound: &mut Vec<ClosedAt>,
+) -> Result<u32, AllocError>
+    ensures { IfOk result (λ next. Opens func scope bound.old.items bound.new.items next (script_scopes_of (told_at room rows.now region))) }
+{
+    scratch.names.clear();
+    add_vars(rows, room, region, &mut scratch.names)?;
+    add_direct(rows, room, region, Asked::Lexical, &mut scratch.names)?;
+    open_whole_scope(scratch, func, scope, bound)
+}
+
+/// Opens the scope of the var names of a region, where there are any.
+fn open_var_scope(
+    scratch: &mut ScopeScratch,
+    rows: &[RegionRow],
+    room: usize,
+    region: u32,
+    func: Option<u32>,
+    scope: u32,
+    bound: &mut Vec<ClosedAt>,
+) -> Result<u32, AllocError>
+    ensures { IfOk result (λ next. Opens func scope bound.old.items bound.new.items next (scope_of (vars (told_at room rows.now region)))) }
+{
+    scratch.names.clear();
+    add_vars(rows, room, region, &mut scratch.names)?;
+    open_scope(scratch, func, scope, bound)
+}
+
+/// Opens the scopes of a body that is a region of its own: its var names, and its lexical names.
+fn open_body_scopes(
+    scratch: &mut ScopeScratch,
+    rows: &[RegionRow],
+    room: usize,
+    region: u32,
+    func: Option<u32>,
+    scope: u32,
+    bound: &mut Vec<ClosedAt>,
+) -> Result<u32, AllocError>
+    ensures { IfOk result (λ next. Opens func scope bound.old.items bound.new.items next (body_scopes_of (told_at room rows.now region))) }
+{
+    let next = open_var_scope(scratch, rows, room, region, func, scope, bound)?;
+    open_direct_scope(
+        scratch,
+        rows,
+        room,
+        region,
+        Asked::Lexical,
+        func,
+        next,
+        bound,
+    )
+}
+
+/// Opens the scope of one name.
+fn open_name_scope(
+    scratch: &mut ScopeScratch,
+    name: Ident,
+    func: Option<u32>,
+    scope: u32,
+    bound: &mut Vec<ClosedAt>,
+) -> Result<u32, AllocError>
+    ensures { IfOk result (λ next. Opens func scope bound.old.items bound.new.items next ((name.atom ∷ []) ∷ [])) }
+{
+    scratch.names.clear();
+    scratch.names.push(name)?;
+    open_whole_scope(scratch, func, scope, bound)
+}
+
+/// Opens the scopes of a region of this kind from the outermost in, the first with the number `scope`: adds the bindings of their
+/// names in order, and answers the number of the next scope.
+pub fn open_scopes(
+    scratch: &mut ScopeScratch,
     known: &WellKnownAtoms,
     rows: &[RegionRow],
     room: usize,
     kind: Region,
     region: u32,
-) -> Result<Vec<Vec<u32>>, AllocError>
-    ensures { IfOk result (λ some. AreScopes (known_names known.now) (region_of kind) (told_at room rows.now region) some.items) }
+    func: Option<u32>,
+    scope: u32,
+    bound: &mut Vec<ClosedAt>,
+) -> Result<u32, AllocError>
+    ensures { IfOk result (λ next. Opens func scope bound.old.items bound.new.items next (scopes nat_eq (known_names known.now) (region_of kind) (told_at room rows.now region))) }
 {
     match kind {
-        Region::Script => script_scopes(alloc, seen, rows, room, region),
+        Region::Script => open_script_scope(scratch, rows, room, region, func, scope, bound),
         Region::Function => {
-            let implicit = [known.arguments, known.this];
-            function_scopes(alloc, seen, &implicit, rows, room, region)
+            let implicit = [implicit_name(known.arguments), implicit_name(known.this)];
+            open_function_scopes(scratch, &implicit, rows, room, region, func, scope, bound)
         }
         Region::Arrow => {
             let implicit = [];
-            function_scopes(alloc, seen, &implicit, rows, room, region)
+            open_function_scopes(scratch, &implicit, rows, room, region, func, scope, bound)
         }
-        Region::Lambda(name) => name_scope(alloc, name),
-        Region::Block => one_scope(alloc, seen, rows, room, region, Asked::Lexical),
-        Region::Switch => one_scope(alloc, seen, rows, room, region, Asked::Lexical),
-        Region::ForHead => one_scope(alloc, seen, rows, room, region, Asked::Lexical),
-        Region::Catch => one_scope(alloc, seen, rows, room, region, Asked::Catch),
-        Region::VarBody => body_scopes(alloc, seen, rows, room, region),
-        Region::Loop => Ok(Vec::new(alloc)),
-        Region::Label(_) => Ok(Vec::new(alloc)),
+        Region::Lambda(name) => open_name_scope(scratch, name, func, scope, bound),
+        Region::Block | Region::Switch | Region::ForHead => {
+            open_direct_scope(
+                scratch,
+                rows,
+                room,
+                region,
+                Asked::Lexical,
+                func,
+                scope,
+                bound,
+            )
+        }
+        Region::Catch => {
+            open_direct_scope(
+                scratch,
+                rows,
+                room,
+                region,
+                Asked::Catch,
+                func,
+                scope,
+                bound,
+            )
+        }
+        Region::VarBody => open_body_scopes(scratch, rows, room, region, func, scope, bound),
+        Region::Loop | Region::Label(_) => Ok(scope),
     }
 }

@@ -1,4 +1,4 @@
-use Rattle.std.proofs.Common.{◌+◌, ◌-◌, ◌*◌, drop, map}
+use Rattle.std.proofs.Common.{◌≡◌, ◌+◌, ◌-◌, ◌*◌, drop, map}
 use Rattle.parse_track.specs.Log.{known_names, told_items, told_region}
 use Rattle.parse_track.specs.Rows.{item_of, row_of}
 use Rattle.parse_track.specs.Visited.{Stand, Visits, stand_of}
@@ -14,6 +14,8 @@ abbrev pub decreases-visit : goal.decreases-visit
 decreases-visit l = 3 * l.room
 
 abbrev pub invariant-visit-loop-item : goal.invariant-visit-loop-item
-invariant-visit-loop-item l = (last : Stand)
+invariant-visit-loop-item l =
+    (l.found.shadowed.items ≡ l.fn.found.shadowed.items)
+    × ((last : Stand)
     → Visits (known_names l.known) l.around.named l.around.func l.around.depth (stand_of l.found l.next) last (told_items (map row_of l.rows) (told_region (l.room - 1) (map row_of l.rows)) (map item_of (drop l.item-index l.item-items)))
-    → Visits (known_names l.known) l.around.named l.around.func l.around.depth (stand_of l.fn.found l.scope) last (told_items (map row_of l.rows) (told_region (l.room - 1) (map row_of l.rows)) (map item_of l.item-items))
+    → Visits (known_names l.known) l.around.named l.around.func l.around.depth (stand_of l.fn.found l.scope) last (told_items (map row_of l.rows) (told_region (l.room - 1) (map row_of l.rows)) (map item_of l.item-items)))

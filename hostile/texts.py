@@ -82,6 +82,11 @@ REPEATED = {
     "loops": "for(;;)break;",
     "tries": "try{a}catch(e){b}",
     "labels": "l:;",
+    "names with labels": "l:a;",
+    "empty blocks": "{}",
+    "blocks with names": "{a}",
+    "empty functions": "function f(){}",
+    "empty arrows": "()=>{};",
     "names of two bytes": "é;",
     "names of four bytes": "𝒳;",
 }

@@ -51,7 +51,8 @@ names_filtered parts inside a [] = refl
 names_filtered parts inside a (row.Declared how name ∷ items) =
     declared_case (asks a how) name (directly (asks a) (told_items parts inside (map item_of items))) (filter_map (asked_in a) items) (names_filtered parts inside a items)
 names_filtered parts inside a (row.Used _ ∷ items) = names_filtered parts inside a items
-names_filtered parts inside a (row.Jumped _ _ _ ∷ items) = names_filtered parts inside a items
+names_filtered parts inside a (row.Jumped _ _ ∷ items) = names_filtered parts inside a items
+names_filtered parts inside a (row.JumpedTo _ _ _ ∷ items) = names_filtered parts inside a items
 names_filtered parts inside a (row.Inner _ ∷ items) = names_filtered parts inside a items
 
 pub directly_filtered : (parts : List Part) (room n : ℕ) (a : Asked) (items : List RegionRow.Item) → map item_of items ≡ items_at room parts n
@@ -66,7 +67,8 @@ pub body_any : (parts : List Part) (inside : ℕ → Told ℕ) (items : List Reg
 body_any parts inside [] = refl
 body_any parts inside (row.Declared _ _ ∷ items) = body_any parts inside items
 body_any parts inside (row.Used _ ∷ items) = body_any parts inside items
-body_any parts inside (row.Jumped _ _ _ ∷ items) = body_any parts inside items
+body_any parts inside (row.Jumped _ _ ∷ items) = body_any parts inside items
+body_any parts inside (row.JumpedTo _ _ _ ∷ items) = body_any parts inside items
 body_any parts inside (row.Inner m ∷ items) =
     ap (λ (b : Bool). is_body (kind_of (slice_get parts m)) || b) (body_any parts inside items)
     ∙ ap (λ (b : Bool). b || list_any (λ item. has_body (told_items parts (λ _. nothing) (item_of item ∷ []))) items) (sym (or_false (is_body (kind_of (slice_get parts m)))))

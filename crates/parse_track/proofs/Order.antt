@@ -78,6 +78,11 @@ leaf_in_order at leaf ps qs e h = elim e [
   | inr f ↦ subst (λ (x : List Part). IsInOrder x at) (sym f) h
 ]
 
+-- so is an item that is a leaf
+pub item_in_order : (at : Option ℕ) (item : Item) (leaf : told.Leaf ℕ) (ps qs : List Part) → item ≡ Leaf leaf → (qs ≡ tell at item ps) ⊎ (qs ≡ ps)
+    → IsInOrder ps at → IsInOrder qs at
+item_in_order at item leaf ps qs i e h = leaf_in_order at leaf ps qs (subst (λ (x : Item). (qs ≡ tell at x ps) ⊎ (qs ≡ ps)) i e) h
+
 around_below : (n c k : ℕ) (ps : List Part) → AreInOrder n c ps → k < length ps → IsAround (n + k) (around_of (slice_get ps k))
 around_below n c k [] o h = absurd (omega arith)
 around_below n c zero (p ∷ ps) o h = subst (λ (m : ℕ). IsAround m p.around) (let e : n ≡ n + 0 = omega arith in e) o.1.0

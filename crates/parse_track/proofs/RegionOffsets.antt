@@ -21,7 +21,8 @@ none_filtered : (a : Asked) (items : List RegionRow.Item) → list_any is_declar
 none_filtered a [] e = refl
 none_filtered a (row.Declared _ _ ∷ items) e = cc
 none_filtered a (row.Used _ ∷ items) e = none_filtered a items e
-none_filtered a (row.Jumped _ _ _ ∷ items) e = none_filtered a items e
+none_filtered a (row.Jumped _ _ ∷ items) e = none_filtered a items e
+none_filtered a (row.JumpedTo _ _ _ ∷ items) e = none_filtered a items e
 none_filtered a (row.Inner _ ∷ items) e = none_filtered a items e
 
 pub none_declared : (parts : List Part) (room n : ℕ) (items : List RegionRow.Item) → map item_of items ≡ items_at room parts n → list_any is_declared items ≡ false

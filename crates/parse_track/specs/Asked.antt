@@ -19,12 +19,14 @@ asks asked.All how = true
 abbrev pub asked_in : Asked → Item → Option Ident
 asked_in a (item.Declared how name) = cond (asks a how) (Some name) None
 asked_in a (item.Used _) = None
-asked_in a (item.Jumped _ _ _) = None
+asked_in a (item.Jumped _ _) = None
+asked_in a (item.JumpedTo _ _ _) = None
 asked_in a (item.Inner _) = None
 
 -- whether an item declares a name
 abbrev pub is_declared : Item → Bool
 is_declared (item.Declared _ _) = true
 is_declared (item.Used _) = false
-is_declared (item.Jumped _ _ _) = false
+is_declared (item.Jumped _ _) = false
+is_declared (item.JumpedTo _ _ _) = false
 is_declared (item.Inner _) = false

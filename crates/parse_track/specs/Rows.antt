@@ -8,12 +8,13 @@ use Rattle.parse_track.specs.declared.track.Items.{Items}
 use Rattle.parse_track.specs.declared.track.Items.TheVariants as kept
 use Rattle.parse_track.specs.declared.track.RegionRow.{RegionRow}
 use Rattle.parse_track.specs.Told as told
-use Rattle.parse_track.specs.Log.{Item, Leaf, Inner, Part, name_of, label_of, items_of, kind_of, tell, told_items, told_region, told_of, outermost_if}
+use Rattle.parse_track.specs.Log.{Item, Leaf, Inner, Part, name_of, items_of, kind_of, tell, told_items, told_region, told_of, outermost_if}
 
 abbrev pub item_of : Told → Item
 item_of (code.Declared how name) = Leaf (told.Declared how (name_of name))
 item_of (code.Used atom) = Leaf (told.Used atom)
-item_of (code.Jumped word at label) = Leaf (told.Jumped word at (label_of label))
+item_of (code.Jumped word at) = Leaf (told.Jumped word at None)
+item_of (code.JumpedTo word at label) = Leaf (told.Jumped word at (Some (name_of label)))
 item_of (code.Inner n) = Inner n
 
 -- what stands in a region, as a list

@@ -203,7 +203,8 @@ fn clash_in_item(
             Ok(())
         }
         Item::Used(_) => Ok(()),
-        Item::Jumped(_, _, _) => Ok(()),
+        Item::Jumped(_, _) => Ok(()),
+        Item::JumpedTo(_, _, _) => Ok(()),
         Item::Inner(region) => {
             let kind = kind_at(rows, region);
             let inside = depth_inside(depth, kind);

@@ -276,7 +276,8 @@ fn visit_item(
 {
     match item {
         Item::Declared(_, _) => Ok(scope),
-        Item::Jumped(_, _, _) => Ok(scope),
+        Item::Jumped(_, _) => Ok(scope),
+        Item::JumpedTo(_, _, _) => Ok(scope),
         Item::Used(name) => {
             visit_use(found, name, around.depth)?;
             Ok(scope)

@@ -116,7 +116,8 @@ fn first_inner(items: &[Item]) -> Option<u32>
         Some(Item::Inner(region)) => Some(*region),
         Some(Item::Declared(_, _)) => None,
         Some(Item::Used(_)) => None,
-        Some(Item::Jumped(_, _, _)) => None,
+        Some(Item::Jumped(_, _)) => None,
+        Some(Item::JumpedTo(_, _, _)) => None,
         None => None,
     }
 }
@@ -166,7 +167,8 @@ fn jumps_in_item(
     match item {
         Item::Declared(_, _) => Ok(None),
         Item::Used(_) => Ok(None),
-        Item::Jumped(word, at, label) => Ok(wrong_jump(targets, word, at, label)),
+        Item::Jumped(word, at) => Ok(wrong_jump(targets, word, at, None)),
+        Item::JumpedTo(word, at, label) => Ok(wrong_jump(targets, word, at, Some(label))),
         Item::Inner(region) => {
             let kind = kind_at(rows, region);
             let own = wrong_label(targets, kind);

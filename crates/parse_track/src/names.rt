@@ -48,7 +48,8 @@ pub fn declared(asked: Asked, item: &Item) -> Option<Ident>
             }
         }
         Item::Used(_) => None,
-        Item::Jumped(_, _, _) => None,
+        Item::Jumped(_, _) => None,
+        Item::JumpedTo(_, _, _) => None,
         Item::Inner(_) => None,
     }
 }
@@ -139,7 +140,8 @@ fn add_item_vars(
         Item::Declared(Declare::Param, _) => Ok(()),
         Item::Declared(Declare::Catch, _) => Ok(()),
         Item::Used(_) => Ok(()),
-        Item::Jumped(_, _, _) => Ok(()),
+        Item::Jumped(_, _) => Ok(()),
+        Item::JumpedTo(_, _, _) => Ok(()),
         Item::Inner(region) => match open_region(rows, region) {
             Some(open) => add_vars(rows, room, open, names),
             None => Ok(()),

@@ -109,7 +109,8 @@ fn add_inner(
         }
         Item::Declared(_, _) => Ok(()),
         Item::Used(_) => Ok(()),
-        Item::Jumped(_, _, _) => Ok(()),
+        Item::Jumped(_, _) => Ok(()),
+        Item::JumpedTo(_, _, _) => Ok(()),
     }
 }
 
@@ -299,7 +300,8 @@ fn seek_in_item(
         }
         Item::Declared(_, _) => Ok(()),
         Item::Used(_) => Ok(()),
-        Item::Jumped(_, _, _) => Ok(()),
+        Item::Jumped(_, _) => Ok(()),
+        Item::JumpedTo(_, _, _) => Ok(()),
     }
 }
 

@@ -140,7 +140,8 @@ fn is_body(rows: &[RegionRow], item: Item) -> bool
         },
         Item::Declared(_, _) => false,
         Item::Used(_) => false,
-        Item::Jumped(_, _, _) => false,
+        Item::Jumped(_, _) => false,
+        Item::JumpedTo(_, _, _) => false,
     }
 }
 

@@ -3,13 +3,13 @@
 ghost use Rattle.std.specs.Prelude.{◌≡◌, ◌<◌, ◌≤◌, ◌+◌, ◌^◌, ◌-◌, ◌⊎◌, ◌++◌, ◌∷◌, length, map, nat_eq};
 ghost use Rattle.std.specs.Prelude.{IsSome, IfSome, IfOk, OnOk, OnErr, Some, None, []};
 ghost use Rattle.parse_track.specs.Told.{Declared, Used, Jumped};
-ghost use Rattle.parse_track.specs.Log.{name_of, label_of, region_of, with_leaf, entered, left, noting, around_at, known_names, told_of};
+ghost use Rattle.parse_track.specs.Log.{name_of, label_of, region_of, Leaf, with_leaf, entered, left, noting, around_at, known_names, told_of};
 ghost use Rattle.parse_track.specs.EarlyErrors.{first_error};
 ghost use Rattle.parse_track.specs.ClosedNames.{closed};
 ghost use Rattle.parse_track.specs.RegionNames.{is_function};
 ghost use Rattle.parse_track.specs.Counted.{counted};
 ghost use Rattle.parse_track.specs.Scopes.{bounds_of};
-ghost use Rattle.parse_track.specs.Rows.{listed, row_of, IsTold, MayBeTold};
+ghost use Rattle.parse_track.specs.Rows.{item_of, listed, row_of, IsTold, MayBeTold};
 
 use crate::closed_names::closed_names;
 use crate::errors::{first_error, sooner_early};
@@ -18,12 +18,13 @@ use script_grammar::tree::Ident;
 use std::alloc::{AllocError, Global};
 use std::marker::Model;
 
-/// What stands in a region; an Inner is the number of a region inside.
+/// What stands in a region: of jumps those without a label and those to one; an Inner is the number of a region inside.
 #[derive(Clone, Copy)]
 pub enum Item {
     Declared(Declare, Ident),
     Used(u32),
-    Jumped(Jump, u32, Option<Ident>),
+    Jumped(Jump, u32),
+    JumpedTo(Jump, u32, Ident),
     Inner(u32),
 }
 
@@ -134,6 +135,16 @@ impl Model for Track {
     ghost view = { λ t. record { known = t.known; parts = map row_of t.rows.items; present = t.present; noted = t.noted } };
 
     ghost invariant = { λ t. IsInOrder (map row_of t.rows.items) t.present };
+}
+
+/// A jump as an item.
+fn jumped(word: Jump, at: u32, label: Option<Ident>) -> Item
+    ensures { item_of result ≡ Leaf (Jumped word at (label_of label)) }
+{
+    match label {
+        None => Item::Jumped(word, at),
+        Some(label) => Item::JumpedTo(word, at, label),
+    }
 }
 
 /// The item joins what stands in the present region.
@@ -272,7 +283,7 @@ impl Track {
             self.alloc,
             &mut self.rows,
             self.present,
-            Item::Jumped(word, at, label),
+            jumped(word, at, label),
         )
     }
 

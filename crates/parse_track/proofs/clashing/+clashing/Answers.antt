@@ -76,6 +76,9 @@ clash_in_item-returns-in-Used t c = rw c.in-Used.is (record { same = λ y. refl;
 pub clash_in_item-returns-in-Jumped : goal.clash_in_item-returns-in-Jumped
 clash_in_item-returns-in-Jumped t c = rw c.in-Jumped.is (record { same = λ y. refl; found = λ to heads. sym (smaller_none (offset_for heads c.args.found.now)) })
 
+pub clash_in_item-returns-in-JumpedTo : goal.clash_in_item-returns-in-JumpedTo
+clash_in_item-returns-in-JumpedTo t c = rw c.in-JumpedTo.is (record { same = λ y. refl; found = λ to heads. sym (smaller_none (offset_for heads c.args.found.now)) })
+
 pub clash_in_item-returns-in_ok-clash_inside-in-Inner : goal.clash_in_item-returns-in_ok-clash_inside-in-Inner
 clash_in_item-returns-in_ok-clash_inside-in-Inner t c =
     let f : Kept = entry c.args.names.now.entries.items in

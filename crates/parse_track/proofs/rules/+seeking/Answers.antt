@@ -29,6 +29,9 @@ seek_in_item-returns-in-Used t c = rw c.in-Used.is (λ rule. seek_leaf c.args.of
 pub seek_in_item-returns-in-Jumped : goal.seek_in_item-returns-in-Jumped
 seek_in_item-returns-in-Jumped t c = rw c.in-Jumped.is (λ rule. seek_leaf c.args.offsets.now rule)
 
+pub seek_in_item-returns-in-JumpedTo : goal.seek_in_item-returns-in-JumpedTo
+seek_in_item-returns-in-JumpedTo t c = rw c.in-JumpedTo.is (λ rule. seek_leaf c.args.offsets.now rule)
+
 pub seek_in_item-returns-in_ok-seek_in-in-Inner : goal.seek_in_item-returns-in_ok-seek_in-in-Inner
 seek_in_item-returns-in_ok-seek_in-in-Inner t c =
     rw c.in-Inner.is

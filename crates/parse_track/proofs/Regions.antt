@@ -1,5 +1,5 @@
 -- The scopes of what is told are at most two for each region, and a walk over items or rows has those of the rest before it.
-use Rattle.std.proofs.Common.{◌≡◌, ℕ, ◌+◌, ◌-◌, ◌*◌, ◌<◌, ◌≤◌, Bool, true, false, cond, nat_eq, Option, None, Some, List, [], ◌∷◌, ◌++◌, length, length-append, add-one, get_or, drop-cons, map, drop, subst, sym, ap, ◌∙◌, arith}
+use Rattle.std.proofs.Common.{◌≡◌, ℕ, ◌+◌, ◌-◌, ◌*◌, ◌<◌, ◌≤◌, Bool, true, false, cond, nat_eq, Option, None, Some, List, [], ◌∷◌, ◌++◌, length, length-append, add-one, get_or, drop-cons, map, drop, sym, ap, ◌∙◌, arith}
 use Rattle.std.proofs.lemmas.List.{length-map}
 use Rattle.parse_track.specs.declared.track.Item as row
 use Rattle.parse_track.specs.declared.track.RegionRow.{RegionRow}

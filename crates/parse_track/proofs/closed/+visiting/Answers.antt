@@ -18,7 +18,7 @@ use Rattle.parse_track.specs.Log.{at_of as offset_of}
 use Rattle.parse_track.specs.Rows.{item_of, row_of}
 use Rattle.parse_track.specs.Visited.{stand_of}
 use Rattle.parse_track.proofs.Shadowing.{all_back}
-use Rattle.parse_track.proofs.Regions.{drop_at, items_left, region_items, scopes_behind, scopes_few}
+use Rattle.parse_track.proofs.Regions.{drop_at, items_left, region_items, scopes_behind}
 use Rattle.parse_track.proofs.Visiting.{visit_step, visit_end, region_visits, bind_other, names_opened}
 use Rattle.parse_track.proofs.closed.+visiting.Goals as goal
 

@@ -1,5 +1,5 @@
 -- A region is entered: a row is pushed, and its number told to the present region.
-use Rattle.std.proofs.Common.{◌≡◌, ℕ, ◌-◌, ◌^◌, ◌<◌, List, [], ◌∷◌, ◌++◌, length, map, sym, ap, subst, ◌∙◌, arith, Option, Some, ◌⊎◌, inl, inr}
+use Rattle.std.proofs.Common.{◌≡◌, ℕ, ◌^◌, ◌<◌, List, [], ◌∷◌, ◌++◌, length, map, sym, ap, subst, ◌∙◌, arith, Option, Some, ◌⊎◌, inl, inr}
 use Rattle.std.proofs.lemmas.List.{map-append, length-map}
 use Rattle.parse_track.specs.declared.region.Region.{Region}
 use Rattle.parse_track.specs.declared.track.RegionRow.{RegionRow}
@@ -15,7 +15,7 @@ pub record Pushed (kind : Region) (off : ℕ) (at : Option ℕ) (rows pushed : L
   pub pushes : pushed ≡ rows ++ row ∷ []
   pub part : row_of row ≡ empty_part kind off at
   pub number : n ≡ length rows
-  pub few : n < 2 ^ 32 - 2
+  pub few : n < 2 ^ 31
   pub order : IsInOrder (map row_of rows) at
 
 parts_of : (kind : Region) (off : ℕ) (at : Option ℕ) (rows pushed : List RegionRow) (row : RegionRow) (n : ℕ) → Pushed kind off at rows pushed row n
@@ -35,7 +35,7 @@ still_in_order kind off at rows pushed now row n p e =
     let l : n ≡ length (map row_of rows) = number_of kind off at rows pushed row n p in
     let f = parts_of kind off at rows pushed row n p in
     let few = p.few in
-    let short : length (map row_of rows) < 2 ^ 32 - 2 = omega arith in
+    let short : length (map row_of rows) < 2 ^ 31 = omega arith in
     inner_in_order kind off at (map row_of rows) (map row_of now) short p.order
     (elim e [ inl g ↦ inl (told_as at n (length (map row_of rows)) (map row_of now) (map row_of pushed) (map row_of rows ++ empty_part kind off at ∷ []) l f g) | inr g ↦ inr (g ∙ f) ])
 
@@ -45,7 +45,7 @@ now_in_order kind off at rows pushed now row n p g =
     let l : n ≡ length (map row_of rows) = number_of kind off at rows pushed row n p in
     let f = parts_of kind off at rows pushed row n p in
     let few = p.few in
-    let short : length (map row_of rows) < 2 ^ 32 - 2 = omega arith in
+    let short : length (map row_of rows) < 2 ^ 31 = omega arith in
     subst (λ (k : ℕ). IsInOrder (map row_of now) (Some k)) (sym l)
     (entered_in_order kind off at (map row_of rows) (map row_of now) short p.order
     (told_as at n (length (map row_of rows)) (map row_of now) (map row_of pushed) (map row_of rows ++ empty_part kind off at ∷ []) l f g))

@@ -8,6 +8,7 @@ pub mod Marks
 pub mod Items
 pub mod Distinct
 pub mod Binding
+pub mod Regions
 pub mod Shadowing
 pub mod Visiting
 pub mod Marking

@@ -1,5 +1,5 @@
 -- The regions stay in order when something is told.
-use Rattle.std.proofs.Common.{◌≡◌, ℕ, ◌+◌, ◌-◌, ◌^◌, ◌<◌, ◌≤◌, zero, suc, List, [], ◌∷◌, ◌++◌, length, slice_get, refl, sym, ap, subst, ◌∙◌, arith, Option, Some, None, IfSome, ◌⊎◌, inl, inr}
+use Rattle.std.proofs.Common.{◌≡◌, ℕ, ◌+◌, ◌^◌, ◌<◌, ◌≤◌, zero, suc, List, [], ◌∷◌, ◌++◌, length, slice_get, refl, sym, ap, subst, ◌∙◌, arith, Option, Some, None, IfSome, ◌⊎◌, inl, inr}
 use Rattle.std.proofs.Common.{length-append}
 use Rattle.parse_track.specs.declared.region.Region.{Region}
 use Rattle.parse_track.specs.Told as told
@@ -69,7 +69,7 @@ pub told_in_order : (at : Option ℕ) (item : Item) (ps : List Part) → IsInsid
 told_in_order at item ps i h = record {
   order = subst (λ (c : ℕ). AreInOrder 0 c (tell at item ps)) (sym (length-tell at item ps)) (order_tell item (length ps) at ps h.order i);
   inside = present_tell at at item ps h.inside;
-  few = subst (λ (c : ℕ). c ≤ 2 ^ 32 - 2) (sym (length-tell at item ps)) h.few;
+  few = subst (λ (c : ℕ). c ≤ 2 ^ 31) (sym (length-tell at item ps)) h.few;
 }
 
 pub leaf_in_order : (at : Option ℕ) (leaf : told.Leaf ℕ) (ps qs : List Part) → (qs ≡ tell at (Leaf leaf) ps) ⊎ (qs ≡ ps) → IsInOrder ps at → IsInOrder qs at
@@ -115,7 +115,7 @@ still_present : (at : Option ℕ) (ps : List Part) (p : Part) → IfSome at (λ 
 still_present None ps p h = tt
 still_present (Some n) ps p h = omega (arith, length-append ps (p ∷ []))
 
-pub part_in_order : (kind : Region) (off : ℕ) (at : Option ℕ) (ps : List Part) → length ps < 2 ^ 32 - 2 → IsInOrder ps at
+pub part_in_order : (kind : Region) (off : ℕ) (at : Option ℕ) (ps : List Part) → length ps < 2 ^ 31 → IsInOrder ps at
     → IsInOrder (ps ++ record { kind = kind; at = off; around = at; items = [] } ∷ []) at
 part_in_order kind off at ps f h =
     let p : Part = record { kind = kind; at = off; around = at; items = [] } in
@@ -126,7 +126,7 @@ part_in_order kind off at ps f h =
       few = omega arith;
     }
 
-pub inner_in_order : (kind : Region) (off : ℕ) (at : Option ℕ) (ps qs : List Part) → length ps < 2 ^ 32 - 2 → IsInOrder ps at
+pub inner_in_order : (kind : Region) (off : ℕ) (at : Option ℕ) (ps qs : List Part) → length ps < 2 ^ 31 → IsInOrder ps at
     → (qs ≡ tell at (Inner (length ps)) (ps ++ record { kind = kind; at = off; around = at; items = [] } ∷ [])) ⊎ (qs ≡ ps ++ record { kind = kind; at = off; around = at; items = [] } ∷ [])
     → IsInOrder qs at
 inner_in_order kind off at ps qs f h e =
@@ -136,7 +136,7 @@ inner_in_order kind off at ps qs f h e =
       | inr g ↦ subst (λ (x : List Part). IsInOrder x at) (sym g) (part_in_order kind off at ps f h)
     ]
 
-pub entered_in_order : (kind : Region) (off : ℕ) (at : Option ℕ) (ps qs : List Part) → length ps < 2 ^ 32 - 2 → IsInOrder ps at
+pub entered_in_order : (kind : Region) (off : ℕ) (at : Option ℕ) (ps qs : List Part) → length ps < 2 ^ 31 → IsInOrder ps at
     → qs ≡ tell at (Inner (length ps)) (ps ++ record { kind = kind; at = off; around = at; items = [] } ∷ [])
     → IsInOrder qs (Some (length ps))
 entered_in_order kind off at ps qs f h e =

@@ -1,5 +1,5 @@
 -- How the rows that a track keeps stand for the parts of its log.
-use Rattle.std.specs.Prelude.{ℕ, zero, suc, ◌≡◌, ◌+◌, ◌<◌, ◌≤◌, ◌^◌, ◌-◌, ◌⊎◌, Option, None, Some, List, [], ◌∷◌, ◌++◌, length, slice_get}
+use Rattle.std.specs.Prelude.{ℕ, zero, suc, ◌≡◌, ◌+◌, ◌<◌, ◌≤◌, ◌^◌, ◌⊎◌, Option, None, Some, List, [], ◌∷◌, ◌++◌, length, slice_get}
 use Rattle.std.specs.Prelude.{map, IfSome}
 use Rattle.script_grammar.specs.declared.tree.Ident.{Ident}
 use Rattle.parse_track.specs.declared.track.Item.{Item as Told}
@@ -47,7 +47,7 @@ AreInOrder n count (part ∷ parts) = AreInside n count part.items × (IsAround 
 pub record IsInOrder (parts : List Part) (present : Option ℕ) : Type 0 where
   pub order : AreInOrder 0 (length parts) parts
   pub inside : IfSome present (λ n. n < length parts)
-  pub few : length parts ≤ 2 ^ 32 - 2
+  pub few : length parts ≤ 2 ^ 31
 
 -- what stands in a region, where n regions may stand one in another
 abbrev pub items_at : ℕ → List Part → ℕ → List Item

@@ -1,10 +1,11 @@
 //! The names that inner functions close over, by one walk from the outside in.
 
-ghost use Rattle.std.specs.Prelude.{◌≡◌, ◌<◌, ◌+◌, ◌^◌, ◌++◌, [], ℕ, Option, false, length, slice_get, cond, Some};
+ghost use Rattle.std.specs.Prelude.{◌≡◌, ◌<◌, ◌+◌, ◌*◌, ◌^◌, ◌++◌, [], ℕ, Option, false, length, slice_get, cond, Some};
 ghost use Rattle.std.specs.Prelude.{None, IfOk, OnOk, map};
 ghost use Rattle.parse_track.specs.AtomTables.{entry};
 ghost use Rattle.parse_track.specs.RegionNames.{is_lambda};
 ghost use Rattle.parse_track.specs.ClosedNames.{begins, first_at};
+ghost use Rattle.parse_track.specs.Counted.{region_count};
 ghost use Rattle.parse_track.specs.Told.{Told};
 ghost use Rattle.parse_track.specs.Log.{region_of, kind_of, known_names, told_items};
 ghost use Rattle.parse_track.specs.Log.{at_of as offset_of};
@@ -270,7 +271,8 @@ fn visit_item(
     scope: u32,
     found: &mut FoundClosed,
 ) -> Result<u32, AllocError>
-    requires { around.depth + room + 1 < 2 ^ 64 }
+    requires depth { around.depth + room + 1 < 2 ^ 64 }
+    requires scopes { scope + 2 * region_count (told_by room rows.now item) < 2 ^ 32 }
     ensures visited { IfOk result (λ next. IsVisited (known_names known.now) around scope found.old found.new next (told_by room rows.now item)) }
     ensures shadowed { OnOk result (found.new.shadowed.items ≡ found.old.shadowed.items) }
 {
@@ -298,7 +300,8 @@ pub fn visit_inner(
     scope: u32,
     found: &mut FoundClosed,
 ) -> Result<u32, AllocError>
-    requires { around.depth + room + 1 < 2 ^ 64 }
+    requires depth { around.depth + room + 1 < 2 ^ 64 }
+    requires scopes { scope + 2 * region_count (told_inner room rows.now region) < 2 ^ 32 }
     ensures visited { IfOk result (λ next. IsVisited (known_names known.now) around scope found.old found.new next (told_inner room rows.now region)) }
     ensures shadowed { OnOk result (found.new.shadowed.items ≡ found.old.shadowed.items) }
 {
@@ -340,7 +343,8 @@ fn visit(
     scope: u32,
     found: &mut FoundClosed,
 ) -> Result<u32, AllocError>
-    requires { around.depth + room < 2 ^ 64 }
+    requires depth { around.depth + room < 2 ^ 64 }
+    requires scopes { scope + 2 * region_count (told_at room rows.now region) < 2 ^ 32 }
     ensures visited { IfOk result (λ next. IsVisited (known_names known.now) around scope found.old found.new next (told_at room rows.now region)) }
     ensures shadowed { OnOk result (found.new.shadowed.items ≡ found.old.shadowed.items) }
 {

@@ -1,7 +1,8 @@
 //! The names of a script that inner functions close over, from the walk over its regions.
 
-ghost use Rattle.std.specs.Prelude.{◌≡◌, ◌<◌, ◌≤◌, ◌-◌, ◌^◌, ◌++◌, ◌∷◌, [], ℕ, cond, false, true, length, replicate, slice_set, IfOk, OnOk, nat_eq};
+ghost use Rattle.std.specs.Prelude.{◌≡◌, ◌<◌, ◌≤◌, ◌+◌, ◌*◌, ◌^◌, ◌++◌, ◌∷◌, [], ℕ, cond, false, true, length, replicate, slice_set, IfOk, OnOk, nat_eq};
 ghost use Rattle.parse_track.specs.ClosedNames.{closed, kept};
+ghost use Rattle.parse_track.specs.Counted.{region_count};
 ghost use Rattle.parse_track.specs.Log.{known_names};
 ghost use Rattle.parse_track.specs.Rows.{told_outermost, told_of_rows};
 ghost use Rattle.parse_track.specs.Scopes.{bound_of, bounds_of};
@@ -73,7 +74,8 @@ fn visit_outermost(
     scope: u32,
     found: &mut FoundClosed,
 ) -> Result<u32, AllocError>
-    requires { length rows.now ≤ 2 ^ 32 - 2 }
+    requires room { length rows.now ≤ 2 ^ 31 }
+    requires scopes { scope + 2 * region_count (told_outermost rows.now region around) < 2 ^ 32 }
     ensures { IfOk result (λ next. IsVisitedOutside (known_names known.now) scope found.old found.new next (told_outermost rows.now region around)) }
 {
     match around {
@@ -98,7 +100,8 @@ fn visit_script(
     rows: &[RegionRow],
     found: &mut FoundClosed,
 ) -> Result<u32, AllocError>
-    requires { length rows.now ≤ 2 ^ 32 - 2 }
+    requires room { length rows.now ≤ 2 ^ 31 }
+    requires scopes { region_count (told_of_rows rows.now) < 2 ^ 31 }
     ensures { IfOk result (λ next. IsVisitedOutside (known_names known.now) 0 found.old found.new next (told_of_rows rows.now)) }
 {
     let mut scope = 0;
@@ -114,7 +117,8 @@ pub fn closed_names(
     known: &WellKnownAtoms,
     rows: &[RegionRow],
 ) -> Result<Vec<ClosedAt>, AllocError>
-    requires { length rows.now ≤ 2 ^ 32 - 2 }
+    requires room { length rows.now ≤ 2 ^ 31 }
+    requires scopes { region_count (told_of_rows rows.now) < 2 ^ 31 }
     ensures { IfOk result (λ some. bounds_of some.items ≡ closed nat_eq (known_names known.now) (told_of_rows rows.now)) }
 {
     let mut found = FoundClosed::new(alloc);

@@ -1,6 +1,6 @@
 //! The scopes of a region: each is opened with the bindings of its names.
 
-ghost use Rattle.std.specs.Prelude.{◌≡◌, ◌++◌, ◌∷◌, [], ◌+◌, IfOk, OnOk, map, nat_eq};
+ghost use Rattle.std.specs.Prelude.{◌≡◌, ◌<◌, ◌++◌, ◌∷◌, [], ◌+◌, ◌^◌, IfOk, OnOk, map, nat_eq};
 ghost use Rattle.std.specs.List.{filter_map, list_any};
 ghost use Rattle.parse_track.specs.Told.{nothing};
 ghost use Rattle.parse_track.specs.RegionNames.{vars, directly};
@@ -90,17 +90,6 @@ fn push_scope(
     Ok(())
 }
 
-/// The number of the scope after one.
-fn next_scope(scope: u32) -> Result<u32, AllocError>
-    ensures { IfOk result (λ next. next ≡ scope + 1) }
-{
-    if scope < u32::MAX {
-        Ok(scope + 1)
-    } else {
-        Err(AllocError)
-    }
-}
-
 /// Opens the scope of the names kept, which is there without a name too, and answers the number of the next scope.
 fn open_whole_scope(
     scratch: &mut ScopeScratch,
@@ -108,10 +97,11 @@ fn open_whole_scope(
     scope: u32,
     bound: &mut Vec<ClosedAt>,
 ) -> Result<u32, AllocError>
+    requires { scope + 1 < 2 ^ 32 }
     ensures { IfOk result (λ next. Opens func scope bound.old.items bound.new.items next (distinct nat_eq (names_in scratch.old.names.items) ∷ [])) }
 {
     push_scope(&mut scratch.seen, &scratch.names, func, scope, bound)?;
-    next_scope(scope)
+    Ok(scope + 1)
 }
 
 /// Opens the scope of the names kept, where there are any, and answers the number of the next scope.
@@ -121,6 +111,7 @@ fn open_scope(
     scope: u32,
     bound: &mut Vec<ClosedAt>,
 ) -> Result<u32, AllocError>
+    requires { scope + 1 < 2 ^ 32 }
     ensures { IfOk result (λ next. Opens func scope bound.old.items bound.new.items next (scope_if_any (distinct nat_eq (names_in scratch.old.names.items)))) }
 {
     if scratch.names.is_empty() {
@@ -177,6 +168,7 @@ fn open_direct_scope(
     scope: u32,
     bound: &mut Vec<ClosedAt>,
 ) -> Result<u32, AllocError>
+    requires { scope + 1 < 2 ^ 32 }
     ensures { IfOk result (λ next. Opens func scope bound.old.items bound.new.items next (scope_of (directly (asks asked) (told_at room rows.now region)))) }
 {
     scratch.names.clear();
@@ -195,6 +187,7 @@ fn open_param_scope(
     scope: u32,
     bound: &mut Vec<ClosedAt>,
 ) -> Result<u32, AllocError>
+    requires { scope + 1 < 2 ^ 32 }
     ensures { IfOk result (λ next. Opens func scope bound.old.items bound.new.items next (distinct nat_eq (names_of (directly (asks Param) (told_at room rows.now region)) ++ names_in implicit.now) ∷ [])) }
 {
     scratch.names.clear();
@@ -214,6 +207,7 @@ fn open_param_var_scope(
     scope: u32,
     bound: &mut Vec<ClosedAt>,
 ) -> Result<u32, AllocError>
+    requires { scope + 1 < 2 ^ 32 }
     ensures { IfOk result (λ next. Opens func scope bound.old.items bound.new.items next (distinct nat_eq (names_of (directly (asks Param) (told_at room rows.now region)) ++ names_of (vars (told_at room rows.now region)) ++ names_in implicit.now) ∷ [])) }
 {
     scratch.names.clear();
@@ -235,6 +229,7 @@ fn open_function_scopes(
     scope: u32,
     bound: &mut Vec<ClosedAt>,
 ) -> Result<u32, AllocError>
+    requires { scope + 2 < 2 ^ 32 }
     ensures { IfOk result (λ next. Opens func scope bound.old.items bound.new.items next (function_scopes_of (names_in implicit.now) (told_at room rows.now region))) }
 {
     if has_body(rows, room, region) {
@@ -263,6 +258,7 @@ fn open_script_scope(
     scope: u32,
     bound: &mut Vec<ClosedAt>,
 ) -> Result<u32, AllocError>
+    requires { scope + 1 < 2 ^ 32 }
     ensures { IfOk result (λ next. Opens func scope bound.old.items bound.new.items next (script_scopes_of (told_at room rows.now region))) }
 {
     scratch.names.clear();
@@ -281,6 +277,7 @@ fn open_var_scope(
     scope: u32,
     bound: &mut Vec<ClosedAt>,
 ) -> Result<u32, AllocError>
+    requires { scope + 1 < 2 ^ 32 }
     ensures { IfOk result (λ next. Opens func scope bound.old.items bound.new.items next (scope_of (vars (told_at room rows.now region)))) }
 {
     scratch.names.clear();
@@ -298,6 +295,7 @@ fn open_body_scopes(
     scope: u32,
     bound: &mut Vec<ClosedAt>,
 ) -> Result<u32, AllocError>
+    requires { scope + 2 < 2 ^ 32 }
     ensures { IfOk result (λ next. Opens func scope bound.old.items bound.new.items next (body_scopes_of (told_at room rows.now region))) }
 {
     let next = open_var_scope(scratch, rows, room, region, func, scope, bound)?;
@@ -321,6 +319,7 @@ fn open_name_scope(
     scope: u32,
     bound: &mut Vec<ClosedAt>,
 ) -> Result<u32, AllocError>
+    requires { scope + 1 < 2 ^ 32 }
     ensures { IfOk result (λ next. Opens func scope bound.old.items bound.new.items next ((name.atom ∷ []) ∷ [])) }
 {
     scratch.names.clear();
@@ -341,6 +340,7 @@ pub fn open_scopes(
     scope: u32,
     bound: &mut Vec<ClosedAt>,
 ) -> Result<u32, AllocError>
+    requires { scope + 2 < 2 ^ 32 }
     ensures { IfOk result (λ next. Opens func scope bound.old.items bound.new.items next (scopes nat_eq (known_names known.now) (region_of kind) (told_at room rows.now region))) }
 {
     match kind {

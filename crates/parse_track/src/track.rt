@@ -1,13 +1,13 @@
 //! The log of what is told.
 
-ghost use Rattle.std.specs.Prelude.{◌≡◌, ◌<◌, ◌≤◌, ◌+◌, ◌^◌, ◌-◌, ◌⊎◌, ◌++◌, ◌∷◌, length, map, nat_eq};
+ghost use Rattle.std.specs.Prelude.{◌≡◌, ◌<◌, ◌+◌, ◌^◌, ◌⊎◌, ◌++◌, ◌∷◌, length, map, nat_eq};
 ghost use Rattle.std.specs.Prelude.{IsSome, IfSome, IfOk, OnOk, OnErr, Some, None, []};
 ghost use Rattle.parse_track.specs.Told.{Declared, Used, Jumped};
 ghost use Rattle.parse_track.specs.Log.{name_of, label_of, region_of, Leaf, with_leaf, entered, left, noting, around_at, known_names, told_of};
 ghost use Rattle.parse_track.specs.EarlyErrors.{first_error};
 ghost use Rattle.parse_track.specs.ClosedNames.{closed};
 ghost use Rattle.parse_track.specs.RegionNames.{is_function};
-ghost use Rattle.parse_track.specs.Counted.{counted};
+ghost use Rattle.parse_track.specs.Counted.{counted, region_count};
 ghost use Rattle.parse_track.specs.Scopes.{bounds_of};
 ghost use Rattle.parse_track.specs.Rows.{item_of, listed, row_of, IsTold, MayBeTold};
 
@@ -205,11 +205,12 @@ impl Track {
 
     /// A region begins inside the present one, or outermost where none is present. It becomes the present one, and its number
     /// is answered. `at` is the offset of its first token, in bytes; of a Function or Arrow that of its parameters. There
-    /// are at most 2^32 - 2 regions.
+    /// are at most 2^31 regions.
     pub fn enter(&mut self, region: Region, at: u32) -> Result<u32, AllocError>
+        requires { length self.old.parts < 2 ^ 31 }
         ensures { IfOk result (λ n. (n ≡ length self.old.parts) × (self.new ≡ entered self.old region at)) }
     {
-        let number = next_number(&self.rows)?;
+        let number = next_number(&self.rows);
         let around = self.present;
         self.rows.push(RegionRow {
             kind: region,
@@ -310,8 +311,10 @@ impl Track {
     }
 
     /// What follows from all that was told: the first early error, and the names that inner functions close over, in order of
-    /// functions, scopes and bindings. There are fewer than 2^32 scopes in one function.
+    /// functions, scopes and bindings. What was told has fewer than 2^31 regions, so that the scopes of a function, of which a
+    /// region has at most two, are fewer than 2^32.
     pub fn finish(self) -> Result<Tracked, AllocError>
+        requires { region_count (told_of self.parts) < 2 ^ 31 }
         ensures early { IfOk result (λ tracked. tracked.early ≡ first_error nat_eq (known_names self.known) self.noted (told_of self.parts)) }
         ensures closed { IfOk result (λ tracked. bounds_of tracked.closed.items ≡ closed nat_eq (known_names self.known) (told_of self.parts)) }
     {
@@ -328,16 +331,12 @@ fn is_function(kind: Region) -> bool
     matches!(kind, Region::Function | Region::Arrow)
 }
 
-/// The number of the next region, where there may be one more.
-fn next_number(rows: &[RegionRow]) -> Result<u32, AllocError>
-    ensures { IfOk result (λ n. (n ≡ length rows.now) × (n < 2 ^ 32 - 2)) }
+/// The number of the next region.
+fn next_number(rows: &[RegionRow]) -> u32
+    requires { length rows.now < 2 ^ 31 }
+    ensures { (result ≡ length rows.now) × (result < 2 ^ 31) }
 {
-    let count = rows.len();
-    if count < u32::MAX as usize - 1 {
-        Ok(count as u32)
-    } else {
-        Err(AllocError)
-    }
+    rows.len() as u32
 }
 
 /// The region around this one.

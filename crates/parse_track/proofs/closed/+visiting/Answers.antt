@@ -1,4 +1,4 @@
-use Rattle.std.proofs.Common.{◌≡◌, ℕ, ◌+◌, ◌-◌, ◌<◌, ◌++◌, List, Bool, cond, Some, nat_eq, drop, length, map, arith, add-one, drop-cons, slice_get, refl, sym, ap, ◌∙◌}
+use Rattle.std.proofs.Common.{◌≡◌, ℕ, ◌+◌, ◌-◌, ◌<◌, ◌++◌, List, Bool, cond, Some, nat_eq, drop, length, map, arith, get_or, [], ◌∷◌, slice_get, refl, sym, ap, ◌∙◌}
 use Rattle.std.proofs.Math.Seq.{drop-append_seam}
 use Rattle.std.proofs.lemmas.List.{drop_all, length-map, take_rest}
 use Rattle.parse_track.specs.declared.region.ClosedAt.{ClosedAt}
@@ -10,31 +10,56 @@ use Rattle.parse_track.specs.ClosedNames.{scopes, joined, begins, at_of, bound_b
 use Rattle.parse_track.specs.Scopes.{bound_of, bounds_of}
 use Rattle.parse_track.specs.Shadows.{atoms_bound, shadow_of, bind_back}
 use Rattle.parse_track.specs.Walk.{Tops, bind_all, deeper}
-use Rattle.parse_track.specs.Log.{Part, kind_of, region_of, told_region, known_names}
+use Rattle.parse_track.specs.declared.region.Declare.TheVariants as how
+use Rattle.parse_track.specs.declared.track.Item.{Item}
+use Rattle.parse_track.specs.declared.track.Item.TheVariants as row
+use Rattle.parse_track.specs.Log.{Part, kind_of, region_of, told_items, told_region, known_names}
 use Rattle.parse_track.specs.Log.{at_of as offset_of}
-use Rattle.parse_track.specs.Rows.{row_of}
+use Rattle.parse_track.specs.Rows.{item_of, row_of}
 use Rattle.parse_track.specs.Visited.{stand_of}
 use Rattle.parse_track.proofs.Shadowing.{all_back}
+use Rattle.parse_track.proofs.Regions.{drop_at, items_left, region_items, scopes_behind}
 use Rattle.parse_track.proofs.Visiting.{visit_step, visit_end, region_visits, bind_other, names_opened}
 use Rattle.parse_track.proofs.closed.+visiting.Goals as goal
 
 pub visit-loop-item-preserved : goal.visit-loop-item-preserved
 visit-loop-item-preserved t c =
-    let l : c.loop-item.item-index < length c.items_at-item-items.result.now = omega arith in (
+    let first : Item = row.Declared how.Lexical (record { atom = 0; at = 0 }) in
+    let l : c.loop-item.item-index < length c.items_at-item-items.result.now = omega arith in
+    let x : Item = get_or c.items_at-item-items.result.now c.loop-item.item-index first in
+    let known = known_names c.args.known.now in
+    let parts = map row_of c.args.rows.now in
+    let inside = told_region (c.args.room - 1) parts in
+    let d = drop_at c.items_at-item-items.result.now c.loop-item.item-index first l in (
       c.in_ok-next.ensures.shadowed ∙ c.loop-item.invariant.0,
-      visit_step (known_names c.args.known.now) c.args.around.named c.args.around.func c.args.around.depth (map row_of c.args.rows.now) (told_region (c.args.room - 1) (map row_of c.args.rows.now))
-          (stand_of c.args.found.now c.args.scope) (stand_of c.loop-item.found c.loop-item.next) (stand_of c.visit_item.new.found c.in_ok-next.next) c.items_at-item-items.result.now c.loop-item.item-index _
-          (rw add-one (drop-cons c.items_at-item-items.result.now c.loop-item.item-index _ l))
-          c.loop-item.invariant.1
-          c.in_ok-next.ensures.visited,
+      (
+        visit_step known c.args.around.named c.args.around.func c.args.around.depth parts inside
+            (stand_of c.args.found.now c.args.scope) (stand_of c.loop-item.found c.loop-item.next) (stand_of c.visit_item.new.found c.in_ok-next.next) c.items_at-item-items.result.now c.loop-item.item-index x
+            d c.loop-item.invariant.1.0 c.in_ok-next.ensures.visited,
+        scopes_behind known c.args.around.named (told_items parts inside (item_of x ∷ [])) c.loop-item.next c.in_ok-next.next _ _ c.in_ok-next.ensures.visited.next
+            (items_left parts inside c.items_at-item-items.result.now c.loop-item.item-index x c.loop-item.next _ d c.loop-item.invariant.1.1),
+      ),
     )
+
+-- the scopes of an item are among those that its region may have
+pub visit-visit_item-requires : goal.visit-visit_item-requires
+visit-visit_item-requires t c =
+    let first : Item = row.Declared how.Lexical (record { atom = 0; at = 0 }) in
+    let l : c.loop-item.item-index < length c.items_at-item-items.result.now = omega arith in
+    let x : Item = get_or c.items_at-item-items.result.now c.loop-item.item-index first in
+    let some = items_left (map row_of c.args.rows.now) (told_region (c.args.room - 1) (map row_of c.args.rows.now)) c.items_at-item-items.result.now c.loop-item.item-index x c.loop-item.next _ (drop_at c.items_at-item-items.result.now c.loop-item.item-index first l) c.loop-item.invariant.1.1 in
+    let all = region_items c.args.rows.now c.args.room c.args.region c.items_at-item-items.result.now c.items_at-item-items.ensures.items in
+    let limit = c.requires.scopes in
+    let depth = c.requires.depth in
+    let room = c.items_at-item-items.ensures.room in
+    (omega (arith, c.decreases, room, l), (omega (arith, depth, room, l), omega (arith, some, all, limit)))
 
 pub visit-returns-clause-visited : goal.visit-returns-clause-visited
 visit-returns-clause-visited t c =
     visit_end (known_names c.args.known.now) c.args.around.named c.args.around.func c.args.around.depth (map row_of c.args.rows.now) c.args.room c.args.region
     (stand_of c.args.found.now c.args.scope) (stand_of c.loop-item.found c.loop-item.next) c.items_at-item-items.result.now (drop c.loop-item.item-index c.items_at-item-items.result.now)
     (drop_all c.loop-item.item-index c.items_at-item-items.result.now (omega arith))
-    c.loop-item.invariant.1
+    c.loop-item.invariant.1.0
     c.items_at-item-items.ensures.items
 
 pub visit_inner-returns-clause-visited : goal.visit_inner-returns-clause-visited

@@ -48,6 +48,9 @@ pub const EMPTY_DIGEST: u64 = 14695981039346656037;
 // Their prime.
 const PRIME: u64 = 1099511628211;
 
+// How many texts there is room for at first.
+const FIRST_ROOM: usize = 64;
+
 /// The digest of a text with one unit more, of the text's own digest.
 ///
 /// So who reads a text unit by unit has its digest with the last of them. A number above FFFF is no unit, and what it
@@ -68,6 +71,16 @@ fn digest(units: &[u16]) -> u64
         digest = digest_with(digest, u32::from(*unit));
     }
     digest
+}
+
+// Makes room for the first texts at once, where there are none yet. After an error all is as before.
+fn make_first_room(texts: &mut Vec<Text>) -> Result<(), AllocError>
+    ensures { texts.new.items ≡ texts.old.items }
+{
+    if texts.is_empty() {
+        texts.reserve(FIRST_ROOM)?;
+    }
+    Ok(())
 }
 
 impl Atoms {
@@ -129,6 +142,7 @@ impl Atoms {
         ensures ok { OnOk result (self.new ≡ self.old ++ units.now ∷ []) }
         ensures err { OnErr result (self.new ≡ self.old) }
     {
+        make_first_room(&mut self.texts)?;
         self.index.make_room(alloc, &self.texts)?;
         let atom = self.texts.len() as u32;
         let text = Text::of(alloc, units)?;

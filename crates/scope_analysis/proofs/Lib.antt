@@ -1,6 +1,7 @@
 pub mod Adding
 pub mod Appending
 pub mod FunctionScopes
+pub mod Naming
 pub mod NameTexts
 pub mod Placing
 pub mod Tops

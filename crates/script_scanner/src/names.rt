@@ -26,17 +26,20 @@ fn is_small_letter(code: char) -> bool
     ('a' <= code) & (code <= 'z')
 }
 
-/// Whether a name may go on with a code point (IdentifierPartChar).
+/// Whether a name may go on with a code point (IdentifierPartChar). Most that end one stand before the digits.
 #[inline]
-#[tactic(auto, using(crate::proofs::NameLemmas::part_small, crate::proofs::NameLemmas::part_ascii, crate::proofs::NameLemmas::part_other))]
+#[tactic(auto, using(crate::proofs::NameLemmas::part_small, crate::proofs::NameLemmas::part_low, crate::proofs::NameLemmas::part_middle, crate::proofs::NameLemmas::part_other))]
 pub fn is_name_part(code: char) -> bool
     ensures { result ≡ is_name_part code }
 {
     if is_small_letter(code) {
         return true;
     }
+    if code < '0' {
+        return code == '$';
+    }
     if code < '\u{80}' {
-        code.is_ascii_alphanumeric() | (code == '$') | (code == '_')
+        code.is_ascii_alphanumeric() | (code == '_')
     } else {
         unicode_ident::is_xid_continue(code) | (code == '\u{200C}') | (code == '\u{200D}')
     }

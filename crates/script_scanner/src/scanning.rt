@@ -147,18 +147,29 @@ struct Scanner {
     units: Vec<u16>,
 }
 
+/// How many tokens there is room for at most before the first one is read.
+const MOST_FIRST_ROOM: usize = 1024;
+
+/// How many tokens there is room for before the first one of so many code points is read: most texts of that size have not many more,
+/// and a short one, as that of a function, then grows its list once at most.
+fn first_room(count: usize) -> usize {
+    (count / 4 + 8).min(MOST_FIRST_ROOM)
+}
+
 impl Scanner {
-    fn new(alloc: Global) -> Scanner
-        ensures tokens { result.tokens.items ≡ [] }
-        ensures braces { result.braces.items ≡ [] }
-        ensures after_line { result.after_line ≡ false }
+    /// A scan that has not begun, of so many code points.
+    fn of(alloc: Global, count: usize) -> Result<Scanner, AllocError>
+        ensures tokens { IfOk result (λ scanner. scanner.tokens.items ≡ []) }
+        ensures braces { IfOk result (λ scanner. scanner.braces.items ≡ []) }
+        ensures after_line { IfOk result (λ scanner. scanner.after_line ≡ false) }
     {
-        Scanner {
-            tokens: Vec::new(alloc),
+        let tokens = Vec::with_capacity(alloc, first_room(count))?;
+        Ok(Scanner {
+            tokens,
             braces: Vec::new(alloc),
             after_line: false,
             units: Vec::new(alloc),
-        }
+        })
     }
 
     /// Takes the token that was found, whose units are in the buffer; answers how many code points it takes.
@@ -497,7 +508,7 @@ fn scan_text<T: Source>(
     ensures gains { OnOk result (GainsOnly atoms.old atoms.new (tokens_within (suc (length (T.points text))) to [] false (T.points text))) }
     ensures keeps { Keeps atoms.old atoms.new }
 {
-    let mut scanner = Scanner::new(alloc);
+    let mut scanner = Scanner::of(alloc, text.count())?;
     scanner.run(alloc, text, to, atoms)?;
     let Scanner {
         tokens,

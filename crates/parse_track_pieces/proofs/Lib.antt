@@ -3,3 +3,4 @@ pub mod Appending
 pub mod Saying
 pub mod Logs
 pub mod Walking
+pub mod Numbers

@@ -89,7 +89,7 @@ module _ (a : Log) (kind : Region) (at : ℕ) where
   new_part : Part
   new_part = record { kind = kind; at = at; around = a.present; items = [] }
 
-  count_entered : length (entered a kind at).parts ≡ length a.parts + 1
+  pub count_entered : length (entered a kind at).parts ≡ length a.parts + 1
   count_entered =
       let e = length-tell a.present (Inner (length a.parts)) a.parts in
       length-append (tell a.present (Inner (length a.parts)) a.parts) (record { kind = kind; at = at; around = a.present; items = [] } ∷ []) ∙ ap (λ (n : ℕ). n + 1) e

@@ -43,7 +43,7 @@ pub weight_push : (xs : List Piece) (v : Piece) → weight (xs ++ v ∷ []) ≡ 
 weight_push [] v = omega arith
 weight_push (x ∷ xs) v = omega (arith, weight_push xs v)
 
-at_hand_push : (i : Interpretation) (before xs : List Piece) (v : Piece) (all : List Stmts) → before ≡ xs ++ v ∷ [] → AtHand i before all → ShowAll (SaysBody i) (v ∷ reverse xs) all
+pub at_hand_push : (i : Interpretation) (before xs : List Piece) (v : Piece) (all : List Stmts) → before ≡ xs ++ v ∷ [] → AtHand i before all → ShowAll (SaysBody i) (v ∷ reverse xs) all
 at_hand_push i before xs v all e h = subst (λ (ps : List Piece). ShowAll (SaysBody i) ps all) (ap (λ (ps : List Piece). reverse ps) e ∙ reverse-append xs (v ∷ [])) h
 
 -- no body is left

@@ -1,6 +1,6 @@
 //! The walk: a piece, pieces, and the next body.
 
-ghost use Rattle.std.specs.Prelude.{◌≡◌, ◌≤◌, ℕ, List, None, IsSome, OnOk, reverse, true, []};
+ghost use Rattle.std.specs.Prelude.{◌≡◌, ◌<◌, ◌≤◌, ◌^◌, ℕ, List, length, None, IsSome, OnOk, reverse, true, []};
 ghost use Rattle.script_grammar.specs.Braced.{in_stmts};
 ghost use Rattle.script_grammar.specs.Interpretation.{Interpretation};
 ghost use Rattle.script_grammar.specs.Shows.{ShowAll};
@@ -10,7 +10,7 @@ ghost use Rattle.parse_track.specs.Tells.{tells_script};
 ghost use Rattle.parse_track.specs.Told as told;
 ghost use Rattle.parse_track.specs.declared.region.Region.TheVariants as kind;
 ghost use Rattle.track_log_laws.specs.Spelled.{log_text, logged};
-ghost use Rattle.parse_track_pieces.specs.Walks.{Stays, KnowsThis, Walks};
+ghost use Rattle.parse_track_pieces.specs.Walks.{HasNumbers, HasScriptNumbers, Stays, KnowsThis, Walks};
 ghost use Rattle.parse_track_pieces.specs.Pieces.{piece_says, pieces_say, says_passed, says_read};
 ghost use Rattle.parse_track_pieces.specs.Says.{SaysBody};
 ghost use Rattle.parse_track_pieces.specs.Weight.{weight};
@@ -55,8 +55,15 @@ fn make_room(pieces: &[Piece], track: &mut Track) -> Result<(), AllocError>
 
 // A piece.
 #[cycle(telling)]
+#[tactic(auto, using(
+    crate::proofs::Numbers::numbers_inside,
+    crate::proofs::Numbers::numbers_many,
+    crate::proofs::Numbers::numbers_passed,
+    crate::proofs::Numbers::numbers_kept
+))]
 fn tell_piece(piece: Piece, track: &mut Track, bodies: &mut Vec<Piece>) -> Result<(), AllocError>
-    requires { IsSome track.old.present }
+    requires present { IsSome track.old.present }
+    requires numbers { HasNumbers track.old bodies.old.items (λ i. piece_says i piece) }
     ensures stays { OnOk result (Stays track.old track.new) }
     ensures lighter { OnOk result (weight bodies.new.items ≤ weight bodies.old.items) }
     ensures tells { OnOk result ((i : Interpretation) → Walks i track.old track.new bodies.old.items bodies.new.items (piece_says i piece)) }
@@ -87,7 +94,8 @@ fn tell_pieces(
     track: &mut Track,
     bodies: &mut Vec<Piece>,
 ) -> Result<(), AllocError>
-    requires { IsSome track.old.present }
+    requires present { IsSome track.old.present }
+    requires numbers { HasNumbers track.old bodies.old.items (λ i. pieces_say i pieces.items) }
     ensures stays { OnOk result (Stays track.old track.new) }
     ensures lighter { OnOk result (weight bodies.new.items ≤ weight bodies.old.items) }
     ensures tells { OnOk result ((i : Interpretation) → Walks i track.old track.new bodies.old.items bodies.new.items (pieces_say i pieces.items)) }
@@ -102,7 +110,8 @@ fn tell_pieces(
 // The next of the bodies at hand; it tells nothing where none is left.
 #[cycle(telling)]
 fn tell_next(track: &mut Track, bodies: &mut Vec<Piece>) -> Result<(), AllocError>
-    requires { IsSome track.old.present }
+    requires present { IsSome track.old.present }
+    requires numbers { (start : ℕ) × HasNumbers track.old bodies.old.items (λ i. says_passed i start) }
     ensures stays { OnOk result (Stays track.old track.new) }
     ensures lighter { OnOk result (weight bodies.new.items ≤ weight bodies.old.items) }
     ensures tells { OnOk result ((i : Interpretation) (start : ℕ)
@@ -121,7 +130,8 @@ fn tell_kept(
     track: &mut Track,
     bodies: &mut Vec<Piece>,
 ) -> Result<(), AllocError>
-    requires { IsSome track.old.present }
+    requires present { IsSome track.old.present }
+    requires numbers { HasNumbers track.old bodies.old.items (λ i. says_read (pieces_say i pieces.items)) }
     ensures stays { OnOk result (Stays track.old track.new) }
     ensures lighter { OnOk result (weight bodies.new.items ≤ weight bodies.old.items) }
     ensures tells { OnOk result ((i : Interpretation)
@@ -143,7 +153,8 @@ fn tell_jump(jump: ToldJump, track: &mut Track) -> Result<(), AllocError>
 
 // A block in which nothing stands.
 fn tell_empty_block(track: &mut Track) -> Result<(), AllocError>
-    requires { IsSome track.old.present }
+    requires present { IsSome track.old.present }
+    requires number { length track.old.parts < 2 ^ 31 }
     ensures { OnOk result (track.new ≡ left (entered track.old kind.Block 0)) }
 {
     track.enter(Region::Block, 0)?;
@@ -163,13 +174,14 @@ fn tell_this(track: &mut Track) -> Result<(), AllocError>
 
 /// Tells a track a script: its piece, as the handler makes it of its statements, with the bodies of its functions in the order
 /// of the source, the next one last; those inside a body stand after it, and of one function those in its parameters before
-/// its own. The memory of a piece is given back when it has been told. No region is present again. The error is that memory is out, or that the track has no number for a region more.
+/// its own. The memory of a piece is given back when it has been told. No region is present again. The error is that memory is out.
 pub fn tell_script(
     script: Piece,
     track: &mut Track,
     bodies: &mut Vec<Piece>,
 ) -> Result<(), AllocError>
-    requires { track.old.present ≡ None }
+    requires outside { track.old.present ≡ None }
+    requires numbers { HasScriptNumbers track.old bodies.old.items script }
     ensures tells { OnOk result ((i : Interpretation) (items : model.Stmts) → KnowsThis i track.old → SaysBody i script items
         → ShowAll (SaysBody i) (reverse bodies.old.items) (in_stmts true items [])
         → logged (tells_script items) (log_text i track.old) ≡ log_text i track.new) }

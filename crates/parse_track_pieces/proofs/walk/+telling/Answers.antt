@@ -1,22 +1,24 @@
-use Rattle.std.proofs.Common.{◌∙◌, ap, arith, refl, sym}
+use Rattle.std.proofs.Common.{◌∙◌, ap, arith, refl, rules, subst, sym}
 use Rattle.std.proofs.lemmas.Iterator.Adapters.{YieldsList-from_vec}
-use Rattle.std.proofs.lemmas.Iterator.Consumers.{YieldsList-end}
+use Rattle.std.proofs.lemmas.Iterator.Consumers.{YieldsList-end, YieldsList-so_far, YieldsList-turn}
 use Rattle.std.specs.declared.vec.Vec.{Vec}
 use Rattle.std.specs.declared.alloc.Global.{Global}
 use Rattle.script_grammar.specs.Interpretation.{maybe_named}
 use Rattle.parse_track.specs.Told as told
-use Rattle.parse_track.specs.Log.{label_of, name_of, region_of}
+use Rattle.parse_track.specs.Log.{Log, label_of, name_of, region_of}
 use Rattle.parse_track.specs.Tells.{tells_jump}
 use Rattle.track_log_laws.specs.Spelled.{region_text}
-use Rattle.parse_track_pieces.specs.declared.piece.Piece.{Piece}
+use Rattle.parse_track_pieces.specs.declared.piece.Piece.{Piece, size-Piece}
 use Rattle.parse_track_pieces.specs.declared.piece.RegionHead.{RegionHead}
 use Rattle.parse_track_pieces.specs.declared.piece.ToldJump.{ToldJump}
 use Rattle.parse_track_pieces.specs.Pieces.{telling, piece_says, pieces_say, says_read, says_region}
+use Rattle.parse_track_pieces.specs.Walks.{HasNumbers}
 use Rattle.parse_track_pieces.specs.Weight.{weight}
 use Rattle.parse_track_pieces.proofs.PieceEquations.{says-Declared, says-Used, says-This, says-Jumped, says-Inside, says-EmptyBlock, says-Many, says-Passed, says-Kept}
 use Rattle.parse_track.specs.declared.region.Region.TheVariants as kind
 use Rattle.parse_track_pieces.proofs.Appending.{map-same}
 use Rattle.parse_track_pieces.proofs.Logs.{stays}
+use Rattle.parse_track_pieces.proofs.Numbers.{inside_numbers, next_numbers, numbers_as, passed_numbers, popped_numbers, region_number, split_at}
 use Rattle.parse_track_pieces.proofs.Walking.{label_text, leaf_stays_as, none_left, popped_lighter, region_stays_as, turn_begin, turn_end, turn_next, walk_as, walk_leaf, walk_none, walk_nothing, walk_passed, walk_popped, walk_region, walk_this, weight_push}
 use Rattle.parse_track_pieces.proofs.walk.+telling.Goals as goal
 
@@ -101,6 +103,33 @@ tell_piece-returns-in_ok-tell_kept-in-Kept-clause-tells t c = λ i.
     walk_as i (λ rest. ap (λ p. piece_says i p rest) c.in-Kept.is ∙ says-Kept i c.in-Kept.pieces rest ∙ ap (λ (v : Vec Piece Global). says_read (pieces_say i v.items) rest) (sym c.into_inner-in-Kept.ensures))
     (c.in_ok-tell_kept-in-Kept.ensures.tells i)
 
+-- there is a number for each region that is entered
+
+pub tell_piece-enter-requires : goal.tell_piece-enter-requires
+tell_piece-enter-requires t c =
+    let region = c.into_inner-pieces.result in
+    region_number region.0.kind region.0.at (λ i. pieces_say i region.1.items)
+    (numbers_as
+    (λ i rest. ap (λ p. piece_says i p rest) c.in-Inside.is
+    ∙ says-Inside i c.in-Inside.region rest
+    ∙ ap (λ (r : RegionHead × Vec Piece Global). says_region (region_text i (region_of r.0.kind)) r.0.at (pieces_say i r.1.items) rest) (sym c.into_inner-pieces.ensures))
+    c.requires.numbers)
+
+pub tell_piece-tell_empty_block-requires-clause-number : goal.tell_piece-tell_empty_block-requires-clause-number
+tell_piece-tell_empty_block-requires-clause-number t c =
+    region_number kind.Block 0 (λ i inside. inside) (numbers_as (λ i rest. ap (λ p. piece_says i p rest) c.in-EmptyBlock.is ∙ says-EmptyBlock i rest) c.requires.numbers)
+
+pub tell_pieces-tell_piece-requires : goal.tell_pieces-tell_piece-requires
+tell_pieces-tell_piece-requires t c =
+    let start = c.into_iter-piece-iterator.ensures.into_iter_gives in
+    let road = YieldsList-from_vec c.args.pieces.items start.0 (start.1 ∙ c.args.pieces.ok.0) in
+    let done = c.loop-piece.yielded in
+    let so_far = YieldsList-so_far road done c.loop-piece.piece-iterator c.loop-piece.yielded_by in
+    let turn = YieldsList-turn road done c.loop-piece.piece-iterator c.loop-piece.yielded_by c.next.result c.next.new.self c.in-Some.piece c.in-Some.is c.next.ensures.steps in
+    (search rules, (search rules,
+    next_numbers c.args.pieces.items done _ c.in-Some.piece (split_at c.args.pieces.items done c.in-Some.piece (sym (map-same done) ∙ so_far) turn.0 turn.1) c.loop-piece.invariant
+    (subst (λ (log : Log). HasNumbers log c.args.bodies.now.items (λ i. pieces_say i c.args.pieces.items)) (sym c.make_room.ensures) c.requires.numbers)))
+
 pub tell_pieces-loop-piece-init : goal.tell_pieces-loop-piece-init
 tell_pieces-loop-piece-init t c = turn_begin _ _
 
@@ -126,7 +155,7 @@ tell_next-returns-in_ok-tell_piece-in-Some-clause-tells t c = λ i start. walk_p
 pub tell_next-tell_piece-requires : goal.tell_next-tell_piece-requires
 tell_next-tell_piece-requires t c =
     let e = ap weight c.in-Some.ensures.items ∙ weight_push _ c.in-Some.body in
-    (omega (arith, e, c.decreases), c.requires)
+    (omega (arith, e, c.decreases), (c.requires.present, passed_numbers c.in-Some.body c.in-Some.ensures.items c.requires.numbers))
 
 pub tell_kept-returns-clause-lighter : goal.tell_kept-returns-clause-lighter
 tell_kept-returns-clause-lighter t c =
@@ -140,7 +169,7 @@ tell_kept-returns-clause-tells t c = λ i. walk_popped i _ _ c.pop.result _ _ _ 
 pub tell_kept-tell_pieces-requires : goal.tell_kept-tell_pieces-requires
 tell_kept-tell_pieces-requires t c =
     let e = popped_lighter c.pop.result _ _ c.pop.ensures.items in
-    (omega (arith, e, c.decreases), c.requires)
+    (omega (arith, e, c.decreases), (c.requires.present, popped_numbers _ _ c.pop.result _ _ _ c.pop.ensures.items c.pop.ensures.rest c.pop.ensures.cases c.requires.numbers))
 
 pub tell_next-returns-in-None-clause-tells : goal.tell_next-returns-in-None-clause-tells
 tell_next-returns-in-None-clause-tells t c = λ i start. walk_none i start (none_left _ _ _ c.in-None.ensures.items c.in-None.ensures.rest c.in-None.ensures.cases.0)

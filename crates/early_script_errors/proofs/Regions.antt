@@ -1,11 +1,9 @@
 -- A track has numbers for the regions of a script that tells few.
-use Rattle.std.proofs.Common.{◌≡◌, ℕ, ◌+◌, ◌^◌, ◌<◌, ◌∙◌, List, reverse, refl, sym, ap, subst, arith}
+use Rattle.std.proofs.Common.{◌≡◌, ◌^◌, ◌<◌, ◌∙◌, List, reverse, refl, sym, ap, subst, arith}
 use Rattle.std.proofs.lemmas.List.{reverse-reverse}
 use Rattle.std.specs.Prelude.{Option}
 use Rattle.script_grammar.specs.Braced.{braced_all}
-use Rattle.script_grammar.specs.Interpretation.{text_of}
 use Rattle.script_grammar.specs.Shows.{ShowAll}
-use Rattle.script_grammar.specs.Tree.{Stmts}
 use Rattle.parse_track.specs.declared.region.Early.{Early}
 use Rattle.parse_track.specs.declared.region.WellKnownAtoms.{WellKnownAtoms}
 use Rattle.parse_track.specs.Counted.{region_count}
@@ -43,17 +41,19 @@ track_few track h =
     omega (arith, e, few)
 
 -- the bodies at hand stand in reverse
-pub script_few : (known : WellKnownAtoms) (top : Piece) (bodies hand : List Piece) (first : Option Early) (track : Log) → AreOfFew known top bodies first
-    → track ≡ empty known → hand ≡ reverse bodies → HasScriptNumbers track hand top
+pub script_few : (known : WellKnownAtoms) (top : Piece) (bodies hand : List Piece) (first : Option Early) (track : Log)
+    → AreOfFew known top bodies first → track ≡ empty known → hand ≡ reverse bodies → HasScriptNumbers track hand top
 script_few known top bodies hand first track h begun reversed = subst (λ (log : Log). HasScriptNumbers log hand top) (sym begun) (record {
   i = own h.texts h.items;
   items = h.items;
   knows = knows_this (own h.texts h.items) known h.of.knows;
   says = h.told.script;
-  hand = subst (λ (ps : List Piece). ShowAll (SaysBody (own h.texts h.items)) ps (braced_all h.items)) (sym (ap reverse reversed ∙ reverse-reverse bodies)) h.told.braced;
+  hand =
+      subst (λ (ps : List Piece). ShowAll (SaysBody (own h.texts h.items)) ps (braced_all h.items))
+      (sym (ap reverse reversed ∙ reverse-reverse bodies)) h.told.braced;
   few = let few = h.few in omega (arith, few);
 })
 
-pub told_few : (known : WellKnownAtoms) (top : Piece) (bodies : List Piece) (first : Option Early) (track : Log) (h : AreOfFew known top bodies first)
-    → IsTrackOf h.texts track h.items → IsTrackOfFew track
+pub told_few : (known : WellKnownAtoms) (top : Piece) (bodies : List Piece) (first : Option Early) (track : Log)
+    (h : AreOfFew known top bodies first) → IsTrackOf h.texts track h.items → IsTrackOfFew track
 told_few known top bodies first track h told = record { texts = h.texts; items = h.items; told = told; few = h.few }

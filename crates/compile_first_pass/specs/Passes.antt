@@ -1,10 +1,11 @@
 -- What a first pass over a file comes to.
-use Rattle.std.specs.Prelude.{◌≡◌, ℕ, List, length, map, Result, Ok, Err}
+use Rattle.std.specs.Prelude.{◌≡◌, ◌≤◌, ℕ, List, length, map, Result, Ok, Err}
 use Rattle.script_grammar.specs.Braced.{braced_all}
 use Rattle.script_grammar.specs.Interpretation.{Interpretation}
 use Rattle.script_grammar.specs.Tree.{Stmts}
 use Rattle.grammar_parser_specs.specs.Filling.{fill_stmts}
 use Rattle.parse_exprs.specs.Env.{body_at}
+use Rattle.parse_track.specs.declared.region.WellKnownAtoms.{WellKnownAtoms}
 use Rattle.parse_track.specs.Notes.{closed_names}
 use Rattle.parse_track.specs.Scopes.{bounds_of}
 use Rattle.track_renaming_laws.specs.Renaming.{renamed_bound}
@@ -65,6 +66,16 @@ pub record IsSkimmedFile (file : FileTokens) (script : SkimmedScript) (items : S
   pub parts : (bodies : ℕ → Stmts)
       → SkimsScript (under file.texts.items bodies) script
       (fill_stmts (body_at (under file.texts.items bodies)) items) (map (fill_stmts (body_at (under file.texts.items bodies))) (braced_all items))
+
+-- What was taken apart is of some file within the limit of length, whose known words have these atoms: each token begins at a byte
+-- of its own, but for the last one.
+pub record IsOfSmallFile (known : WellKnownAtoms) (script : SkimmedScript) : Type 0 where
+  pub file : FileTokens
+  pub items : Stmts
+  pub sound : IsSound file
+  pub skimmed : IsSkimmedFile file script items
+  pub known_is : file.known ≡ known
+  pub few : length file.tokens.items ≤ 16777216
 
 -- the file is refused for this
 abbrev pub IsRefusedFor : FileTokens → SourceFault → Type 0

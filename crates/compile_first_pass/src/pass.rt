@@ -7,7 +7,7 @@ ghost use Rattle.script_grammar.specs.Tree.{Stmts};
 ghost use Rattle.session_specs.specs.Sources as source;
 ghost use Rattle.parse_script.specs.declared.file_tokens.FileTokens.{FileTokens};
 ghost use Rattle.parse_script.specs.Tokens.{AreTokensOf, IsSound};
-ghost use Rattle.compile_first_pass.specs.Passes.{IsChecked, IsFirstPass, IsListed, IsRead, IsSkimmedFile};
+ghost use Rattle.compile_first_pass.specs.Passes.{IsChecked, IsFirstPass, IsListed, IsOfSmallFile, IsRead, IsSkimmedFile};
 
 use crate::skim::{SkimmedScript, Skims, skim};
 use early_script_errors::check_told;
@@ -145,6 +145,7 @@ fn check_skimmed(
     known: WellKnownAtoms,
     script: SkimmedScript,
 ) -> Result<Result<CheckedScript, SourceFault>, AllocError>
+    requires { IsOfSmallFile known script }
     ensures { IfOk result (λ checked. (file : FileTokens) (items : Stmts) → IsSound file → IsSkimmedFile file script items → file.known ≡ known
         → IsChecked file items checked) }
 {
@@ -174,7 +175,8 @@ fn pass_over<H: Skims + Drop>(
     handler: H,
     file: FileTokens,
 ) -> Result<FirstPass, AllocError>
-    requires { IsSound file }
+    requires sound { IsSound file }
+    requires few { length file.tokens.items ≤ 16777216 }
     ensures { IfOk result (λ pass. (bytes : List ℕ) → AreTokensOf file (length bytes) bytes → IsFirstPass bytes pass) }
 {
     let script = match read_file(alloc, handler, &file)? {

@@ -37,7 +37,8 @@ fn check_over<H: Skims + Drop>(
     handler: H,
     file: FileTokens,
 ) -> Result<FileVerdict, AllocError>
-    requires { IsSound file }
+    requires sound { IsSound file }
+    requires few { length file.tokens.items ≤ 16777216 }
     ensures { IfOk result (λ verdict. (bytes : List ℕ) → AreTokensOf file (length bytes) bytes → IsVerdict bytes verdict) }
 {
     let script = match read_file(alloc, handler, &file)? {

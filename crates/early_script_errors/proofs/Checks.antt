@@ -34,7 +34,7 @@ module _ (track : Log) where
   abbrev pub Comes : (List (List ℕ) → Stmts → Type 0) → Type 0
   Comes Is = (texts : List (List ℕ)) (items : Stmts) → IsTrackOf texts track items → Is texts items
 
-  tells : Comes (λ texts items. TellsOf texts (known_names track.known) (told_of track.parts) items)
+  pub tells : Comes (λ texts items. TellsOf texts (known_names track.known) (told_of track.parts) items)
   tells texts items h =
       script-tells (own texts items) (empty track.known) track items refl h.told h.of.tokens h.of.end refl h.of.once
       (knows_names (own texts items) track.known h.of.knows) h.of.script h.of.names

@@ -1,3 +1,4 @@
 pub mod Checks
 pub mod Own
 pub mod Words
+pub mod Regions

@@ -1,5 +1,5 @@
 -- A script that was read without trees, of which a track is told.
-use Rattle.std.specs.Prelude.{ℕ, ◌≡◌, List, [], codes, slice_get, Option, Some, None}
+use Rattle.std.specs.Prelude.{ℕ, ◌≡◌, ◌<◌, ◌^◌, List, [], codes, slice_get, Option, Some, None}
 use Rattle.script_grammar.specs.Braced.{braced_all}
 use Rattle.script_grammar.specs.Interpretation.{Interpretation}
 use Rattle.script_grammar.specs.Lexeme.{Lexeme}
@@ -11,6 +11,7 @@ use Rattle.grammar_start_laws.specs.Own.{TokensRise, stmts_at}
 use Rattle.grammar_start_laws.specs.Started.{started_stmts}
 use Rattle.parse_track.specs.declared.region.Early.{Early}
 use Rattle.parse_track.specs.declared.region.WellKnownAtoms.{WellKnownAtoms}
+use Rattle.parse_track.specs.Counted.{region_count}
 use Rattle.parse_track.specs.Log.{Log}
 use Rattle.parse_track.specs.Notes.{first_note, notes_stmts}
 use Rattle.parse_track.specs.Tells.{tells_script}
@@ -58,3 +59,18 @@ pub record IsTrackOf (texts : List (List ℕ)) (track : Log) (items : Stmts) : T
   pub of : IsOf texts track.known items
   pub told : logged (tells_script items) untold ≡ log_text (own texts items) track
   pub noted : track.noted ≡ first_note (notes_stmts items)
+
+-- The pieces are told of some script, and it tells fewer than 2^31 regions.
+pub record AreOfFew (known : WellKnownAtoms) (top : Piece) (bodies : List Piece) (first : Option Early) : Type 0 where
+  pub texts : List (List ℕ)
+  pub items : Stmts
+  pub of : IsOf texts known items
+  pub told : IsTold texts top bodies first items
+  pub few : region_count (tells_script items) < 2 ^ 31
+
+-- The track was told some script and nothing else, and it tells fewer than 2^31 regions.
+pub record IsTrackOfFew (track : Log) : Type 0 where
+  pub texts : List (List ℕ)
+  pub items : Stmts
+  pub told : IsTrackOf texts track items
+  pub few : region_count (tells_script items) < 2 ^ 31

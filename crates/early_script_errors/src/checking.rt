@@ -8,7 +8,7 @@ ghost use Rattle.parse_track.specs.Scopes.{bounds_of};
 ghost use Rattle.parse_track.specs.Tells.{tells_script};
 ghost use Rattle.track_renaming_laws.specs.Renaming.{renamed_bound};
 ghost use Rattle.track_renaming_laws.specs.Texts.{text_at};
-ghost use Rattle.early_script_errors.specs.Told.{IsOf, IsTold, IsTrackOf};
+ghost use Rattle.early_script_errors.specs.Told.{AreOfFew, IsOf, IsTold, IsTrackOf, IsTrackOfFew};
 
 use parse_track::region::{ClosedAt, Early, WellKnownAtoms};
 use parse_track::track::Track;
@@ -29,7 +29,7 @@ pub struct Checked {
 
 /// Checks the script whose statements `top` says, with the pieces of the bodies of its functions, in the order of the source,
 /// those inside a body after it. `known` has the atoms of the known words, and `first` is the script's first early error of
-/// a rule that looks at no region.
+/// a rule that looks at no region. The script tells fewer than 2^31 regions, as each within the limit of a file does.
 pub fn check_told(
     alloc: Global,
     known: WellKnownAtoms,
@@ -37,6 +37,7 @@ pub fn check_told(
     bodies: Vec<Piece>,
     first: Option<Early>,
 ) -> Result<Checked, AllocError>
+    requires { AreOfFew known top bodies.items first }
     ensures early { IfOk result (λ checked. (texts : List (List ℕ)) (items : Stmts) → IsOf texts known items
         → IsTold texts top bodies.items first items → checked.early ≡ early_error items) }
     ensures functions { IfOk result (λ checked. (texts : List (List ℕ)) (items : Stmts) → IsOf texts known items
@@ -58,6 +59,7 @@ pub fn first_early_error(
     bodies: Vec<Piece>,
     first: Option<Early>,
 ) -> Result<Option<Early>, AllocError>
+    requires { AreOfFew known top bodies.items first }
     ensures { IfOk result (λ early. (texts : List (List ℕ)) (items : Stmts) → IsOf texts known items
         → IsTold texts top bodies.items first items → early ≡ early_error items) }
 {
@@ -75,6 +77,7 @@ fn told_track(
     mut bodies: Vec<Piece>,
     first: Option<Early>,
 ) -> Result<Track, AllocError>
+    requires { AreOfFew known top bodies.items first }
     ensures { IfOk result (λ track. (texts : List (List ℕ)) (items : Stmts) → IsOf texts known items
         → IsTold texts top bodies.items first items → IsTrackOf texts track items) }
 {
@@ -97,6 +100,7 @@ fn note_first(track: &mut Track, first: Option<Early>)
 
 /// Checks the script that the track was told, and nothing else.
 fn check_track(track: Track) -> Result<Checked, AllocError>
+    requires { IsTrackOfFew track }
     ensures early { IfOk result (λ checked. (texts : List (List ℕ)) (items : Stmts) → IsTrackOf texts track items
         → checked.early ≡ early_error items) }
     ensures functions { IfOk result (λ checked. (texts : List (List ℕ)) (items : Stmts) → IsTrackOf texts track items

@@ -1,3 +1,4 @@
+use Rattle.compile_first_pass.proofs.FewTokens.{listed_few}
 use Rattle.compile_first_pass.proofs.PassLemmas.{none_of, of_known, early_at, valid}
 use Rattle.compile_first_pass.proofs.pass.check_skimmed.Goals as goal
 
@@ -16,3 +17,8 @@ returns c = λ file items sound h same.
       placed = listed.placed;
       closed = c.in_ok-checked.ensures.closed file.texts.items items of listed.told;
     }
+
+pub check_told-requires : goal.check_told-requires
+check_told-requires c =
+    let few = c.requires in
+    listed_few few.file few.items c.args.known c.in_ok-listed.listed (c.in_ok-listed.ensures few.file few.items few.sound few.skimmed) few.known_is few.few

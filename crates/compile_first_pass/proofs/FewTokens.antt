@@ -40,7 +40,8 @@ lexemes_few bytes utf8 =
 length_tokens : (file : FileTokens) → length (tokens_in file) ≡ length file.tokens.items
 length_tokens file = length-map file.tokens.items _
 
-pub file_few : (file : FileTokens) (bytes : List ℕ) → IsUtf8 bytes → tokens_in file ≡ lexemes bytes → length bytes ≤ 16777215 → length file.tokens.items ≤ 16777216
+pub file_few : (file : FileTokens) (bytes : List ℕ) → IsUtf8 bytes → tokens_in file ≡ lexemes bytes → length bytes ≤ 16777215
+    → length file.tokens.items ≤ 16777216
 file_few file bytes utf8 same short =
     let e = length_tokens file in
     let f = ap (λ (ts : List Lexeme). length ts) same in
@@ -49,7 +50,8 @@ file_few file bytes utf8 same short =
 
 -- ---- regions
 
-text_few : (file : FileTokens) (items : Stmts) → IsText (tokens_in file) items → length file.tokens.items ≤ 16777216 → region_count (tells_script items) < 2 ^ 31
+text_few : (file : FileTokens) (items : Stmts) → IsText (tokens_in file) items → length file.tokens.items ≤ 16777216
+    → region_count (tells_script items) < 2 ^ 31
 text_few file items text few =
     let e = script_regions text.inner text.end items text.script in
     let f = length_tokens file in
@@ -57,8 +59,8 @@ text_few file items text few =
     let k = length-append text.inner (text.end ∷ []) in
     omega (arith, e, f, g, k, few)
 
-pub listed_few : (file : FileTokens) (items : Stmts) (known : WellKnownAtoms) (listed : ListedScript) → IsListed file items listed → file.known ≡ known
-    → length file.tokens.items ≤ 16777216 → AreOfFew known listed.top listed.bodies.items listed.first
+pub listed_few : (file : FileTokens) (items : Stmts) (known : WellKnownAtoms) (listed : ListedScript) → IsListed file items listed
+    → file.known ≡ known → length file.tokens.items ≤ 16777216 → AreOfFew known listed.top listed.bodies.items listed.first
 listed_few file items known listed h same few = record {
   texts = file.texts.items;
   items = items;
@@ -67,6 +69,6 @@ listed_few file items known listed h same few = record {
   few = text_few file items h.text few;
 }
 
-pub small_file : (file : FileTokens) (items : Stmts) (script : SkimmedScript) → IsSound file → IsSkimmedFile file script items → length file.tokens.items ≤ 16777216
-    → IsOfSmallFile file.known script
+pub small_file : (file : FileTokens) (items : Stmts) (script : SkimmedScript) → IsSound file → IsSkimmedFile file script items
+    → length file.tokens.items ≤ 16777216 → IsOfSmallFile file.known script
 small_file file items script sound h few = record { file = file; items = items; sound = sound; skimmed = h; known_is = refl; few = few }

@@ -55,12 +55,7 @@ fn make_room(pieces: &[Piece], track: &mut Track) -> Result<(), AllocError>
 
 // A piece.
 #[cycle(telling)]
-#[tactic(auto, using(
-    crate::proofs::Numbers::numbers_inside,
-    crate::proofs::Numbers::numbers_many,
-    crate::proofs::Numbers::numbers_passed,
-    crate::proofs::Numbers::numbers_kept
-))]
+#[tactic(auto, using(crate::proofs::Numbers::numbers_inside, crate::proofs::Numbers::numbers_many, crate::proofs::Numbers::numbers_passed, crate::proofs::Numbers::numbers_kept))]
 fn tell_piece(piece: Piece, track: &mut Track, bodies: &mut Vec<Piece>) -> Result<(), AllocError>
     requires present { IsSome track.old.present }
     requires numbers { HasNumbers track.old bodies.old.items (λ i. piece_says i piece) }

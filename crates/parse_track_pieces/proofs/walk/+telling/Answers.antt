@@ -20,7 +20,7 @@ use Rattle.parse_track_pieces.proofs.PieceEquations.{says-Declared, says-Used, s
 use Rattle.parse_track.specs.declared.region.Region.TheVariants as kind
 use Rattle.parse_track_pieces.proofs.Appending.{map-same}
 use Rattle.parse_track_pieces.proofs.Logs.{stays}
-use Rattle.parse_track_pieces.proofs.Numbers.{numbers_inside,  next_numbers, numbers_as, passed_numbers, popped_numbers, region_number, split_at}
+use Rattle.parse_track_pieces.proofs.Numbers.{numbers_inside, next_numbers, numbers_as, passed_numbers, popped_numbers, region_number, split_at}
 use Rattle.parse_track_pieces.proofs.Walking.{label_text, leaf_stays_as, none_left, popped_lighter, region_stays_as, turn_begin, turn_end, turn_next, walk_as, walk_leaf, walk_none, walk_nothing, walk_passed, walk_popped, walk_region, walk_this, weight_push}
 use Rattle.parse_track_pieces.proofs.walk.+telling.Goals as goal
 
@@ -134,10 +134,14 @@ tell_pieces-tell_piece-requires t c =
     let turn = YieldsList-turn road done c.loop-piece.piece-iterator c.loop-piece.yielded_by c.next.result c.next.new.self c.in-Some.piece c.in-Some.is c.next.ensures.steps in
     let below : size-Piece c.in-Some.piece ≤ most size-Piece c.args.pieces.items =
     subst (λ (p : Piece). size-Piece p ≤ most size-Piece c.args.pieces.items) (sym turn.1) (at_most size-Piece c.args.pieces.items (length done) c.in-Some.piece turn.0) in
-    let lighter = c.loop-piece.invariant.lighter in
-    (omega (arith, below, lighter, c.decreases), (search rules,
-    next_numbers c.args.pieces.items done _ c.in-Some.piece (split_at c.args.pieces.items done c.in-Some.piece (sym (map-same done) ∙ so_far) turn.0 turn.1) c.loop-piece.invariant
-    (subst (λ (log : Log). HasNumbers log c.args.bodies.now.items (λ i. pieces_say i c.args.pieces.items)) (sym c.make_room.ensures) c.requires.numbers)))
+    let lighter = c.loop-piece.invariant.lighter in (
+      omega (arith, below, lighter, c.decreases),
+      (
+        search rules,
+        next_numbers c.args.pieces.items done _ c.in-Some.piece (split_at c.args.pieces.items done c.in-Some.piece (sym (map-same done) ∙ so_far) turn.0 turn.1) c.loop-piece.invariant
+            (subst (λ (log : Log). HasNumbers log c.args.bodies.now.items (λ i. pieces_say i c.args.pieces.items)) (sym c.make_room.ensures) c.requires.numbers),
+      ),
+    )
 
 pub tell_pieces-loop-piece-init : goal.tell_pieces-loop-piece-init
 tell_pieces-loop-piece-init t c = turn_begin _ _

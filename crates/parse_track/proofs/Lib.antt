@@ -11,6 +11,10 @@ pub mod Binding
 pub mod Regions
 pub mod Shadowing
 pub mod Visiting
+pub mod LoneFunctions
+pub mod PrunedNames
+pub mod PrunedClosed
+pub mod PrunedWalk
 pub mod Marking
 pub mod Closing
 pub mod Smallest

@@ -1,7 +1,7 @@
 -- A visit of items one by one, and of a region with its names, is the walk over what they tell.
-use Rattle.std.proofs.Common.{◌≡◌, ℕ, suc, ◌+◌, ◌-◌, Bool, true, false, cond, nat_eq, Option, None, Some, List, [], ◌∷◌, ◌++◌, length, map, drop, slice_get, refl, sym, ap, subst, ◌∙◌, arith, append-nil, append_assoc, length-append, add-zero, add_assoc}
-use Rattle.std.proofs.Math.Seq.{drop-append_seam}
-use Rattle.std.proofs.lemmas.List.{length-map, map-append, drop-map}
+use Rattle.std.proofs.Common.{◌≡◌, ℕ, suc, ◌+◌, ◌-◌, Bool, true, false, cond, ◌&&◌, nat_eq, Option, None, Some, List, [], ◌∷◌, ◌++◌, length, map, take, drop, slice_get, refl, sym, ap, subst, ◌∙◌, arith, append-nil, append_assoc, length-append, add-zero, add_assoc}
+use Rattle.std.proofs.Math.Seq.{take-append_seam, drop-append_seam}
+use Rattle.std.proofs.lemmas.List.{length-map, map-append, take-map, drop-map}
 use Rattle.std.proofs.lemmas.Bool.{eqb-true, eq-eqb}
 use Rattle.parse_track.specs.declared.region.ClosedAt.{ClosedAt}
 use Rattle.parse_track.specs.declared.closed.Top.{Top}
@@ -18,6 +18,7 @@ use Rattle.parse_track.specs.Scopes.{bound_of, bounds_of}
 use Rattle.parse_track.specs.Shadows.{atoms_bound}
 use Rattle.parse_track.specs.Walk.{Tops, put, bind_all, hit, deeper, size, walk}
 use Rattle.parse_track.specs.Visited.{Stand, Visits}
+use Rattle.parse_track.specs.Pruned.{is_plain, lone, free_uses, pruned}
 use Rattle.parse_track.proofs.Items.{region_tells}
 use Rattle.parse_track.proofs.Walk.{false_is_true, or_left, or_right}
 use Rattle.parse_track.proofs.Binding.{walk_same}
@@ -99,6 +100,15 @@ names_opened before now func scope place xss e f =
     (sym (drop-map bound_of place now)
     ∙ (ap (drop place) f ∙ (ap (λ (n : ℕ). drop n (bounds_of before ++ bound_by func scope xss)) e ∙ drop-append_seam (bounds_of before) (bound_by func scope xss))))
     ∙ names_bound_by func scope xss)
+
+-- the bindings that are left after those of a region are given back
+pub bounds_left : (before now left : List ClosedAt) (place : ℕ) (more : List (Bound ℕ)) → place ≡ length before → left ≡ take place now → bounds_of now ≡ bounds_of before ++ more
+    → bounds_of left ≡ bounds_of before
+bounds_left before now left place more e f g =
+    ap (map bound_of) f
+    ∙ (sym (take-map bound_of place now)
+    ∙ (ap (take place) g
+    ∙ (ap (λ (n : ℕ). take n (bounds_of before ++ more)) (e ∙ sym (length-map before bound_of)) ∙ take-append_seam (bounds_of before) more)))
 
 -- nothing more to visit
 pub visits_none : (known : KnownNames ℕ) (named : Bool) (func : Option ℕ) (depth : ℕ) (a : Stand) → Visits known named func depth a a nothing
@@ -184,10 +194,28 @@ visits_inner_then known named func depth a b c k at i t v w =
     walked = walk known (is_lambda k) (bind_all (deeper (begins named k) depth) (length a.bound) (names nat_eq known k i) a.tops) (length a.bound + length (names nat_eq known k i)) (deeper (begins named k) depth) i
 
 pub visits_cons : (known : KnownNames ℕ) (named : Bool) (func : Option ℕ) (depth : ℕ) (a b c : Stand) (parts : List Part) (inside : ℕ → Told ℕ) (x : Item) (xs : List Item)
-    → Visits known named func depth a b (told_items parts inside (x ∷ [])) → Visits known named func depth b c (told_items parts inside xs) → Visits known named func depth a c (told_items parts inside (x ∷ xs))
-visits_cons known named func depth a b c parts inside (log.Leaf l) xs v w = visits_leaf known named func depth a b c l (told_items parts inside xs) v w
-visits_cons known named func depth a b c parts inside (log.Inner m) xs v w =
-    visits_inner_then known named func depth a b c (kind_of (slice_get parts m)) (log.at_of (slice_get parts m)) (inside m) (told_items parts inside xs) v w
+    → Visits known named func depth a b (pruned known named (told_items parts inside (x ∷ []))) → Visits known named func depth b c (pruned known named (told_items parts inside xs))
+    → Visits known named func depth a c (pruned known named (told_items parts inside (x ∷ xs)))
+visits_cons known named func depth a b c parts inside (log.Leaf l) xs v w = visits_leaf known named func depth a b c l (pruned known named (told_items parts inside xs)) v w
+visits_cons known named func depth a b c parts inside (log.Inner m) xs v w = pick (is_plain named k && lone (inside m)) v where
+  k : Region ℕ
+  k = kind_of (slice_get parts m)
+
+  at : ℕ
+  at = log.at_of (slice_get parts m)
+
+  u : Told ℕ
+  u = free_uses known (names nat_eq known k (inside m)) (inside m) nothing
+
+  j : Told ℕ
+  j = pruned known (is_lambda k) (inside m)
+
+  t : Told ℕ
+  t = pruned known named (told_items parts inside xs)
+
+  pick : (one : Bool) → Visits known named func depth a b (cond one (inner Arrow at u nothing) (inner k at j nothing)) → Visits known named func depth a c (cond one (inner Arrow at u t) (inner k at j t))
+  pick true v' = visits_inner_then known named func depth a b c Arrow at u t v' w
+  pick false v' = visits_inner_then known named func depth a b c k at j t v' w
 
 -- A region with its names: they are bound, its parts are visited, and they are bound to what they were.
 bind_other_at : (x y : ℕ) (T : Tops) (top : Top) (b : Bool) → nat_eq x y ≡ b → nat_eq y x ≡ false → cond b (Some top) (T y) ≡ T y
@@ -250,40 +278,40 @@ region_visits known named func depth before entered behind now k at i lambda own
 -- the goals of the visit
 pub visit_step : (known : KnownNames ℕ) (named : Bool) (func : Option ℕ) (depth : ℕ) (parts : List Part) (inside : ℕ → Told ℕ) (start now next : Stand) (items : List row.Item) (index : ℕ) (x : row.Item)
     → drop index items ≡ x ∷ drop (index + 1) items
-    → ((last : Stand) → Visits known named func depth now last (told_items parts inside (map item_of (drop index items))) → Visits known named func depth start last (told_items parts inside (map item_of items)))
-    → Visits known named func depth now next (told_items parts inside (item_of x ∷ []))
-    → (last : Stand) → Visits known named func depth next last (told_items parts inside (map item_of (drop (index + 1) items))) → Visits known named func depth start last (told_items parts inside (map item_of items))
+    → ((last : Stand) → Visits known named func depth now last (pruned known named (told_items parts inside (map item_of (drop index items)))) → Visits known named func depth start last (pruned known named (told_items parts inside (map item_of items))))
+    → Visits known named func depth now next (pruned known named (told_items parts inside (item_of x ∷ [])))
+    → (last : Stand) → Visits known named func depth next last (pruned known named (told_items parts inside (map item_of (drop (index + 1) items)))) → Visits known named func depth start last (pruned known named (told_items parts inside (map item_of items)))
 visit_step known named func depth parts inside start now next items index x d inv v last w =
-    inv last (subst (λ (xs : List row.Item). Visits known named func depth now last (told_items parts inside (map item_of xs))) (sym d)
+    inv last (subst (λ (xs : List row.Item). Visits known named func depth now last (pruned known named (told_items parts inside (map item_of xs)))) (sym d)
     (visits_cons known named func depth now next last parts inside (item_of x) (map item_of (drop (index + 1) items)) v w))
 
 pub visit_end : (known : KnownNames ℕ) (named : Bool) (func : Option ℕ) (depth : ℕ) (parts : List Part) (room n : ℕ) (start now : Stand) (items left : List row.Item) → left ≡ []
-    → ((last : Stand) → Visits known named func depth now last (told_items parts (told_region (room - 1) parts) (map item_of left)) → Visits known named func depth start last (told_items parts (told_region (room - 1) parts) (map item_of items)))
-    → map item_of items ≡ items_at room parts n → Visits known named func depth start now (told_region room parts n)
+    → ((last : Stand) → Visits known named func depth now last (pruned known named (told_items parts (told_region (room - 1) parts) (map item_of left))) → Visits known named func depth start last (pruned known named (told_items parts (told_region (room - 1) parts) (map item_of items))))
+    → map item_of items ≡ items_at room parts n → Visits known named func depth start now (pruned known named (told_region room parts n))
 visit_end known named func depth parts room n start now items left e inv f =
-    subst (λ (t : Told ℕ). Visits known named func depth start now t) (sym (region_tells room parts n))
-    (subst (λ (is : List Item). Visits known named func depth start now (told_items parts (told_region (room - 1) parts) is)) f
-    (inv now (subst (λ (xs : List row.Item). Visits known named func depth now now (told_items parts (told_region (room - 1) parts) (map item_of xs))) (sym e) (visits_none known named func depth now))))
+    subst (λ (t : Told ℕ). Visits known named func depth start now (pruned known named t)) (sym (region_tells room parts n))
+    (subst (λ (is : List Item). Visits known named func depth start now (pruned known named (told_items parts (told_region (room - 1) parts) is))) f
+    (inv now (subst (λ (xs : List row.Item). Visits known named func depth now now (pruned known named (told_items parts (told_region (room - 1) parts) (map item_of xs)))) (sym e) (visits_none known named func depth now))))
 
 -- the outermost regions of a script, one by one
 outer_then : (known : KnownNames ℕ) (named : Bool) (func : Option ℕ) (depth : ℕ) (a b c : Stand) (parts : List Part) (inside : ℕ → Told ℕ) (n : ℕ) (around : Option ℕ) (xs : List Item)
-    → Visits known named func depth a b (told_items parts inside (log.outermost_if n around)) → Visits known named func depth b c (told_items parts inside xs) → Visits known named func depth a c (told_items parts inside (log.outermost_if n around ++ xs))
+    → Visits known named func depth a b (pruned known named (told_items parts inside (log.outermost_if n around))) → Visits known named func depth b c (pruned known named (told_items parts inside xs)) → Visits known named func depth a c (pruned known named (told_items parts inside (log.outermost_if n around ++ xs)))
 outer_then known named func depth a b c parts inside n None xs v w = visits_cons known named func depth a b c parts inside (log.Inner n) xs v w
-outer_then known named func depth a b c parts inside n (Some _) xs v w = leaf_behind known named func depth a b c (told_items parts inside xs) v w
+outer_then known named func depth a b c parts inside n (Some _) xs v w = leaf_behind known named func depth a b c (pruned known named (told_items parts inside xs)) v w
 
 pub outer_step : (known : KnownNames ℕ) (named : Bool) (func : Option ℕ) (depth : ℕ) (parts : List Part) (inside : ℕ → Told ℕ) (start now next : Stand) (rows : List RegionRow) (index : ℕ) (x : RegionRow)
     → drop index rows ≡ x ∷ drop (index + 1) rows
-    → ((last : Stand) → Visits known named func depth now last (told_items parts inside (log.outermost index (map row_of (drop index rows)))) → Visits known named func depth start last (told_items parts inside (log.outermost 0 (map row_of rows))))
-    → Visits known named func depth now next (told_items parts inside (log.outermost_if index x.around))
-    → (last : Stand) → Visits known named func depth next last (told_items parts inside (log.outermost (index + 1) (map row_of (drop (index + 1) rows)))) → Visits known named func depth start last (told_items parts inside (log.outermost 0 (map row_of rows)))
+    → ((last : Stand) → Visits known named func depth now last (pruned known named (told_items parts inside (log.outermost index (map row_of (drop index rows))))) → Visits known named func depth start last (pruned known named (told_items parts inside (log.outermost 0 (map row_of rows)))))
+    → Visits known named func depth now next (pruned known named (told_items parts inside (log.outermost_if index x.around)))
+    → (last : Stand) → Visits known named func depth next last (pruned known named (told_items parts inside (log.outermost (index + 1) (map row_of (drop (index + 1) rows))))) → Visits known named func depth start last (pruned known named (told_items parts inside (log.outermost 0 (map row_of rows))))
 outer_step known named func depth parts inside start now next rows index x d inv v last w =
-    inv last (subst (λ (xs : List RegionRow). Visits known named func depth now last (told_items parts inside (log.outermost index (map row_of xs)))) (sym d)
+    inv last (subst (λ (xs : List RegionRow). Visits known named func depth now last (pruned known named (told_items parts inside (log.outermost index (map row_of xs))))) (sym d)
     (outer_then known named func depth now next last parts inside index x.around (log.outermost (index + 1) (map row_of (drop (index + 1) rows))) v w))
 
 pub outer_end : (known : KnownNames ℕ) (rows left : List RegionRow) (start now : Stand) (index : ℕ) → left ≡ []
-    → ((last : Stand) → Visits known false None 0 now last (told_items (map row_of rows) (told_region (length rows) (map row_of rows)) (log.outermost index (map row_of left)))
-    → Visits known false None 0 start last (told_items (map row_of rows) (told_region (length rows) (map row_of rows)) (log.outermost 0 (map row_of rows))))
-    → Visits known false None 0 start now (log.told_of (map row_of rows))
+    → ((last : Stand) → Visits known false None 0 now last (pruned known false (told_items (map row_of rows) (told_region (length rows) (map row_of rows)) (log.outermost index (map row_of left))))
+    → Visits known false None 0 start last (pruned known false (told_items (map row_of rows) (told_region (length rows) (map row_of rows)) (log.outermost 0 (map row_of rows)))))
+    → Visits known false None 0 start now (pruned known false (log.told_of (map row_of rows)))
 outer_end known rows left start now index e inv =
-    subst (λ (n : ℕ). Visits known false None 0 start now (told_items (map row_of rows) (told_region n (map row_of rows)) (log.outermost 0 (map row_of rows)))) (sym (length-map rows row_of))
-    (inv now (subst (λ (xs : List RegionRow). Visits known false None 0 now now (told_items (map row_of rows) (told_region (length rows) (map row_of rows)) (log.outermost index (map row_of xs)))) (sym e) (visits_none known false None 0 now)))
+    subst (λ (n : ℕ). Visits known false None 0 start now (pruned known false (told_items (map row_of rows) (told_region n (map row_of rows)) (log.outermost 0 (map row_of rows))))) (sym (length-map rows row_of))
+    (inv now (subst (λ (xs : List RegionRow). Visits known false None 0 now now (pruned known false (told_items (map row_of rows) (told_region (length rows) (map row_of rows)) (log.outermost index (map row_of xs))))) (sym e) (visits_none known false None 0 now)))

@@ -13,6 +13,7 @@ pub mod Asked
 pub mod Scopes
 pub mod Shadows
 pub mod Visited
+pub mod Pruned
 pub mod Rules
 pub mod Clashes
 pub mod LexicalNames

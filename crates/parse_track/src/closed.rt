@@ -1,7 +1,9 @@
-//! The names that inner functions close over, by one walk from the outside in.
+//! The names that inner functions close over, by one walk from the outside in. A function in which no function begins closes over
+//! no name of its own: its bindings are given back, and where no use in it finds a binding outside it is passed over.
 
 ghost use Rattle.std.specs.Prelude.{◌≡◌, ◌<◌, ◌+◌, ◌*◌, ◌^◌, ◌++◌, [], ℕ, Option, false, length, slice_get, cond, Some};
 ghost use Rattle.std.specs.Prelude.{None, IfOk, OnOk, map};
+ghost use Rattle.parse_track.specs.Pruned.{is_plain, pruned, told_pruned};
 ghost use Rattle.parse_track.specs.AtomTables.{entry};
 ghost use Rattle.parse_track.specs.RegionNames.{is_lambda};
 ghost use Rattle.parse_track.specs.ClosedNames.{begins, first_at};
@@ -15,6 +17,7 @@ ghost use Rattle.parse_track.specs.Walk.{bind_all, hit, deeper};
 ghost use Rattle.parse_track.specs.Visited.{IsVisited, begun_at};
 
 use crate::atom_table::AtomTable;
+use crate::lone::{is_lone, is_quiet};
 use crate::names::items_at;
 use crate::region::{ClosedAt, Region, WellKnownAtoms};
 use crate::scopes::{ScopeScratch, open_scopes};
@@ -168,6 +171,16 @@ fn visit_use(found: &mut FoundClosed, name: u32, depth: usize) -> Result<(), All
     Ok(())
 }
 
+/// Whether a region is that of a function that begins there.
+fn is_plain(named: bool, region: Region) -> bool
+    ensures { result ≡ is_plain named (region_of region) }
+{
+    match region {
+        Region::Function | Region::Arrow => !named,
+        _ => false,
+    }
+}
+
 /// Whether a region is that of a function's name.
 fn is_lambda(region: Region) -> bool
     ensures { result ≡ is_lambda (region_of region) }
@@ -273,7 +286,8 @@ fn visit_item(
 ) -> Result<u32, AllocError>
     requires depth { around.depth + room + 1 < 2 ^ 64 }
     requires scopes { scope + 2 * region_count (told_by room rows.now item) < 2 ^ 32 }
-    ensures visited { IfOk result (λ next. IsVisited (known_names known.now) around scope found.old found.new next (told_by room rows.now item)) }
+    ensures visited { IfOk result (λ next. IsVisited (known_names known.now) around scope found.old found.new next
+        (pruned (known_names known.now) around.named (told_by room rows.now item))) }
     ensures shadowed { OnOk result (found.new.shadowed.items ≡ found.old.shadowed.items) }
 {
     match item {
@@ -288,7 +302,8 @@ fn visit_item(
     }
 }
 
-/// Visits a region inside: binds its names, visits what stands in it, and binds its names to what they were bound to.
+/// Visits a region inside. Of a function in which no function begins the bindings are given back; where no use in it finds a binding
+/// of a function further out, it is not visited at all.
 #[cycle(visiting)]
 pub fn visit_inner(
     alloc: Global,
@@ -302,7 +317,40 @@ pub fn visit_inner(
 ) -> Result<u32, AllocError>
     requires depth { around.depth + room + 1 < 2 ^ 64 }
     requires scopes { scope + 2 * region_count (told_inner room rows.now region) < 2 ^ 32 }
-    ensures visited { IfOk result (λ next. IsVisited (known_names known.now) around scope found.old found.new next (told_inner room rows.now region)) }
+    ensures visited { IfOk result (λ next. IsVisited (known_names known.now) around scope found.old found.new next
+        (pruned (known_names known.now) around.named (told_inner room rows.now region))) }
+    ensures shadowed { OnOk result (found.new.shadowed.items ≡ found.old.shadowed.items) }
+{
+    if !is_plain(around.named, kind_at(rows, region)) {
+        return visit_region(alloc, known, rows, room, region, around, scope, found);
+    }
+    if is_quiet(&found.env, rows, room, region, around.depth + 1) {
+        return Ok(scope);
+    }
+    let place = count(&found.bound);
+    let next = visit_region(alloc, known, rows, room, region, around, scope, found)?;
+    if is_lone(rows, room, region) {
+        found.bound.truncate(place);
+    }
+    Ok(next)
+}
+
+/// Visits a region as it is: binds its names, visits what stands in it, and binds its names to what they were bound to.
+#[cycle(visiting)]
+fn visit_region(
+    alloc: Global,
+    known: &WellKnownAtoms,
+    rows: &[RegionRow],
+    room: usize,
+    region: u32,
+    around: RegionContext,
+    scope: u32,
+    found: &mut FoundClosed,
+) -> Result<u32, AllocError>
+    requires depth { around.depth + room + 1 < 2 ^ 64 }
+    requires scopes { scope + 2 * region_count (told_inner room rows.now region) < 2 ^ 32 }
+    ensures visited { IfOk result (λ next. IsVisited (known_names known.now) around scope found.old found.new next
+        (told_pruned (known_names known.now) room rows.now region)) }
     ensures shadowed { OnOk result (found.new.shadowed.items ≡ found.old.shadowed.items) }
 {
     let kind = kind_at(rows, region);
@@ -345,7 +393,8 @@ fn visit(
 ) -> Result<u32, AllocError>
     requires depth { around.depth + room < 2 ^ 64 }
     requires scopes { scope + 2 * region_count (told_at room rows.now region) < 2 ^ 32 }
-    ensures visited { IfOk result (λ next. IsVisited (known_names known.now) around scope found.old found.new next (told_at room rows.now region)) }
+    ensures visited { IfOk result (λ next. IsVisited (known_names known.now) around scope found.old found.new next
+        (pruned (known_names known.now) around.named (told_at room rows.now region))) }
     ensures shadowed { OnOk result (found.new.shadowed.items ≡ found.old.shadowed.items) }
 {
     let mut next = scope;

@@ -4,6 +4,7 @@ ghost use Rattle.std.specs.Prelude.{◌≡◌, ◌<◌, ◌≤◌, ◌+◌, ◌*
 ghost use Rattle.parse_track.specs.ClosedNames.{closed, kept};
 ghost use Rattle.parse_track.specs.Counted.{region_count};
 ghost use Rattle.parse_track.specs.Log.{known_names};
+ghost use Rattle.parse_track.specs.Pruned.{pruned};
 ghost use Rattle.parse_track.specs.Rows.{told_outermost, told_of_rows};
 ghost use Rattle.parse_track.specs.Scopes.{bound_of, bounds_of};
 ghost use Rattle.parse_track.specs.Walk.{marks};
@@ -76,7 +77,8 @@ fn visit_outermost(
 ) -> Result<u32, AllocError>
     requires room { length rows.now ≤ 2 ^ 31 }
     requires scopes { scope + 2 * region_count (told_outermost rows.now region around) < 2 ^ 32 }
-    ensures { IfOk result (λ next. IsVisitedOutside (known_names known.now) scope found.old found.new next (told_outermost rows.now region around)) }
+    ensures { IfOk result (λ next. IsVisitedOutside (known_names known.now) scope found.old found.new next
+        (pruned (known_names known.now) false (told_outermost rows.now region around))) }
 {
     match around {
         Some(_) => Ok(scope),
@@ -102,7 +104,8 @@ fn visit_script(
 ) -> Result<u32, AllocError>
     requires room { length rows.now ≤ 2 ^ 31 }
     requires scopes { region_count (told_of_rows rows.now) < 2 ^ 31 }
-    ensures { IfOk result (λ next. IsVisitedOutside (known_names known.now) 0 found.old found.new next (told_of_rows rows.now)) }
+    ensures { IfOk result (λ next. IsVisitedOutside (known_names known.now) 0 found.old found.new next
+        (pruned (known_names known.now) false (told_of_rows rows.now))) }
 {
     let mut scope = 0;
     for (region, row) in rows.iter().enumerate() {

@@ -14,6 +14,7 @@ mod closed;
 mod closed_names;
 mod errors;
 mod jumps;
+mod lone;
 mod names;
 mod offsets;
 pub mod region;

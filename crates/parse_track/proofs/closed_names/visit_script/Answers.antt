@@ -1,8 +1,9 @@
-use Rattle.std.proofs.Common.{◌≡◌, ◌+◌, ◌<◌, ◌∷◌, None, false, drop, length, map, arith, add-one, drop-cons, suc, sym, ap, ◌∙◌}
+use Rattle.std.proofs.Common.{◌≡◌, ℕ, ◌+◌, ◌<◌, ◌∷◌, None, false, drop, length, map, arith, add-one, drop-cons, suc, sym, ap, ◌∙◌}
 use Rattle.std.proofs.lemmas.List.{drop_all}
 use Rattle.parse_track.specs.Log.{told_region, known_names}
 use Rattle.parse_track.specs.Rows.{row_of, told_outermost}
 use Rattle.parse_track.specs.Visited.{stand_of}
+use Rattle.parse_track.proofs.PrunedNames.{pruned_count}
 use Rattle.parse_track.proofs.Regions.{rows_left, scopes_behind, script_rows}
 use Rattle.parse_track.proofs.Visiting.{outer_step, outer_end}
 use Rattle.parse_track.proofs.closed_names.visit_script.Goals as goal
@@ -16,7 +17,8 @@ loop-region-preserved c =
           d
           c.loop-region.invariant.0
           c.in_ok-scope.ensures,
-      scopes_behind (known_names c.args.known.now) false (told_outermost c.args.rows.now c.loop-region.region c.index-rows-region.result.around) c.loop-region.scope c.in_ok-scope.scope _ _ c.in_ok-scope.ensures.next
+      scopes_behind (known_names c.args.known.now) false (told_outermost c.args.rows.now c.loop-region.region c.index-rows-region.result.around) c.loop-region.scope c.in_ok-scope.scope _ _
+          (c.in_ok-scope.ensures.next ∙ ap (λ (n : ℕ). c.loop-region.scope + n) (pruned_count (known_names c.args.known.now) (told_outermost c.args.rows.now c.loop-region.region c.index-rows-region.result.around) false))
           (rows_left (map row_of c.args.rows.now) (told_region (length c.args.rows.now) (map row_of c.args.rows.now)) c.args.rows.now c.loop-region.region c.index-rows-region.result c.loop-region.scope _ d c.loop-region.invariant.1),
     )
 

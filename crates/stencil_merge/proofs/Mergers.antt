@@ -41,25 +41,32 @@ module _ (texts new added_texts : List (List ℕ)) (top : FunctionView) (records
   pub keeps : Keeps (view texts top records entries) (view new top records entries)
   keeps = record { listed = grown_by ShowsListed numbered_list by_list; commands = grown_by ShowsCommands numbered_commands by_commands }
 
-  -- ---- a function that is added
+-- ---- a function that is added
 
-  module _ (number : ℕ) (stencil part : FunctionView) (atoms : List ℕ) (are : AreAtoms added_texts new atoms) (by : IsFunctionBy atoms (numbers_in (inner_of records) number) stencil part) where
-    pub merging_more : IsMerging (view new top records (set entries (number - 1) (entry.Compiled part)))
-    merging_more = record {
-      few = few;
-      apart = taken.apart;
-      many = length-set entries (number - 1) (entry.Compiled part) ∙ merging.many;
-      top = grown.top;
-      entries = are_settled_set new entries (number - 1) part grown.entries (settled_by added_texts new atoms (numbers_in (inner_of records) number) stencil.code part.code are few by.code.are);
-    }
+module _ (texts own : List (List ℕ)) (top : FunctionView) (records : List RecordView) (entries : List Entry) (merging : IsMerging (view texts top records entries)) (number : ℕ) (stencil part : FunctionView) (atoms : List ℕ) (are : AreAtoms own texts atoms)
+    (by : IsFunctionBy atoms (numbers_in (inner_of records) number) stencil part) where
+  pub merging_more : IsMerging (view texts top records (set entries (number - 1) (entry.Compiled part)))
+  merging_more = record {
+    few = merging.few;
+    apart = merging.apart;
+    many = length-set entries (number - 1) (entry.Compiled part) ∙ merging.many;
+    top = merging.top;
+    entries = are_settled_set texts entries (number - 1) part merging.entries (settled_by own texts atoms (numbers_in (inner_of records) number) stencil.code part.code are merging.few by.code.are);
+  }
 
-    adds_by : {Code : Type 0} (shows : List (List ℕ) → List ℕ → Code → Type 0) (numbered : List ℕ → Code → Code) → IsReading shows numbered → (IsCompiled (get_or entries (number - 1) entry.Lazy) → ⊥)
-        → AddsBy shows numbered number stencil added_texts (view texts top records entries) (view new top records (set entries (number - 1) (entry.Compiled part)))
-    adds_by shows numbered reading lazy named f s stands =
-        added shows numbered reading new added_texts top records entries named number atoms stencil part f lazy are few by stands (grown_by shows numbered reading named s)
+  adds_by : {Code : Type 0} (shows : List (List ℕ) → List ℕ → Code → Type 0) (numbered : List ℕ → Code → Code) → IsReading shows numbered → (IsCompiled (get_or entries (number - 1) entry.Lazy) → ⊥)
+      → AddsBy shows numbered number stencil own (view texts top records entries) (view texts top records (set entries (number - 1) (entry.Compiled part)))
+  adds_by shows numbered reading lazy named f s stands = added shows numbered reading texts own top records entries named number atoms stencil part f lazy are merging.few by stands s
 
-    pub adds : (IsCompiled (get_or entries (number - 1) entry.Lazy) → ⊥) → Adds number stencil added_texts (view texts top records entries) (view new top records (set entries (number - 1) (entry.Compiled part)))
-    adds lazy = record { listed = adds_by ShowsListed numbered_list by_list lazy; commands = adds_by ShowsCommands numbered_commands by_commands lazy }
+  pub adds : (IsCompiled (get_or entries (number - 1) entry.Lazy) → ⊥) → Adds number stencil own (view texts top records entries) (view texts top records (set entries (number - 1) (entry.Compiled part)))
+  adds lazy = record { listed = adds_by ShowsListed numbered_list by_list lazy; commands = adds_by ShowsCommands numbered_commands by_commands lazy }
+
+-- one that is added once texts were interned
+pub adds_after : (number : ℕ) (stencil : FunctionView) (texts : List (List ℕ)) (old between new : MergedView) → Keeps old between → Adds number stencil texts between new → Adds number stencil texts old new
+adds_after number stencil texts old between new k a = record {
+  listed = λ named f s stands. a.listed named f (k.listed named s) stands;
+  commands = λ named f s stands. a.commands named f (k.commands named s) stands;
+}
 
 -- one that was added already
 pub adds_already : (merged : MergedView) (number : ℕ) (stencil : FunctionView) (texts : List (List ℕ)) → IsCompiled (get_or merged.entries (number - 1) entry.Lazy) → Adds number stencil texts merged merged

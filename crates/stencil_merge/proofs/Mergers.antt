@@ -13,7 +13,7 @@ use Rattle.stencil_merge.specs.Atoms.{record_by, AreAtoms, TakesIn}
 use Rattle.stencil_merge.specs.Functions.{inner_of, numbers_in, outermost}
 use Rattle.stencil_merge.specs.Instructions.{ShowsListed, numbered_list, numbered_commands}
 use Rattle.stencil_merge.specs.Parts.{IsFunctionBy}
-use Rattle.stencil_merge.specs.Merging.{all_lazy, KeepsBy, AddsBy, Begins, Keeps, Adds, IsCompiled, IsSettled, AreSettled, IsMerging}
+use Rattle.stencil_merge.specs.Merging.{all_lazy, KeepsBy, AddsBy, Begins, Keeps, Adds, IsCompiled, HasFunction, IsSettled, AreSettled, IsMerging, SameParts}
 use Rattle.stencil_merge.proofs.Merges.{settled_by, settled_more, are_settled_more, are_settled_set, are_settled_lazy, IsReading, by_list, by_commands, merged_more, added_already, added, begun}
 
 abbrev pub view : List (List ℕ) → FunctionView → List RecordView → List Entry → MergedView
@@ -114,11 +114,17 @@ numbers_are records number lazy given lt is given_is =
 here_is : (entries : List Entry) (place : ℕ) (e : Entry) → place < length entries → e ≡ get_or entries place e → e ≡ get_or entries place entry.Lazy
 here_is entries place e lt is = is ∙ get_or_default entries place e entry.Lazy lt
 
-pub is_compiled_here : (entries : List Entry) (place : ℕ) (e : Entry) (b : Bool) → place < length entries → e ≡ get_or entries place e → b ≡ true → (IsTrue b ↔ IsCompiled e) → IsCompiled (get_or entries place entry.Lazy)
-is_compiled_here entries place e b lt is compiled tells = subst IsCompiled (here_is entries place e lt is) (tells.0 compiled)
+-- whether the function of a number is compiled
+pub tells_here : (merged inside : MergedView) (number : ℕ) (e : Entry) (b : Bool) → inside ≡ merged → number - 1 < length inside.entries → e ≡ get_or inside.entries (number - 1) e → (IsTrue b ↔ IsCompiled e) → IsTrue b ↔ HasFunction merged number
+tells_here merged inside number e b is lt at tells =
+    subst (λ (m : MergedView). IsTrue b ↔ HasFunction m number) is
+    (subst (λ (x : Entry). IsTrue b ↔ IsCompiled x) (here_is inside.entries (number - 1) e lt at) tells)
 
-pub is_lazy_here : (entries : List Entry) (place : ℕ) (e : Entry) (b : Bool) → place < length entries → e ≡ get_or entries place e → b ≡ false → (IsTrue b ↔ IsCompiled e) → IsCompiled (get_or entries place entry.Lazy) → ⊥
-is_lazy_here entries place e b lt is no_more tells compiled = true≢false (sym (tells.1 (subst IsCompiled (sym (here_is entries place e lt is)) compiled)) ∙ no_more)
+pub lacks_still : (old new : MergedView) (number : ℕ) (b : Bool) → b ≡ false → (IsTrue b ↔ HasFunction old number) → SameParts old new → HasFunction new number → ⊥
+lacks_still old new number b no tells same h = true≢false (sym (tells.1 (subst (λ (es : List Entry). IsCompiled (get_or es (number - 1) entry.Lazy)) same.entries h)) ∙ no)
+
+pub number_still : (old new : MergedView) (number : ℕ) → SameParts old new → (1 ≤ number) × (number ≤ length old.records) → (1 ≤ number) × (number ≤ length new.records)
+number_still old new number same h = (h.0, omega (arith, h.1, ap length same.records))
 
 -- the place of a function's number
 pub place_within : (merged : MergedView) (records : List RecordView) (number : ℕ) → records ≡ merged.records → (1 ≤ number) × (number ≤ length merged.records) → number - 1 < length records

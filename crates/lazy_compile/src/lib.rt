@@ -5,10 +5,10 @@
 //! compiles a function, and on track_atoms. What is kept of a function that was not compiled is its record; what it needs to
 //! know of the scopes around it is a chain.
 //!
-//! [`delazify`] answers a stencil with texts of its own, of which the known words are not kept, and the chain at each function directly in it, under which these are
-//! compiled in their turn. Its contract (`specs/Delazified.antt`) says that the stencil stands for the very function that
-//! compiling the whole script from one tree gives, and that the chains are those that it hands down there, by the definitions
-//! of compile_specs (`specs/Eager.antt`).
+//! [`delazify`] answers a stencil with texts of its own, of which the known words are not kept, and the chain at each function
+//! directly in it, under which these are compiled in their turn. Its contract (`specs/Delazified.antt`) says that the stencil
+//! stands for the very function that compiling the whole script from one tree gives, and that the chains are those that it hands
+//! down there, by the definitions of compile_specs (`specs/Eager.antt`).
 #![tactic(auto)]
 
 ghost use Rattle.std.specs.Prelude.{◌≡◌, ◌++◌, IfOk};
@@ -85,8 +85,8 @@ pub fn delazify(
 
 // The texts of this list, which begins with the known words, that stand behind them.
 fn behind_known(mut texts: Vec<Text>) -> Result<Vec<Text>, AllocError>
-    requires { HasWords texts.entry.items known_atoms }
-    ensures { IfOk result (λ behind. word_texts ++ behind.items ≡ texts.entry.items) }
+    requires { HasWords texts.items known_atoms }
+    ensures { IfOk result (λ behind. word_texts ++ behind.items ≡ texts.items) }
 {
     texts.split_off(KNOWN_WORDS)
 }

@@ -208,7 +208,8 @@ impl Merger {
         requires function { (1 ≤ number) × (number ≤ length self.old.records) }
         requires lacking { HasFunction self.old number → ⊥ }
         requires atoms { (texts : List (List ℕ)) × AreAtoms texts self.old.texts atoms.now }
-        ensures adds { OnOk result ((texts : List (List ℕ)) → AreAtoms texts self.old.texts atoms.now → Adds number stencil.now texts self.old self.new) }
+        ensures adds { OnOk result ((texts : List (List ℕ)) → AreAtoms texts self.old.texts atoms.now
+            → Adds number stencil.now texts self.old self.new) }
         ensures error { OnErr result (self.new ≡ self.old) }
         ensures texts { self.new.texts ≡ self.old.texts }
         ensures records { self.new.records ≡ self.old.records }

@@ -16,8 +16,11 @@ pub put-requires-clause-lacking : goal.put-requires-clause-lacking
 put-requires-clause-lacking c = lacks_still c.args.self.now c.intern.new.self c.args.number c.has_function.result c.if-has_function.false c.has_function.ensures c.in_ok-own.ensures.parts
 
 pub put-requires-clause-atoms : goal.put-requires-clause-atoms
-put-requires-clause-atoms c = ((with_known c.args.self.now.texts c.args.behind.now), (subst (AreAtoms (with_known c.args.self.now.texts c.args.behind.now) c.intern.new.self.texts) (sym c.deref-2.ensures.value) (known_and_behind c.args.self.now.texts c.args.behind.now c.intern.new.self.texts c.deref.result.now c.in_ok-atoms.atoms.items c.requires.known c.in_ok-own.ensures.texts
-    (subst (AreAtoms c.args.behind.now c.intern.new.self.texts) (sym c.deref.ensures.value) c.in_ok-own.ensures.atoms) c.in_ok-atoms.ensures)))
+put-requires-clause-atoms c = (
+  (with_known c.args.self.now.texts c.args.behind.now),
+  (subst (AreAtoms (with_known c.args.self.now.texts c.args.behind.now) c.intern.new.self.texts) (sym c.deref-2.ensures.value) (known_and_behind c.args.self.now.texts c.args.behind.now c.intern.new.self.texts c.deref.result.now c.in_ok-atoms.atoms.items c.requires.known c.in_ok-own.ensures.texts
+      (subst (AreAtoms c.args.behind.now c.intern.new.self.texts) (sym c.deref.ensures.value) c.in_ok-own.ensures.atoms) c.in_ok-atoms.ensures)),
+)
 
 pub returns-clause-adds : goal.returns-clause-adds
 returns-clause-adds c =

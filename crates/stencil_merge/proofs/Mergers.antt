@@ -121,7 +121,7 @@ tells_here merged inside number e b is lt at tells =
     (subst (λ (x : Entry). IsTrue b ↔ IsCompiled x) (here_is inside.entries (number - 1) e lt at) tells)
 
 pub lacks_still : (old new : MergedView) (number : ℕ) (b : Bool) → b ≡ false → (IsTrue b ↔ HasFunction old number) → SameParts old new → HasFunction new number → ⊥
-lacks_still old new number b no tells same h = true≢false (sym (tells.1 (subst (λ (es : List Entry). IsCompiled (get_or es (number - 1) entry.Lazy)) same.entries h)) ∙ no)
+lacks_still old new number b lacks tells same h = true≢false (sym (tells.1 (subst (λ (es : List Entry). IsCompiled (get_or es (number - 1) entry.Lazy)) same.entries h)) ∙ lacks)
 
 pub number_still : (old new : MergedView) (number : ℕ) → SameParts old new → (1 ≤ number) × (number ≤ length old.records) → (1 ≤ number) × (number ≤ length new.records)
 number_still old new number same h = (h.0, omega (arith, h.1, ap length same.records))

@@ -180,7 +180,8 @@ impl Merger {
     // Whether the function of this number is compiled.
     fn has_function(&self, number: u32) -> bool
         requires { (1 ≤ number) × (number ≤ length self.now.records) }
-        ensures { IsTrue result ↔ HasFunction self.now number }
+        ensures is { IsTrue result ↔ HasFunction self.now number }
+        ensures apart { AreWithoutEquals self.now.texts }
     {
         is_compiled(&self.entries[number as usize - 1])
     }

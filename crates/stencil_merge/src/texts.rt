@@ -109,6 +109,7 @@ impl MergedTexts {
         ensures texts { TakesIn self.old texts.now self.new }
         ensures few { length self.new ≤ length self.old + length texts.now }
     {
+        let _ = &self.waiting;
         if texts.is_empty() {
             return Ok(Vec::new(alloc));
         }

@@ -1,19 +1,19 @@
-use Rattle.std.proofs.Common.{sym, subst}
+use Rattle.std.proofs.Common.{[], sym, subst}
 use Rattle.std.proofs.lemmas.Result.{on_ok_weaker, on_err_weaker}
 use Rattle.stencil_merge.specs.Atoms.{AreAtoms, TakesIn, with_known}
 use Rattle.stencil_merge.specs.Merging.{Keeps, SameParts}
-use Rattle.stencil_merge.proofs.Interning.{known_and_behind, takes_behind, few_behind}
+use Rattle.stencil_merge.proofs.Interning.{known_and_behind, takes_among, takes_behind, takes_none}
 use Rattle.stencil_merge.proofs.Mergers.{adds_after, adds_already, lacks_still, number_still}
 use Rattle.stencil_merge.proofs.merger.Merger.add_behind.Goals as goal
 
 pub returns-then-has_function-clause-adds : goal.returns-then-has_function-clause-adds
-returns-then-has_function-clause-adds c = adds_already c.args.self.now c.args.number c.args.stencil.now (with_known c.args.self.now.texts c.args.behind.now) (c.has_function.ensures.0 c.if-has_function.true)
+returns-then-has_function-clause-adds c = adds_already c.args.self.now c.args.number c.args.stencil.now (with_known c.args.self.now.texts c.args.behind.now) (c.has_function.ensures.is.0 c.if-has_function.true)
 
 pub put-requires-clause-function : goal.put-requires-clause-function
 put-requires-clause-function c = number_still c.args.self.now c.intern.new.self c.args.number c.in_ok-own.ensures.parts c.requires.function
 
 pub put-requires-clause-lacking : goal.put-requires-clause-lacking
-put-requires-clause-lacking c = lacks_still c.args.self.now c.intern.new.self c.args.number c.has_function.result c.if-has_function.false c.has_function.ensures c.in_ok-own.ensures.parts
+put-requires-clause-lacking c = lacks_still c.args.self.now c.intern.new.self c.args.number c.has_function.result c.if-has_function.false c.has_function.ensures.is c.in_ok-own.ensures.parts
 
 pub put-requires-clause-atoms : goal.put-requires-clause-atoms
 put-requires-clause-atoms c = (
@@ -38,3 +38,12 @@ returns-clause-keeps c = on_err_weaker c.put.result (λ same. subst (Keeps c.arg
 
 pub returns-clause-texts : goal.returns-clause-texts
 returns-clause-texts c = subst (TakesIn c.args.self.now.texts (with_known c.args.self.now.texts c.args.behind.now)) (sym c.put.ensures.texts) (takes_behind c.args.self.now.texts c.args.behind.now c.intern.new.self.texts c.in_ok-own.ensures.texts)
+
+pub returns-then-has_function-clause-texts : goal.returns-then-has_function-clause-texts
+returns-then-has_function-clause-texts c = takes_among c.args.self.now.texts [] (with_known c.args.self.now.texts c.args.behind.now) c.args.self.now.texts (takes_none c.args.self.now.texts c.has_function.ensures.apart)
+
+pub returns-in_err-own-clause-texts : goal.returns-in_err-own-clause-texts
+returns-in_err-own-clause-texts c = takes_behind c.args.self.now.texts c.args.behind.now c.intern.new.self.texts c.in_err-own.ensures.texts
+
+pub returns-in_err-atoms-clause-texts : goal.returns-in_err-atoms-clause-texts
+returns-in_err-atoms-clause-texts c = takes_behind c.args.self.now.texts c.args.behind.now c.intern.new.self.texts c.in_ok-own.ensures.texts

@@ -1,5 +1,5 @@
 -- A list that begins with the known words, and what stands behind them.
-use Rattle.std.proofs.Common.{◌≡◌, ◌∙◌, ℕ, ◌≤◌, List, [], ◌∷◌, ◌++◌, length, take, drop, refl, sym, ap, ap₂, codes, length-append, arith}
+use Rattle.std.proofs.Common.{◌≡◌, ℕ, ◌≤◌, List, [], ◌∷◌, ◌++◌, length, take, drop, refl, sym, ap, ap₂, codes, length-append, arith}
 use Rattle.std.proofs.lemmas.Option.{same_Some}
 use Rattle.script_grammar.specs.Lexeme.{get_text, set_text}
 use Rattle.track_atoms.specs.Known.{HasWords, known_atoms, word_texts}

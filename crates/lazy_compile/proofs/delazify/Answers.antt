@@ -1,4 +1,4 @@
-use Rattle.std.proofs.Common.{refl, subst, sym}
+use Rattle.std.proofs.Common.{subst, sym}
 use Rattle.stencil_data.specs.Views.{RecordView}
 use Rattle.parse_function.specs.Extents.{own_statements}
 use Rattle.lazy_compile.specs.Delazified.{CanBeDelazified}

@@ -1,5 +1,5 @@
 -- Each step while the functions of a script are passed one after another.
-use Rattle.std.proofs.Common.{◌≡◌, ◌∙◌, ℕ, zero, suc, ◌+◌, ◌-◌, ◌^◌, ◌<◌, ◌≤◌, inl, inr, true, false, List, [], ◌∷◌, length, Option, Some, refl, sym, ap, subst, arith}
+use Rattle.std.proofs.Common.{◌≡◌, ◌∙◌, ℕ, zero, suc, ◌+◌, ◌-◌, ◌^◌, ◌<◌, ◌≤◌, inl, inr, true, false, List, [], ◌∷◌, ◌++◌, length, Option, Some, refl, sym, ap, subst, arith}
 use Rattle.std.specs.Prelude.{slice_get}
 use Rattle.std.proofs.lemmas.List.{length-map}
 use Rattle.stencil_data.specs.MergedView.{MergedView}
@@ -12,10 +12,13 @@ use Rattle.emit_stmts.specs.Functions.{extent_of}
 use Rattle.compile_specs.specs.Eager.{Site}
 use Rattle.compile_specs.specs.Shown.{Wanted, shown}
 use Rattle.compile_wanted.specs.Shows.{Shows}
-use Rattle.stencil_merge.specs.Atoms.{TakesIn}
+use Rattle.stencil_merge.specs.Atoms.{TakesIn, with_known}
+use Rattle.track_atoms.specs.Known.{HasWords, known_atoms, word_texts}
+use Rattle.track_atoms.proofs.Interning.{words_kept}
 use Rattle.stencil_merge.specs.Merging.{Adds, Begins}
 use Rattle.lazy_compile.specs.declared.Delazified.{Delazified}
-use Rattle.lazy_compile.specs.Delazified.{IsCompiledAlone}
+use Rattle.lazy_compile.specs.Delazified.{IsCompiledAlone, all_texts}
+use Rattle.lazy_compile.proofs.Behind.{words_taken}
 use Rattle.lazy_compile.proofs.Crowded.{no_longer}
 use Rattle.lazy_function.specs.Numbered.{IsCompiledFunction}
 use Rattle.lazy_function.specs.Texts.{AreAmong}
@@ -58,11 +61,12 @@ module _ (want : Wanted) (bytes : List ℕ) (made : InitialStencil) (is : IsInit
 
   -- ---- the steps
 
-  pub begun_up_to : (merged : MergedView) → Begins made.parts merged → TakesIn [] made.parts.texts merged.texts → length merged.records ≡ length made.parts.records → IsUpTo want bytes made is 0 merged
-  begun_up_to merged begins takes count = record {
+  pub begun_up_to : (merged : MergedView) → Begins made.parts merged → TakesIn [] made.parts.texts merged.texts → HasWords merged.texts known_atoms → length merged.records ≡ length made.parts.records → IsUpTo want bytes made is 0 merged
+  begun_up_to merged begins takes known count = record {
     stands = begins_shown want the_bound the_top the_functions made.parts merged (outermost_valid bytes is.items (length made.parts.records) is.all the_bound is.valid is.short is.functions) (initial_stands want bytes made is) begins;
     among = λ text s. elim (takes.among text s) [ inl none ↦ absurd (nowhere text none) | inr there ↦ there ];
     apart = takes.apart;
+    known = known;
     records = count;
   }
 
@@ -75,6 +79,7 @@ module _ (want : Wanted) (bytes : List ℕ) (made : InitialStencil) (is : IsInit
         stands = passes_shown want the_bound the_top the_functions place count (part_at m.0) merged one (function_at is.all place m.0 m.1) (sym (shown_by_functions want bytes made is (extent_of m.0.inner.func)) ∙ lacks) u.stands;
         among = u.among;
         apart = u.apart;
+        known = u.known;
         records = u.records;
       }
 
@@ -86,29 +91,34 @@ module _ (want : Wanted) (bytes : List ℕ) (made : InitialStencil) (is : IsInit
       let same : place ≡ number - 1 = omega (arith, one) in
       compiled is.items (length made.parts.records) is.all m is.valid is.functions (subst (λ (n : ℕ). slice_get is.all n ≡ Some m) same at)
 
+  -- the merged texts begin with the known words, and so its list is the one of those and its texts behind them
+  pub same_texts : (place : ℕ) (alone : Delazified) (merged : MergedView) (texts : List (List ℕ)) → texts ≡ alone.texts.items → IsUpTo want bytes made is place merged → with_known merged.texts texts ≡ all_texts alone
+  same_texts place alone merged texts same u = ap (λ (ts : List (List ℕ)). ts ++ texts) (words_taken merged.texts u.known) ∙ ap (λ (ts : List (List ℕ)). word_texts ++ ts) same
+
   -- its texts are few
   pub few_next : (place number : ℕ) (alone : Delazified) (merged : MergedView) (texts : List (List ℕ)) → texts ≡ alone.texts.items → number ≡ place + 1 → place < length made.parts.records → IsCompiledFunction bytes number alone
-      → AreAmong made.parts.texts alone.texts.items → IsUpTo want bytes made is place merged → length merged.texts + length texts < 2 ^ 32 - 1
+      → AreAmong made.parts.texts (all_texts alone) → IsUpTo want bytes made is place merged → length merged.texts + length (with_known merged.texts texts) < 2 ^ 32 - 1
   few_next place number alone merged texts same one lt compiled among u =
       let m = site_at want bytes made is place lt in
       let c = alone_at place number alone m.0 one m.1 compiled in
       let a = no_longer merged.texts made.parts.texts u.apart u.among in
-      let b = no_longer alone.texts.items made.parts.texts c.apart among in
+      let b = no_longer (all_texts alone) made.parts.texts c.apart among in
       let few = is.few in
-      let long = ap length same in
+      let long = ap length (same_texts place alone merged texts same u) in
       omega (arith, a, b, few, long)
 
-  pub compiled_next : (place number : ℕ) (alone : Delazified) (old new : MergedView) → number ≡ place + 1 → place < length made.parts.records → IsCompiledFunction bytes number alone → AreAmong made.parts.texts alone.texts.items
-      → Adds number alone.stencil alone.texts.items old new → TakesIn old.texts alone.texts.items new.texts → new.records ≡ old.records → IsFlagAt want made.parts.records place true → IsUpTo want bytes made is place old
+  pub compiled_next : (place number : ℕ) (alone : Delazified) (old new : MergedView) → number ≡ place + 1 → place < length made.parts.records → IsCompiledFunction bytes number alone → AreAmong made.parts.texts (all_texts alone)
+      → Adds number alone.stencil (all_texts alone) old new → TakesIn old.texts (all_texts alone) new.texts → new.records ≡ old.records → IsFlagAt want made.parts.records place true → IsUpTo want bytes made is place old
       → IsUpTo want bytes made is number new
   compiled_next place number alone old new one lt compiled among adds takes same f u =
       let m = site_at want bytes made is place lt in
       let c = alone_at place number alone m.0 one m.1 compiled in
       let counts : shown_at want bytes made is (extent_of m.0.inner.func) ≡ true = sym (flag_is want bytes made is place m.0 true m.1 f) in
       record {
-        stands = adds_shown want the_bound the_top the_functions place number (part_at m.0) alone.stencil alone.texts.items old new one (function_at is.all place m.0 m.1) (sym (shown_by_functions want bytes made is (extent_of m.0.inner.func)) ∙ counts) c.stands adds u.stands;
+        stands = adds_shown want the_bound the_top the_functions place number (part_at m.0) alone.stencil (all_texts alone) old new one (function_at is.all place m.0 m.1) (sym (shown_by_functions want bytes made is (extent_of m.0.inner.func)) ∙ counts) c.stands adds u.stands;
         among = λ text s. elim (takes.among text s) [ inl before ↦ u.among text before | inr own ↦ among text own ];
         apart = takes.apart;
+        known = words_kept old.texts new.texts known_atoms (takes.more, takes.is) u.known;
         records = ap length same ∙ u.records;
       }
 

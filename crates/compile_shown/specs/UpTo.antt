@@ -7,6 +7,7 @@ use Rattle.stencil_data.specs.Views.{RecordView}
 use Rattle.bytecode_buf.specs.Command.{ShowsCommands}
 use Rattle.parse_track.specs.Notes.{closed_names}
 use Rattle.parser_atoms.specs.Places.{AreWithoutEquals, StandsIn}
+use Rattle.track_atoms.specs.Known.{HasWords, known_atoms}
 use Rattle.emit_stmts.specs.Functions.{top_script}
 use Rattle.compile_specs.specs.Eager.{Site, compiled_at}
 use Rattle.compile_specs.specs.Shown.{Wanted, is_shown}
@@ -24,6 +25,8 @@ pub record IsUpTo (want : Wanted) (bytes : List ℕ) (initial : InitialStencil) 
   -- the texts are those of the parts, so they are few
   pub among : (text : List ℕ) → StandsIn merged.texts text → StandsIn initial.parts.texts text
   pub apart : AreWithoutEquals merged.texts
+  -- they begin with the known words
+  pub known : HasWords merged.texts known_atoms
   pub records : length merged.records ≡ length initial.parts.records
 
 -- whether the function at a place is shown, by these records

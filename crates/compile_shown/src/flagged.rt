@@ -37,7 +37,7 @@ fn add_function<N: Sources, T: Ticks>(
     let number = place as u32 + 1;
     let made = board.request(alloc, pass, number, tally)?;
     let alone: &Delazified = &made;
-    merger.add(alloc, number, &alone.stencil, &alone.texts)
+    merger.add_behind(alloc, number, &alone.stencil, &alone.texts)
 }
 
 /// Passes the function at this place; one that is shown is taken in.

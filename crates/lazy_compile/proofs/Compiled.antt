@@ -33,7 +33,7 @@ use Rattle.compile_function.proofs.Shown.{same_closed}
 use Rattle.lazy_compile.specs.declared.alone.FunctionAlone.{FunctionAlone}
 use Rattle.lazy_compile.specs.declared.Delazified.{Delazified}
 use Rattle.lazy_compile.specs.Alone.{IsReadAlone}
-use Rattle.lazy_compile.specs.Delazified.{CanBeDelazified, IsCompiledAlone}
+use Rattle.lazy_compile.specs.Delazified.{CanBeDelazified, IsCompiledAlone, all_texts}
 use Rattle.lazy_compile.proofs.Records.{sound, full, kind_is}
 
 -- ---- the name in a tree is not looked at
@@ -107,7 +107,7 @@ chains_sited scopes outer [] = refl
 chains_sited scopes outer (i ∷ is) = ap (λ (cs : List (List LinkView)). chain_at scopes outer i ∷ cs) (chains_sited scopes outer is)
 
 pub compiled_alone : (bodies : ℕ → Stmts) (m : Site) (alone : FunctionAlone) (items : Stmts) (made : Delazified) (ts : List (List ℕ)) (inside : List FunctionSite) → IsReadAlone alone items m
-    → IsCompiledFunction ts bodies made.stencil inside (nameless_at m) → ts ≡ alone.texts.items → made.texts.items ≡ alone.texts.items → made.chains.items ≡ map (λ (s : FunctionSite). s.chain) inside → IsCompiledAlone made m
+    → IsCompiledFunction ts bodies made.stencil inside (nameless_at m) → ts ≡ alone.texts.items → all_texts made ≡ alone.texts.items → made.chains.items ≡ map (λ (s : FunctionSite). s.chain) inside → IsCompiledAlone made m
 compiled_alone bodies m alone items made ts inside read h seen texts_are handed_down =
     let scopes = function_scopes m.inner.kind m.inner.name (nameless m.inner.func) in
     let inner = inner_function m.inner.kind m.inner.name (nameless m.inner.func) in

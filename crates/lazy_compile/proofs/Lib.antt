@@ -1,3 +1,4 @@
+pub mod Behind
 pub mod Compiled
 pub mod Crowded
 pub mod ExtentTexts

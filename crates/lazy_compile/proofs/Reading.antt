@@ -15,7 +15,7 @@ use Rattle.scope_analysis.specs.Functions.{Inner}
 use Rattle.scope_analysis.specs.Kept.{under}
 use Rattle.compile_specs.specs.Eager.{Site}
 use Rattle.grammar_alone_laws.specs.Alone.{nameless}
-use Rattle.track_atoms.specs.Known.{HasWords}
+use Rattle.track_atoms.specs.Known.{HasWords, known_atoms}
 use Rattle.track_atoms.proofs.Found.{knows_names}
 use Rattle.track_atoms.proofs.Interning.{words_kept}
 use Rattle.parse_function.specs.Extents.{IsExtentOf, own_statements, body_in}
@@ -60,11 +60,11 @@ module _ (texts words named all : List (List ℕ)) (known : WellKnownAtoms) (has
 
     pub read_alone : (file : List ℕ) (lazy : RecordView) (chain : List LinkView) (items : Stmts) (m : Site) (form : FuncForm) (alone : FunctionAlone)
         → CanBeDelazified file lazy texts chain items m → form ≡ form_of lazy.kind → name ≡ lazy.name → closed ≡ lazy.closed
-        → length read < 2 ^ 32 → AreWithoutEquals read → alone.texts.items ≡ read → alone.name ≡ own_name → alone.closed.items ≡ own_closed
+        → length read < 2 ^ 32 → AreWithoutEquals read → known ≡ known_atoms → alone.texts.items ≡ read → alone.name ≡ own_name → alone.closed.items ≡ own_closed
         → ((x : Stmts) (i : Inner) → IsExtentOf file lazy.extent form x i → func_of (under read (own_statements x)) alone.func ≡ nameless i.func)
         → ((bodies : ℕ → Stmts) → HasBody (under read bodies) alone.func (body_in (func_of (under read bodies) alone.func)))
         → IsReadAlone alone items m
-    read_alone file lazy chain items m form alone can written name_same closed_same few apart texts_are name_made closed_made tree body =
+    read_alone file lazy chain items m form alone can written name_same closed_same few apart fixed texts_are name_made closed_made tree body =
         record {
           tree = subst (λ (ts : List (List ℕ)). func_of (under ts (own_statements items)) alone.func ≡ nameless m.inner.func) (sym texts_are) (tree items m.inner (extent_of_record file lazy texts chain items m can form written));
           body = body_in (func_of (under read (own_statements items)) alone.func);
@@ -77,4 +77,5 @@ module _ (texts words named all : List (List ℕ)) (known : WellKnownAtoms) (has
               ∙ (ap (map (named_closed read)) closed_made ∙ (closed_there ∙ (ap (map (named_closed texts)) closed_same ∙ closed_are file lazy texts chain items m can)));
           knows = subst KnowsNames (sym texts_are) (knows_there few);
           apart = subst AreWithoutEquals (sym texts_are) apart;
+          words = subst (λ (ts : List (List ℕ)). HasWords ts known_atoms) (sym texts_are) (subst (HasWords read) fixed (words_kept all read known read_keeps words_there));
         }

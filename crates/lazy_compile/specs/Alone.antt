@@ -14,12 +14,14 @@ use Rattle.compile_specs.specs.Eager.{Site}
 use Rattle.compile_specs.specs.Shown.{closed_of}
 use Rattle.grammar_alone_laws.specs.Alone.{nameless}
 use Rattle.parse_function.specs.Extents.{own_statements}
+use Rattle.track_atoms.specs.Known.{HasWords, known_atoms}
 use Rattle.lazy_compile.specs.declared.alone.FunctionAlone.{FunctionAlone}
 use Rattle.lazy_compile.specs.Delazified.{CanBeDelazified}
 
 -- With the bodies of the script's functions in place of those that were passed over, the tree is that of the function at this
 -- site but for its name, and its own body was read. The name is the function's, and these are its names that functions in it
--- close over, by texts without equals; the words by which a function finds `this` and its arguments are among these.
+-- close over, by texts without equals; the words by which a function finds `this` and its arguments are among these, and they
+-- begin with the known words.
 pub record IsReadAlone (alone : FunctionAlone) (items : Stmts) (m : Site) : Type 0 where
   pub tree : func_of (under alone.texts.items (own_statements items)) alone.func ≡ nameless m.inner.func
   pub body : Body
@@ -28,6 +30,7 @@ pub record IsReadAlone (alone : FunctionAlone) (items : Stmts) (m : Site) : Type
   pub closed_are : map (named_closed alone.texts.items) alone.closed.items ≡ closed_of (closed_names items) (start_of m.inner.func)
   pub knows : KnowsNames alone.texts.items
   pub apart : AreWithoutEquals alone.texts.items
+  pub words : HasWords alone.texts.items known_atoms
 
 -- whichever script's function has this record, it was read
 abbrev pub ReadsAlone : (file : List ℕ) → (lazy : RecordView) → (texts : List (List ℕ)) → FunctionAlone → Type 0

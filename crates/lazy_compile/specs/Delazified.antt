@@ -1,6 +1,6 @@
 -- What is asked of a function of a script that is compiled on its own, and what it is then compiled to: what it is compiled
 -- to where the whole script is. This project's own choice.
-use Rattle.std.specs.Prelude.{◌≡◌, ℕ, ◌≤◌, ◌<◌, ◌^◌, List, length, None}
+use Rattle.std.specs.Prelude.{◌≡◌, ℕ, ◌≤◌, ◌<◌, ◌^◌, List, ◌++◌, length, None}
 use Rattle.std.specs.Str.{IsUtf8}
 use Rattle.script_grammar.specs.Tree.{Stmts}
 use Rattle.stencil_data.specs.declared.functions.Extent.{Extent}
@@ -16,6 +16,7 @@ use Rattle.compile_specs.specs.Eager.{Site, compiled_at}
 use Rattle.compile_specs.specs.Shown.{record_of}
 use Rattle.compile_function.specs.Sites.{IsFunctionAt}
 use Rattle.parse_function.specs.Extents.{extents_in}
+use Rattle.track_atoms.specs.Known.{word_texts}
 use Rattle.lazy_compile.specs.declared.Delazified.{Delazified}
 
 -- The record is what is kept of the function: its extent, its kind, its name, and its names that functions in it close over.
@@ -42,12 +43,16 @@ abbrev pub CanBeRead : (file : List ℕ) → (lazy : RecordView) → (within : L
 CanBeRead file lazy within texts =
     (chain : List LinkView) × (items : Stmts) × (m : Site) × CanBeDelazified file lazy texts chain items m × (within ≡ extents_in m.inner)
 
+-- All texts of the function, which its atoms are indexes into: the known words, and those that are kept behind them.
+abbrev pub all_texts : Delazified → List (List ℕ)
+all_texts made = word_texts ++ made.texts.items
+
 -- The stencil stands for what the whole script has of the function, by texts without equals, and these are the chains that the
 -- function hands down there, in the order of the functions directly in it.
 pub record IsCompiledAlone (made : Delazified) (m : Site) : Type 0 where
-  pub stands : FunctionStandsFor ShowsCommands made.texts.items made.stencil (compiled_at m).part
+  pub stands : FunctionStandsFor ShowsCommands (all_texts made) made.stencil (compiled_at m).part
   pub chains_are : made.chains.items ≡ (compiled_at m).chains
-  pub apart : AreWithoutEquals made.texts.items
+  pub apart : AreWithoutEquals (all_texts made)
 
 -- whichever script's function is asked for by this, it is compiled to this
 abbrev pub CompilesAlone : (file : List ℕ) → (lazy : RecordView) → (texts : List (List ℕ)) → (chain : List LinkView) → Delazified → Type 0

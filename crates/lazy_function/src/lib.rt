@@ -13,6 +13,7 @@
 
 ghost use Rattle.std.specs.Prelude.{◌≡◌, ◌<◌, ℕ, List, IfOk};
 ghost use Rattle.compile_initial.specs.Initial.{IsInitialOf};
+ghost use Rattle.lazy_compile.specs.Delazified.{all_texts};
 ghost use Rattle.lazy_function.specs.Numbered.{IsChainOf, IsCompiledFunction, IsNumberIn, around_in};
 ghost use Rattle.lazy_function.specs.Texts.{AreAmong};
 
@@ -70,7 +71,7 @@ pub fn compile_numbered(
     requires number { IsNumberIn initial.now number }
     requires chain { IsChainOf bytes.now initial.now number chain.now }
     ensures compiled { IfOk result (IsCompiledFunction bytes.now number) }
-    ensures texts { IfOk result (λ made. AreAmong initial.now.parts.texts made.texts.items) }
+    ensures texts { IfOk result (λ made. AreAmong initial.now.parts.texts (all_texts made)) }
 {
     let parts = &initial.parts;
     let lazy = &parts.records[number as usize - 1];

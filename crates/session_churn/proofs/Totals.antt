@@ -12,6 +12,7 @@ use Rattle.compile_specs.specs.Eager.{Site, compiled_at}
 use Rattle.emit_limit_laws.proofs.SiteCounts.{functions_counted}
 use Rattle.emit_stmts.specs.Functions.{top_script}
 use Rattle.helper_tasks.specs.Jobs.{GivesEach}
+use Rattle.lazy_compile.specs.Delazified.{all_texts}
 use Rattle.lazy_compile.specs.declared.Delazified.{Delazified}
 use Rattle.lazy_function.specs.Numbered.{IsCompiledFunction}
 use Rattle.parse_script.proofs.TextLemmas.{one_text}
@@ -37,7 +38,7 @@ same_count bytes a b m n h k = one_count b m n (subst (λ (x : Stmts). HasFuncti
 -- what was compiled has as many instructions as the function has
 pub function_counted : (bytes : List ℕ) (number count : ℕ) (made : Delazified) → IsCompiledFunction bytes number made → count ≡ length (instructions made.stencil.code) → FunctionHas bytes number count
 function_counted bytes number count made compiled counted items functions all m valid are at =
-    counted ∙ code_counted made.texts.items made.stencil.code (compiled_at m).part.code (compiled items functions all m valid are at).stands.code
+    counted ∙ code_counted (all_texts made) made.stencil.code (compiled_at m).part.code (compiled items functions all m valid are at).stands.code
 
 -- ---- all visits
 

@@ -35,7 +35,7 @@ pub use answers::{Answer, Refusal};
 pub use bytecode_buf::{Instr, Op};
 pub use code::{CodeIter, instructions};
 pub use compile_wanted::Wanted;
-pub use lazy_compile::Delazified as Function;
+pub use lazy_compile::{Delazified as Function, KNOWN_WORDS};
 pub use reading::check;
 pub use scripts::{Lazy, compile};
 pub use stencil_data as data;

@@ -2,6 +2,7 @@
 use Rattle.std.proofs.Common.{◌≡◌, ℕ, List, Option, Some, IfSome, true, false, Bool, ◌&&◌, refl, sym, subst}
 use Rattle.std.proofs.lemmas.Bool.{eqb-true}
 use Rattle.std.specs.Prelude.{nat_eq}
+use Rattle.lazy_compile.specs.Delazified.{all_texts}
 use Rattle.lazy_compile.specs.declared.Delazified.{Delazified}
 use Rattle.lazy_function.specs.Numbered.{IsCompiledFunction}
 use Rattle.lazy_function.specs.Texts.{AreAmong}
@@ -11,10 +12,10 @@ use Rattle.stencil_board.specs.Views.{ResultView}
 use Rattle.stencil_board.specs.Passes.{is_of}
 
 module _ (file : File) (bytes : List ℕ) (texts : List (List ℕ)) (is : file ≡ record { bytes = bytes; texts = texts }) (number : ℕ) where
-  pub filled : (made shared : Delazified) → shared ≡ made → IsCompiledFunction bytes number made → AreAmong texts made.texts.items → IsFilled file number shared
+  pub filled : (made shared : Delazified) → shared ≡ made → IsCompiledFunction bytes number made → AreAmong texts (all_texts made) → IsFilled file number shared
   filled made shared same compiled among =
       subst (λ (f : File). IsFilled f number shared) (sym is)
-      (subst (λ (d : Delazified). IsFilled (record { bytes = bytes; texts = texts }) number d) (sym same) (record { compiled = compiled; among = test_of_among texts made.texts.items among }))
+      (subst (λ (d : Delazified). IsFilled (record { bytes = bytes; texts = texts }) number d) (sym same) (record { compiled = compiled; among = test_of_among texts (all_texts made) among }))
 
   filled_there : (made : Delazified) → IsFilled file number made → IsFilled (record { bytes = bytes; texts = texts }) number made
   filled_there made h = subst (λ (f : File). IsFilled f number made) is h
@@ -22,8 +23,8 @@ module _ (file : File) (bytes : List ℕ) (texts : List (List ℕ)) (is : file �
   pub filled_compiled : (made : Delazified) → IsFilled file number made → IsCompiledFunction bytes number made
   filled_compiled made h = (filled_there made h).compiled
 
-  pub filled_texts : (made : Delazified) → IsFilled file number made → AreAmong texts made.texts.items
-  filled_texts made h = among_by_test texts made.texts.items (filled_there made h).among
+  pub filled_texts : (made : Delazified) → IsFilled file number made → AreAmong texts (all_texts made)
+  filled_texts made h = among_by_test texts (all_texts made) (filled_there made h).among
 
 first_true : (a b : Bool) → (a && b) ≡ true → a ≡ true
 first_true true b h = refl

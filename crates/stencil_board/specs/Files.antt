@@ -2,6 +2,7 @@
 use Rattle.std.specs.Prelude.{◌≡◌, ℕ, true, List, [], slice_index_or}
 use Rattle.std.specs.Coded.{Coded-set, codes}
 use Rattle.lazy_compile.specs.declared.Delazified.{Delazified}
+use Rattle.lazy_compile.specs.Delazified.{all_texts}
 use Rattle.lazy_function.specs.Numbered.{IsCompiledFunction}
 use Rattle.lazy_function.specs.OneProof.{IsCompiledFunction-prop}
 use Rattle.lazy_function.specs.Texts.{are_among}
@@ -17,7 +18,7 @@ file_at files file = slice_index_or files file (record { bytes = []; texts = [] 
 -- this is what the function of this number is compiled to, and its texts are among the file's
 pub record IsFilled (file : File) (number : ℕ) (made : Delazified) : Type 0 where
   pub compiled : IsCompiledFunction file.bytes number made
-  pub among : are_among file.texts made.texts.items ≡ true
+  pub among : are_among file.texts (all_texts made) ≡ true
 
 pub IsFilled-prop : (file : File) (number : ℕ) (made : Delazified) → IsProp (IsFilled file number made)
 IsFilled-prop file number made = hlevel (IsCompiledFunction-prop, Coded-set, codes)

@@ -3,6 +3,7 @@
 ghost use Rattle.std.specs.Prelude.{◌≡◌, ◌<◌, ◌≤◌, ◌+◌, ℕ, Bool, true, IfOk, OnOk, Some, None};
 ghost use Rattle.std.specs.Arc.{arc_value};
 ghost use Rattle.compile_tally.specs.Tally.{Rises};
+ghost use Rattle.lazy_compile.specs.Delazified.{all_texts};
 ghost use Rattle.lazy_function.specs.Numbered.{IsChainOf, IsCompiledFunction};
 ghost use Rattle.lazy_function.specs.Texts.{AreAmong};
 ghost use Rattle.stencil_board.specs.Files.{IsFilled, file_at};
@@ -34,7 +35,7 @@ impl<'a, N: Sources> Board<'a, N> {
         requires number { IsNumberOf self.now number }
         requires room { (shown : ℕ → Bool) × Suffices self.now.initial shown number pass.old (T.room tally.old) }
         ensures compiled { IfOk result (λ made. IsCompiledFunction self.now.bytes number (arc_value made)) }
-        ensures texts { IfOk result (λ made. AreAmong self.now.initial.parts.texts (arc_value made).texts.items) }
+        ensures texts { IfOk result (λ made. AreAmong self.now.initial.parts.texts (all_texts (arc_value made))) }
         ensures hand { IfOk result (λ made. at_hand pass.new number ≡ Some (arc_value made)) }
         ensures belongs { BelongsTo pass.new self.now }
         ensures keeps { Keeps pass.old pass.new }
@@ -73,7 +74,7 @@ impl<'a, N: Sources> Board<'a, N> {
         requires chain { IsChainOf self.now.bytes self.now.initial number chain.now }
         requires room { (shown : ℕ → Bool) × (shown number ≡ true) × (lacking shown pass.old ≤ T.room tally.old) }
         ensures compiled { IfOk result (λ made. IsCompiledFunction self.now.bytes number (arc_value made)) }
-        ensures texts { IfOk result (λ made. AreAmong self.now.initial.parts.texts (arc_value made).texts.items) }
+        ensures texts { IfOk result (λ made. AreAmong self.now.initial.parts.texts (all_texts (arc_value made))) }
         ensures hand { IfOk result (λ made. at_hand pass.new number ≡ Some (arc_value made)) }
         ensures belongs { BelongsTo pass.new self.now }
         ensures keeps { Keeps pass.old pass.new }

@@ -5,7 +5,7 @@ use Rattle.std.proofs.lemmas.List.{get_or_past, get_or_append_left, get_or_read,
 use Rattle.std.proofs.lemmas.Option.{get_or_from_slice_get, slice_get-get_or, slice_get_read, slice_get_within}
 use Rattle.parser_atoms.specs.Places.{AreWithoutEquals, StandsIn, Interns}
 use Rattle.parser_atoms.proofs.Interning.{slice_get-append_old, slice_get-append_last, slice_get-append_cases}
-use Rattle.stencil_merge.specs.Atoms.{no_text, atom_by, AreAtoms, TakesIn}
+use Rattle.stencil_merge.specs.Atoms.{no_text, atom_by, known_count, known_places, with_known, AreAtoms, TakesIn}
 use Rattle.stencil_merge.proofs.Listing.{AreEqualTexts}
 use Rattle.stencil_merge.proofs.Moves.{Moves}
 
@@ -172,3 +172,42 @@ in_order_next all now new i text units atom apart lt item units_is so_far (inl t
     at_i = apart units atom i stands here
 in_order_next all now new i text units atom apart lt item units_is so_far (inr put) =
     put.2 ∙ (ap₂ (λ (ts : List (List ℕ)) (t : List ℕ). ts ++ t ∷ []) so_far (units_is ∙ get_or_read all i text lt item []) ∙ sym (take_more all i [] lt))
+
+-- ---- the known words, and texts behind them
+
+-- the known words keep their places
+pub known_stand : (texts more : List (List ℕ)) → known_count ≤ length texts → AreAtoms (take known_count texts) (texts ++ more) known_places
+known_stand [] more h = absurd (omega (arith, h))
+known_stand (a ∷ []) more h = absurd (omega (arith, h))
+known_stand (a ∷ b ∷ []) more h = absurd (omega (arith, h))
+known_stand (a ∷ b ∷ c ∷ []) more h = absurd (omega (arith, h))
+known_stand (a ∷ b ∷ c ∷ d ∷ []) more h = absurd (omega (arith, h))
+known_stand (a ∷ b ∷ c ∷ d ∷ e ∷ []) more h = absurd (omega (arith, h))
+known_stand (a ∷ b ∷ c ∷ d ∷ e ∷ f ∷ []) more h = absurd (omega (arith, h))
+known_stand (a ∷ b ∷ c ∷ d ∷ e ∷ f ∷ g ∷ texts) more h = refl
+
+are_atoms_both : (some texts other : List (List ℕ)) (places atoms : List ℕ) → AreAtoms some other places → AreAtoms texts other atoms → AreAtoms (some ++ texts) other (places ++ atoms)
+are_atoms_both some texts other places atoms h k =
+    map-append (slice_get other) places atoms
+    ∙ (ap₂ (λ (xs ys : List (Option (List ℕ))). xs ++ ys) h k ∙ sym (map-append (λ (t : List ℕ). Some t) some texts))
+
+-- the atoms of a list that begins with the known words
+pub known_and_behind : (before behind now : List (List ℕ)) (own atoms : List ℕ) → known_count ≤ length before → TakesIn before behind now → AreAtoms behind now own → atoms ≡ known_places ++ own → AreAtoms (with_known before behind) now atoms
+known_and_behind before behind now own atoms many taken are all =
+    subst (AreAtoms (with_known before behind) now) (sym all)
+    (are_atoms_both (take known_count before) behind now known_places own (subst (λ (ts : List (List ℕ)). AreAtoms (take known_count before) ts known_places) (sym taken.is) (known_stand before taken.more many)) are)
+
+-- what was taken in are texts of that list
+pub takes_behind : (before behind now : List (List ℕ)) → TakesIn before behind now → TakesIn before (with_known before behind) now
+takes_behind before behind now t = record { more = t.more; is = t.is; among = λ text s. wider text (t.among text s); apart = t.apart }
+  where
+    stands_behind : (some : List (List ℕ)) (text : List ℕ) → StandsIn behind text → StandsIn (some ++ behind) text
+    stands_behind [] text s = s
+    stands_behind (x ∷ some) text s = let r = stands_behind some text s in (suc r.0, r.1)
+
+    wider : (text : List ℕ) → StandsIn before text ⊎ StandsIn behind text → StandsIn before text ⊎ StandsIn (with_known before behind) text
+    wider text (inl s) = inl s
+    wider text (inr s) = inr (stands_behind (take known_count before) text s)
+
+pub few_behind : (before behind : List (List ℕ)) → length behind ≤ length (with_known before behind)
+few_behind before behind = omega (arith, length-append (take known_count before) behind)

@@ -1,5 +1,5 @@
 -- What a merger knows of its parts: as it begins, as texts are interned, as a function is added.
-use Rattle.std.proofs.Common.{◌≡◌, ◌↔◌, IsTrue, Bool, true, false, true≢false, ℕ, ◌+◌, ◌-◌, ◌^◌, ◌<◌, ◌≤◌, List, [], ◌++◌, length, map, get_or, sym, ◌∙◌, ap, ap₂, subst, subst₂, arith}
+use Rattle.std.proofs.Common.{◌≡◌, ◌↔◌, IsTrue, Bool, false, true≢false, ℕ, ◌+◌, ◌-◌, ◌^◌, ◌<◌, ◌≤◌, List, [], ◌++◌, length, map, get_or, sym, ◌∙◌, ap, ap₂, subst, subst₂, arith}
 use Rattle.std.proofs.Math.ListN.{set, replicate}
 use Rattle.std.proofs.lemmas.List.{length-map, length-set, length-replicate, get_or-map, get_or_default}
 use Rattle.stencil_data.specs.declared.stencils.Entry.{Entry}
@@ -13,7 +13,7 @@ use Rattle.stencil_merge.specs.Atoms.{record_by, AreAtoms, TakesIn}
 use Rattle.stencil_merge.specs.Functions.{inner_of, numbers_in, outermost}
 use Rattle.stencil_merge.specs.Instructions.{ShowsListed, numbered_list, numbered_commands}
 use Rattle.stencil_merge.specs.Parts.{IsFunctionBy}
-use Rattle.stencil_merge.specs.Merging.{all_lazy, KeepsBy, AddsBy, Begins, Keeps, Adds, IsCompiled, IsSettled, AreSettled, IsMerging}
+use Rattle.stencil_merge.specs.Merging.{all_lazy, KeepsBy, AddsBy, Begins, Keeps, Adds, IsCompiled, HasFunction, IsSettled, AreSettled, IsMerging, SameParts}
 use Rattle.stencil_merge.proofs.Merges.{settled_by, settled_more, are_settled_more, are_settled_set, are_settled_lazy, IsReading, by_list, by_commands, merged_more, added_already, added, begun}
 
 abbrev pub view : List (List ℕ) → FunctionView → List RecordView → List Entry → MergedView
@@ -41,25 +41,32 @@ module _ (texts new added_texts : List (List ℕ)) (top : FunctionView) (records
   pub keeps : Keeps (view texts top records entries) (view new top records entries)
   keeps = record { listed = grown_by ShowsListed numbered_list by_list; commands = grown_by ShowsCommands numbered_commands by_commands }
 
-  -- ---- a function that is added
+-- ---- a function that is added
 
-  module _ (number : ℕ) (stencil part : FunctionView) (atoms : List ℕ) (are : AreAtoms added_texts new atoms) (by : IsFunctionBy atoms (numbers_in (inner_of records) number) stencil part) where
-    pub merging_more : IsMerging (view new top records (set entries (number - 1) (entry.Compiled part)))
-    merging_more = record {
-      few = few;
-      apart = taken.apart;
-      many = length-set entries (number - 1) (entry.Compiled part) ∙ merging.many;
-      top = grown.top;
-      entries = are_settled_set new entries (number - 1) part grown.entries (settled_by added_texts new atoms (numbers_in (inner_of records) number) stencil.code part.code are few by.code.are);
-    }
+module _ (texts own : List (List ℕ)) (top : FunctionView) (records : List RecordView) (entries : List Entry) (merging : IsMerging (view texts top records entries)) (number : ℕ) (stencil part : FunctionView) (atoms : List ℕ) (are : AreAtoms own texts atoms)
+    (by : IsFunctionBy atoms (numbers_in (inner_of records) number) stencil part) where
+  pub merging_more : IsMerging (view texts top records (set entries (number - 1) (entry.Compiled part)))
+  merging_more = record {
+    few = merging.few;
+    apart = merging.apart;
+    many = length-set entries (number - 1) (entry.Compiled part) ∙ merging.many;
+    top = merging.top;
+    entries = are_settled_set texts entries (number - 1) part merging.entries (settled_by own texts atoms (numbers_in (inner_of records) number) stencil.code part.code are merging.few by.code.are);
+  }
 
-    adds_by : {Code : Type 0} (shows : List (List ℕ) → List ℕ → Code → Type 0) (numbered : List ℕ → Code → Code) → IsReading shows numbered → (IsCompiled (get_or entries (number - 1) entry.Lazy) → ⊥)
-        → AddsBy shows numbered number stencil added_texts (view texts top records entries) (view new top records (set entries (number - 1) (entry.Compiled part)))
-    adds_by shows numbered reading lazy named f s stands =
-        added shows numbered reading new added_texts top records entries named number atoms stencil part f lazy are few by stands (grown_by shows numbered reading named s)
+  adds_by : {Code : Type 0} (shows : List (List ℕ) → List ℕ → Code → Type 0) (numbered : List ℕ → Code → Code) → IsReading shows numbered → (IsCompiled (get_or entries (number - 1) entry.Lazy) → ⊥)
+      → AddsBy shows numbered number stencil own (view texts top records entries) (view texts top records (set entries (number - 1) (entry.Compiled part)))
+  adds_by shows numbered reading lazy named f s stands = added shows numbered reading texts own top records entries named number atoms stencil part f lazy are merging.few by stands s
 
-    pub adds : (IsCompiled (get_or entries (number - 1) entry.Lazy) → ⊥) → Adds number stencil added_texts (view texts top records entries) (view new top records (set entries (number - 1) (entry.Compiled part)))
-    adds lazy = record { listed = adds_by ShowsListed numbered_list by_list lazy; commands = adds_by ShowsCommands numbered_commands by_commands lazy }
+  pub adds : (IsCompiled (get_or entries (number - 1) entry.Lazy) → ⊥) → Adds number stencil own (view texts top records entries) (view texts top records (set entries (number - 1) (entry.Compiled part)))
+  adds lazy = record { listed = adds_by ShowsListed numbered_list by_list lazy; commands = adds_by ShowsCommands numbered_commands by_commands lazy }
+
+-- one that is added once texts were interned
+pub adds_after : (number : ℕ) (stencil : FunctionView) (texts : List (List ℕ)) (old between new : MergedView) → Keeps old between → Adds number stencil texts between new → Adds number stencil texts old new
+adds_after number stencil texts old between new k a = record {
+  listed = λ named f s stands. a.listed named f (k.listed named s) stands;
+  commands = λ named f s stands. a.commands named f (k.commands named s) stands;
+}
 
 -- one that was added already
 pub adds_already : (merged : MergedView) (number : ℕ) (stencil : FunctionView) (texts : List (List ℕ)) → IsCompiled (get_or merged.entries (number - 1) entry.Lazy) → Adds number stencil texts merged merged
@@ -107,11 +114,17 @@ numbers_are records number lazy given lt is given_is =
 here_is : (entries : List Entry) (place : ℕ) (e : Entry) → place < length entries → e ≡ get_or entries place e → e ≡ get_or entries place entry.Lazy
 here_is entries place e lt is = is ∙ get_or_default entries place e entry.Lazy lt
 
-pub is_compiled_here : (entries : List Entry) (place : ℕ) (e : Entry) (b : Bool) → place < length entries → e ≡ get_or entries place e → b ≡ true → (IsTrue b ↔ IsCompiled e) → IsCompiled (get_or entries place entry.Lazy)
-is_compiled_here entries place e b lt is compiled tells = subst IsCompiled (here_is entries place e lt is) (tells.0 compiled)
+-- whether the function of a number is compiled
+pub tells_here : (merged inside : MergedView) (number : ℕ) (e : Entry) (b : Bool) → inside ≡ merged → number - 1 < length inside.entries → e ≡ get_or inside.entries (number - 1) e → (IsTrue b ↔ IsCompiled e) → IsTrue b ↔ HasFunction merged number
+tells_here merged inside number e b is lt at tells =
+    subst (λ (m : MergedView). IsTrue b ↔ HasFunction m number) is
+    (subst (λ (x : Entry). IsTrue b ↔ IsCompiled x) (here_is inside.entries (number - 1) e lt at) tells)
 
-pub is_lazy_here : (entries : List Entry) (place : ℕ) (e : Entry) (b : Bool) → place < length entries → e ≡ get_or entries place e → b ≡ false → (IsTrue b ↔ IsCompiled e) → IsCompiled (get_or entries place entry.Lazy) → ⊥
-is_lazy_here entries place e b lt is no_more tells compiled = true≢false (sym (tells.1 (subst IsCompiled (sym (here_is entries place e lt is)) compiled)) ∙ no_more)
+pub lacks_still : (old new : MergedView) (number : ℕ) (b : Bool) → b ≡ false → (IsTrue b ↔ HasFunction old number) → SameParts old new → HasFunction new number → ⊥
+lacks_still old new number b lacks tells same h = true≢false (sym (tells.1 (subst (λ (es : List Entry). IsCompiled (get_or es (number - 1) entry.Lazy)) same.entries h)) ∙ lacks)
+
+pub number_still : (old new : MergedView) (number : ℕ) → SameParts old new → (1 ≤ number) × (number ≤ length old.records) → (1 ≤ number) × (number ≤ length new.records)
+number_still old new number same h = (h.0, omega (arith, h.1, ap length same.records))
 
 -- the place of a function's number
 pub place_within : (merged : MergedView) (records : List RecordView) (number : ℕ) → records ≡ merged.records → (1 ≤ number) × (number ≤ length merged.records) → number - 1 < length records

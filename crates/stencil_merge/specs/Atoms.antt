@@ -1,5 +1,5 @@
 -- Parts whose atoms are changed for others: for each text of one list its number in another. This project's own choice.
-use Rattle.std.specs.Prelude.{◌≡◌, ℕ, ◌⊎◌, ◌^◌, ◌-◌, List, ◌++◌, map, option_map, slice_get, slice_index_or, Some}
+use Rattle.std.specs.Prelude.{◌≡◌, ℕ, ◌⊎◌, ◌^◌, ◌-◌, List, [], ◌∷◌, ◌++◌, take, map, option_map, slice_get, slice_index_or, Some}
 use Rattle.stencil_data.specs.declared.records.ClosedName.{ClosedName}
 use Rattle.stencil_data.specs.declared.scopes.Binding.{Binding}
 use Rattle.stencil_data.specs.Views.{ScopeView, RecordView}
@@ -39,6 +39,22 @@ record_by atoms lazy = record {
 -- each of these texts stands in the other list at the place that is its atom there
 abbrev pub AreAtoms : List (List ℕ) → List (List ℕ) → List ℕ → Type 0
 AreAtoms texts other atoms = map (slice_get other) atoms ≡ map (λ (text : List ℕ). Some text) texts
+
+-- ---- the known words
+
+-- How many texts every list begins with: the words that the compiler knows, as `arguments`.
+abbrev pub known_count : ℕ
+known_count = 7
+
+-- their places, which are their atoms in every list
+abbrev pub known_places : List ℕ
+known_places = 0 ∷ 1 ∷ 2 ∷ 3 ∷ 4 ∷ 5 ∷ 6 ∷ []
+
+-- the list that begins with the known words, as these texts do, and goes on with others
+abbrev pub with_known : (texts behind : List (List ℕ)) → List (List ℕ)
+with_known texts behind = take known_count texts ++ behind
+
+-- ---- texts that are taken in
 
 -- The texts are those from before, in their order, and more after them, each one of the texts that were added. They have no
 -- equals.

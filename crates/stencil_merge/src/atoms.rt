@@ -1,8 +1,8 @@
 //! Texts of one list as atoms of another.
 
-ghost use Rattle.std.specs.Prelude.{◌≡◌, ◌+◌, ◌-◌, ◌^◌, ◌<◌, ◌≤◌, length, slice_get, slice_index_or, IfOk, IfSome, OnErr, Some};
+ghost use Rattle.std.specs.Prelude.{◌≡◌, ◌+◌, ◌-◌, ◌^◌, ◌<◌, ◌≤◌, ◌++◌, length, slice_get, slice_index_or, IfOk, IfSome, OnErr, Some};
 ghost use Rattle.parser_atoms.specs.Places.{AreWithoutEquals, Interns};
-ghost use Rattle.stencil_merge.specs.Atoms.{atom_by, AreAtoms, TakesIn};
+ghost use Rattle.stencil_merge.specs.Atoms.{atom_by, known_places, AreAtoms, TakesIn};
 
 use parser_atoms::Atoms;
 use std::alloc::{AllocError, Global};
@@ -10,6 +10,9 @@ use stencil_data::Text;
 
 // How many texts every list begins with: the words that the compiler knows, as `arguments`.
 const KNOWN_WORDS: usize = 7;
+
+// Their atoms in every list.
+const KNOWN_PLACES: [u32; KNOWN_WORDS] = [0, 1, 2, 3, 4, 5, 6];
 
 // The atom of a text, where it is this place, which is among the first ones.
 fn atom_standing(atoms: &Atoms, units: &[u16], place: usize) -> Option<u32>
@@ -65,6 +68,16 @@ pub(crate) fn intern_all(
         numbers.push(number)?;
     }
     Ok(numbers)
+}
+
+/// The atoms of the known words, and these after them.
+pub(crate) fn with_known_places(alloc: Global, atoms: &[u32]) -> Result<Vec<u32>, AllocError>
+    ensures { IfOk result (λ all. all.items ≡ known_places ++ atoms.now) }
+{
+    let mut all = Vec::with_capacity(alloc, KNOWN_WORDS + atoms.len())?;
+    all.extend_from_slice(&KNOWN_PLACES)?;
+    all.extend_from_slice(atoms)?;
+    Ok(all)
 }
 
 /// The places of these texts, which are their atoms among themselves.

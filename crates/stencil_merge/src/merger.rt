@@ -1,13 +1,13 @@
 //! The merger: the parts of a script, and functions of it one after another.
 
-ghost use Rattle.std.specs.Prelude.{◌≡◌, ◌+◌, ◌-◌, ◌^◌, ◌<◌, ◌≤◌, ◌↔◌, [], length, replicate, slice_index_or, IfOk, OnOk, OnErr, IsTrue};
+ghost use Rattle.std.specs.Prelude.{◌≡◌, ◌+◌, ◌-◌, ◌^◌, ◌<◌, ◌≤◌, ◌↔◌, ℕ, List, [], length, replicate, slice_index_or, IfOk, OnOk, OnErr, IsTrue};
 ghost use Rattle.stencil_data.specs.declared.stencils.Entry.TheVariants as entry;
 ghost use Rattle.parser_atoms.specs.Places.{AreWithoutEquals};
-ghost use Rattle.stencil_merge.specs.Atoms.{AreAtoms, TakesIn};
+ghost use Rattle.stencil_merge.specs.Atoms.{known_count, with_known, AreAtoms, TakesIn};
 ghost use Rattle.stencil_merge.specs.Merging as merging;
 ghost use Rattle.stencil_merge.specs.Merging.{Adds, Begins, HasFunction, IsCompiled, Keeps, SameParts};
 
-use crate::atoms::own_places;
+use crate::atoms::{own_places, with_known_places};
 use crate::functions::outermost_of;
 use crate::parts::{function_by, records_by};
 use crate::texts::MergedTexts;
@@ -140,12 +140,83 @@ impl Merger {
         ensures few { length self.new.texts ≤ length self.old.texts + length texts.now }
         ensures records { self.new.records ≡ self.old.records }
     {
-        let place = number as usize - 1;
-        if is_compiled(&self.entries[place]) {
+        if self.has_function(number) {
             return Ok(());
         }
-        let atoms = self.texts.intern_all(alloc, texts)?;
-        let compiled = function_by(alloc, &atoms, &self.records[place].inner, stencil)?;
+        let atoms = self.intern(alloc, texts)?;
+        self.put(alloc, number, stencil, &atoms)
+    }
+
+    /// The same, where the first 7 texts here are the known words, which every list begins with, and the function's atoms are
+    /// indexes into those and `behind` after them. The known words keep their atoms, and none of them is looked up.
+    pub fn add_behind(
+        &mut self,
+        alloc: Global,
+        number: u32,
+        stencil: &FunctionStencil,
+        behind: &[Text],
+    ) -> Result<(), AllocError>
+        requires function { (1 ≤ number) × (number ≤ length self.old.records) }
+        requires known { known_count ≤ length self.old.texts }
+        requires few { length self.old.texts + length (with_known self.old.texts behind.now) < 2 ^ 32 - 1 }
+        ensures adds { OnOk result (Adds number stencil.now (with_known self.old.texts behind.now) self.old self.new) }
+        ensures again { HasFunction self.old number → self.new ≡ self.old }
+
+        ensures error { OnErr result (SameParts self.old self.new) }
+        ensures keeps { OnErr result (Keeps self.old self.new) }
+
+        ensures texts { TakesIn self.old.texts (with_known self.old.texts behind.now) self.new.texts }
+        ensures few { length self.new.texts ≤ length self.old.texts + length (with_known self.old.texts behind.now) }
+        ensures records { self.new.records ≡ self.old.records }
+    {
+        if self.has_function(number) {
+            return Ok(());
+        }
+        let own = self.intern(alloc, behind)?;
+        let atoms = with_known_places(alloc, &own)?;
+        self.put(alloc, number, stencil, &atoms)
+    }
+
+    // Whether the function of this number is compiled.
+    fn has_function(&self, number: u32) -> bool
+        requires { (1 ≤ number) × (number ≤ length self.now.records) }
+        ensures is { IsTrue result ↔ HasFunction self.now number }
+        ensures apart { AreWithoutEquals self.now.texts }
+    {
+        is_compiled(&self.entries[number as usize - 1])
+    }
+
+    // Interns these texts, and answers their atoms. No part changes.
+    fn intern(&mut self, alloc: Global, texts: &[Text]) -> Result<Vec<u32>, AllocError>
+        requires few { length self.old.texts + length texts.now < 2 ^ 32 - 1 }
+        ensures atoms { IfOk result (λ atoms. AreAtoms texts.now self.new.texts atoms.items) }
+        ensures parts { SameParts self.old self.new }
+        ensures keeps { Keeps self.old self.new }
+        ensures texts { TakesIn self.old.texts texts.now self.new.texts }
+        ensures few { length self.new.texts ≤ length self.old.texts + length texts.now }
+    {
+        self.texts.intern_all(alloc, texts)
+    }
+
+    // Fills the place of a function that is not compiled, by these atoms of its texts. After an error nothing has changed.
+    fn put(
+        &mut self,
+        alloc: Global,
+        number: u32,
+        stencil: &FunctionStencil,
+        atoms: &[u32],
+    ) -> Result<(), AllocError>
+        requires function { (1 ≤ number) × (number ≤ length self.old.records) }
+        requires lacking { HasFunction self.old number → ⊥ }
+        requires atoms { (texts : List (List ℕ)) × AreAtoms texts self.old.texts atoms.now }
+        ensures adds { OnOk result ((texts : List (List ℕ)) → AreAtoms texts self.old.texts atoms.now
+            → Adds number stencil.now texts self.old self.new) }
+        ensures error { OnErr result (self.new ≡ self.old) }
+        ensures texts { self.new.texts ≡ self.old.texts }
+        ensures records { self.new.records ≡ self.old.records }
+    {
+        let place = number as usize - 1;
+        let compiled = function_by(alloc, atoms, &self.records[place].inner, stencil)?;
         self.entries[place] = Entry::Compiled(compiled);
         Ok(())
     }

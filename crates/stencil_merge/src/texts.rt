@@ -97,7 +97,8 @@ impl MergedTexts {
         })
     }
 
-    /// Interns each of these texts, and answers their atoms. After an error some of them may be there.
+    /// Interns each of these texts, and answers their atoms; where there are none, nothing is touched. After an error some of them may
+    /// be there.
     pub(crate) fn intern_all(
         &mut self,
         alloc: Global,
@@ -108,6 +109,10 @@ impl MergedTexts {
         ensures texts { TakesIn self.old texts.now self.new }
         ensures few { length self.new ≤ length self.old + length texts.now }
     {
+        let _ = &self.waiting;
+        if texts.is_empty() {
+            return Ok(Vec::new(alloc));
+        }
         if self.atoms.is_empty() {
             let (atoms, numbers) = intern_after(alloc, &self.waiting, texts)?;
             self.atoms = atoms;

@@ -1,5 +1,6 @@
 use Rattle.std.proofs.Common.{ℕ, List, inr, refl, sym, subst, arith}
 use Rattle.parser_atoms.specs.Places.{AreWithoutEquals, StandsIn}
+use Rattle.track_atoms.specs.Known.{HasWords, known_atoms}
 use Rattle.compile_specs.specs.Shown.{All}
 use Rattle.compile_shown.proofs.Flags.{few_records}
 use Rattle.compile_shown.proofs.Steps.{begun_up_to}
@@ -23,4 +24,4 @@ returns c = λ want bytes is.
       among = λ text s. inr (subst (λ (ts : List (List ℕ)). StandsIn ts text) c.in_ok-merger.ensures.same s);
       apart = subst AreWithoutEquals (sym c.in_ok-merger.ensures.same) c.requires.1.apart;
     })
-    c.in_ok-merger.ensures.records
+    (subst (λ (ts : List (List ℕ)). HasWords ts known_atoms) (sym c.in_ok-merger.ensures.same) is.texts.words) c.in_ok-merger.ensures.records

@@ -4,6 +4,7 @@ use Rattle.std.specs.List.{All}
 use Rattle.std.proofs.lemmas.Option.{slice_get_read}
 use Rattle.stencil_data.specs.declared.functions.Extent.{Extent}
 use Rattle.stencil_data.specs.Views.{InitialView, RecordView}
+use Rattle.lazy_compile.specs.Delazified.{all_texts}
 use Rattle.lazy_compile.specs.Texts.{AreTextsOf}
 use Rattle.compile_lazy_laws.specs.Inside.{IsNumberOf, extents_at}
 use Rattle.compile_initial.specs.declared.InitialStencil.{InitialStencil}
@@ -43,5 +44,5 @@ returns-clause-compiled c =
 
 pub returns-clause-texts : goal.returns-clause-texts
 returns-clause-texts c =
-    own_among c.args.bytes.now c.args.initial.now.parts.texts c.in_ok-made.made.texts.items c.requires.initial.texts
-    (subst (λ (ts : List (List ℕ)). AreTextsOf c.args.bytes.now ts c.in_ok-made.made.texts.items) (c.deref-3.ensures.value ∙ ap (λ (p : InitialView). p.texts) c.parts.view_is) c.in_ok-made.ensures.texts)
+    own_among c.args.bytes.now c.args.initial.now.parts.texts (all_texts c.in_ok-made.made) c.requires.initial.texts
+    (subst (λ (ts : List (List ℕ)). AreTextsOf c.args.bytes.now ts (all_texts c.in_ok-made.made)) (c.deref-3.ensures.value ∙ ap (λ (p : InitialView). p.texts) c.parts.view_is) c.in_ok-made.ensures.texts)

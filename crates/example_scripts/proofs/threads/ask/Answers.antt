@@ -1,5 +1,6 @@
 use Rattle.std.proofs.Common.{◌≡◌, ◌∙◌, ℕ, List, length, true, ap, sym, subst, arith}
 use Rattle.std.specs.Arc.{arc_value}
+use Rattle.lazy_compile.specs.Delazified.{all_texts}
 use Rattle.lazy_compile.specs.declared.Delazified.{Delazified}
 use Rattle.lazy_function.specs.Numbered.{IsCompiledFunction}
 use Rattle.lazy_function.specs.Texts.{AreAmong}
@@ -8,9 +9,9 @@ use Rattle.stencil_board.proofs.Counting.{suffices_all}
 use Rattle.stencil_board.specs.Files.{File, IsFilled, file_at}
 use Rattle.example_scripts.proofs.threads.ask.Goals as goal
 
-filled : (file : File) (bytes : List ℕ) (texts : List (List ℕ)) (number : ℕ) (made : Delazified) → file ≡ record { bytes = bytes; texts = texts } → IsCompiledFunction bytes number made → AreAmong texts made.texts.items → IsFilled file number made
+filled : (file : File) (bytes : List ℕ) (texts : List (List ℕ)) (number : ℕ) (made : Delazified) → file ≡ record { bytes = bytes; texts = texts } → IsCompiledFunction bytes number made → AreAmong texts (all_texts made) → IsFilled file number made
 filled file bytes texts number made is compiled among =
-    subst (λ (f : File). IsFilled f number made) (sym is) (record { compiled = compiled; among = test_of_among texts made.texts.items among })
+    subst (λ (f : File). IsFilled f number made) (sym is) (record { compiled = compiled; among = test_of_among texts (all_texts made) among })
 
 pub request-requires-clause-room : goal.request-requires-clause-room
 request-requires-clause-room g c =

@@ -28,7 +28,7 @@ returns-clause-read c = λ chain items m can.
     c.in_ok-func.texts.items c.in_ok-func.ensures.keeps _ c.in_ok-name.name _ c.in_ok-closed.closed.items c.in_ok-name.ensures.name c.in_ok-closed.ensures.names
     c.args.file.now _ chain items m c.form_of-form.result (record { func = c.in_ok-func.func; name = c.in_ok-name.name; closed = c.in_ok-closed.closed; texts = c.in_ok-func.texts })
     (subst (λ (v : RecordView). CanBeDelazified c.args.file.now v c.args.texts.now chain items m) (sym c.lazy.view_is) can) c.form_of-form.ensures refl c.deref.ensures.value
-    c.in_ok-func.ensures.few c.in_ok-func.ensures.apart refl refl refl c.in_ok-func.ensures.tree c.in_ok-func.ensures.body
+    c.in_ok-func.ensures.few c.in_ok-func.ensures.apart c.in_ok-known.ensures.fixed refl refl refl c.in_ok-func.ensures.tree c.in_ok-func.ensures.body
 
 pub returns-clause-texts : goal.returns-clause-texts
 returns-clause-texts c =

@@ -1,5 +1,6 @@
 use Rattle.std.proofs.Common.{◌≡◌, ℕ, List, length, true, sym, subst, ap, arith}
 use Rattle.std.specs.Arc.{arc_value}
+use Rattle.lazy_compile.specs.Delazified.{all_texts}
 use Rattle.lazy_compile.specs.declared.Delazified.{Delazified}
 use Rattle.lazy_function.specs.Numbered.{IsCompiledFunction}
 use Rattle.lazy_function.specs.Texts.{AreAmong}
@@ -9,9 +10,9 @@ use Rattle.stencil_board.specs.Files.{File, IsFilled, file_at}
 use Rattle.test_threads.proofs.board.ask.Goals as goal
 
 -- what a function of the picked file is compiled to is its result
-filled : (file : File) (bytes : List ℕ) (texts : List (List ℕ)) → file ≡ record { bytes = bytes; texts = texts } → (number : ℕ) (made : Delazified) → IsCompiledFunction bytes number made → AreAmong texts made.texts.items → IsFilled file number made
+filled : (file : File) (bytes : List ℕ) (texts : List (List ℕ)) → file ≡ record { bytes = bytes; texts = texts } → (number : ℕ) (made : Delazified) → IsCompiledFunction bytes number made → AreAmong texts (all_texts made) → IsFilled file number made
 filled file bytes texts is number made compiled among =
-    subst (λ (f : File). IsFilled f number made) (sym is) (record { compiled = compiled; among = test_of_among texts made.texts.items among })
+    subst (λ (f : File). IsFilled f number made) (sym is) (record { compiled = compiled; among = test_of_among texts (all_texts made) among })
 
 pub request-requires-clause-room : goal.request-requires-clause-room
 request-requires-clause-room g c =
